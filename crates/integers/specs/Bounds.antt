@@ -1,0 +1,7 @@
+-- How far an integer is from 0. Definitions only.
+use Prim.Native.Nat.{ℕ, _≤_}
+use lib.IntN.{ℤ, natAbs}
+
+-- z is at most n away from 0
+pub record AtMost (n : ℕ) (z : ℤ) : Type 0 where
+  pub size : natAbs z ≤ n

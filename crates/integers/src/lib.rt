@@ -1,0 +1,51 @@
+// Whole root, floor division and clamp.
+ghost use mathlib.Core.Path.{_≡_};
+ghost use Prim.Native.Nat.{_<_, _^_};
+ghost use lib.IntN.{pos, natAbs};
+ghost use lib.Signed.{_<ℤ_};
+ghost use Rattle.integers.specs.Bounds.{AtMost};
+ghost use Rattle.integers.specs.Rounding.{floorRoot, floorDiv, clamped};
+
+// The whole part of the square root, by bisection.
+pub fn floor_root(x: u64) -> u64
+    requires { ⌜ x < 2 ^ 52 ⌝ }
+    ensures { λ r. ⌜ r ≡ floorRoot x ⌝ }
+{
+    let mut low: u64 = 0;
+    let mut high: u64 = 0x400_0000;
+    while high - low > 1 {
+        let mid = low + (high - low) / 2;
+        if mid * mid <= x {
+            low = mid;
+        } else {
+            high = mid;
+        }
+    }
+    low
+}
+
+// n / k, rounded toward minus infinity. The machine rounds toward zero: one too many where the remainder is below zero.
+pub fn floor_div(n: i64, k: i64) -> i64
+    requires { ⌜ (AtMost 4000000000000000000 n) × (pos 0 <ℤ k) ⌝ }
+    ensures { λ r. ⌜ r ≡ floorDiv n (natAbs k) ⌝ }
+{
+    let q = n / k;
+    if n % k < 0 {
+        q - 1
+    } else {
+        q
+    }
+}
+
+// x, held within low to high.
+pub fn clamp(x: i64, low: i64, high: i64) -> i64
+    ensures { λ r. ⌜ r ≡ clamped low high x ⌝ }
+{
+    if x < low {
+        return low;
+    }
+    if high < x {
+        return high;
+    }
+    x
+}
