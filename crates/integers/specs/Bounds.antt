@@ -5,3 +5,7 @@ use lib.IntN.{ℤ, natAbs}
 -- z is at most n away from 0
 pub record AtMost (n : ℕ) (z : ℤ) : Type 0 where
   pub size : natAbs z ≤ n
+
+-- the largest i64
+abbrev pub largest : ℕ
+largest = 9223372036854775807

@@ -1,0 +1,141 @@
+-- What the machine's quotient and remainder say of the quotient that is rounded down; a signed test carried from bits to numbers. Assumes nothing.
+use mathlib.Core.Path.{_≡_, refl, sym, _∙_, ap, subst}
+use mathlib.Core.Bool.{Bool, true, false, not, cond}
+use Prim.Native.Nat.{ℕ, zero, suc, _+_, _*_, _/_, _%_, _^_, _≤_, _<_}
+use native.Mathlib.Nat.{div-add-mod', div-eq-of-lt-le, mod-lt, div-le-self, mod-le, add-zero, le-trans, le-antisymm, pow-suc, mul-le-mul-left, mul-le-mul-right}
+use native.Mathlib.Decide.{decLe}
+use native.Mathlib.Omega.{arith}
+use lib.Dec.{T, ltb, leb, lt→ltb, leb→le, nleb→lt}
+use lib.IntN.{ℤ, pos, negsuc, negℤ, natAbs, _-ℤ_, _+ℤ_, _*ℤ_}
+use lib.Signed.{ltZ, quotZ, remZ, _<ℤ_}
+use borrow.Author.Tests.{ltb-true}
+use mir.Syntax.{w64}
+use mir.Val.{SFits, toZ, ofZ}
+use mir.ValLaws.{toZ-ofZ}
+use Rattle.integers.proofs.Bounds.{Holds, natAbs-neg}
+use Rattle.integers.specs.Rounding.{floorDiv, IsFloorRoot, lastDigit, rootDigits, floorRoot}
+use Rattle.integers.specs.Bounds.{AtMost}
+
+true≢false : {X : Type 0} → true ≡ false → X
+true≢false e = absurd (subst T e tt)
+
+one-less : (q : ℕ) → negℤ (pos q) -ℤ pos 1 ≡ negsuc q
+one-less zero = refl
+one-less (suc m) = ap (λ (n : ℕ). negsuc (suc n)) (add-zero m)
+
+-- the quotient of a + 1, where b leaves nothing and where it leaves something
+whole : (a b : ℕ) → 0 < b → suc a % b ≡ 0 → suc a / b ≡ suc (a / b)
+whole a b h e = go (suc a / b) refl
+  where
+    go : (q : ℕ) → suc a / b ≡ q → q ≡ suc (a / b)
+    go zero p =
+        let k : 0 * b + 0 ≡ suc a = sym (λ i. p i * b + e i) ∙ div-add-mod' (suc a) b in
+        absurd (omega arith)
+    go (suc q) p =
+        let k : suc q * b + 0 ≡ suc a = sym (λ i. p i * b + e i) ∙ div-add-mod' (suc a) b in
+        ap suc (sym (div-eq-of-lt-le b (omega arith) (omega arith)))
+
+part : (a b r : ℕ) → 0 < b → suc a % b ≡ suc r → suc a / b ≡ a / b
+part a b r h e =
+    let k : suc a / b * b + suc r ≡ suc a = sym (λ i. suc a / b * b + e i) ∙ div-add-mod' (suc a) b in
+    let l : suc r < b = subst (λ (n : ℕ). n < b) e (mod-lt (suc a) h) in
+    sym (div-eq-of-lt-le b (omega arith) (omega arith))
+
+-- one below where the remainder is negative, and the quotient itself where it is not
+pub down : (n : ℤ) (b : ℕ) → 0 < b → ltZ (remZ n (pos b)) (pos 0) ≡ true → quotZ n (pos b) -ℤ pos 1 ≡ floorDiv n b
+down (pos a) b h t = let z : a % b < 0 = ltb-true (a % b) 0 t in absurd (omega arith)
+down (negsuc a) b h t = go (suc a % b) refl t
+  where
+    go : (r : ℕ) → suc a % b ≡ r → ltZ (negℤ (pos r)) (pos 0) ≡ true → negℤ (pos (suc a / b)) -ℤ pos 1 ≡ negsuc (a / b)
+    go zero e t = true≢false (sym t)
+    go (suc r) e t = one-less (suc a / b) ∙ ap negsuc (part a b r h e)
+
+pub kept : (n : ℤ) (b : ℕ) → 0 < b → ltZ (remZ n (pos b)) (pos 0) ≡ false → quotZ n (pos b) ≡ floorDiv n b
+kept (pos a) b h t = refl
+kept (negsuc a) b h t = go (suc a % b) refl t
+  where
+    go : (r : ℕ) → suc a % b ≡ r → ltZ (negℤ (pos r)) (pos 0) ≡ false → negℤ (pos (suc a / b)) ≡ negsuc (a / b)
+    go zero e t = ap (λ (q : ℕ). negℤ (pos q)) (whole a b h e)
+    go (suc r) e t = true≢false t
+
+-- a divisor above 0 is a natural number above 0
+pub over : (k : ℤ) → pos 0 <ℤ k → (0 < natAbs k) × (k ≡ pos (natAbs k))
+over (pos b) h = (ltb-true 0 b (go (ltb 0 b) (h .lt)), refl)
+  where
+    go : (t : Bool) → T t → t ≡ true
+    go true p = refl
+    go false p = absurd p
+over (negsuc b) h = absurd (h .lt)
+
+pub quot-small : (n : ℤ) (b : ℕ) {m : ℕ} → AtMost m n → AtMost m (quotZ n (pos b))
+quot-small (pos a) b h = record { size = le-trans (div-le-self a b) (h .size) }
+quot-small (negsuc a) b {m} h = record { size = subst (λ (x : ℕ). x ≤ m) (sym (natAbs-neg (pos (suc a / b)))) (le-trans (div-le-self (suc a) b) (h .size)) }
+
+pub rem-small : (n : ℤ) (b : ℕ) {m : ℕ} → AtMost m n → AtMost m (remZ n (pos b))
+rem-small (pos a) b h = record { size = le-trans (mod-le a b) (h .size) }
+rem-small (negsuc a) b {m} h = record { size = subst (λ (x : ℕ). x ≤ m) (sym (natAbs-neg (pos (suc a % b)))) (le-trans (mod-le (suc a) b) (h .size)) }
+
+-- what the machine holds after a division of x by y
+pub quot! : {m b : ℕ} {n x y : ℤ} → Holds m n x → y ≡ pos b → Holds m (quotZ n (pos b)) (quotZ x y)
+quot! {b = b} {n = n} h e = record { value = (λ i. quotZ (h .value i) (e i)); bound = quot-small n b (h .bound) }
+
+pub rem! : {m b : ℕ} {n x y : ℤ} → Holds m n x → y ≡ pos b → Holds m (remZ n (pos b)) (remZ x y)
+rem! {b = b} {n = n} h e = record { value = (λ i. remZ (h .value i) (e i)); bound = rem-small n b (h .bound) }
+
+pub product-above : (m k : ℤ) → pos 0 <ℤ m → pos 0 <ℤ k → pos 0 <ℤ (m *ℤ k)
+product-above m k h l = go (natAbs m) (natAbs k) (over m h .0) (over k l .0)
+  where
+    both : (a b : ℕ) → 0 < a → 0 < b → 0 < a * b
+    both zero b p q = absurd (omega arith)
+    both (suc a) zero p q = absurd (omega arith)
+    both (suc a) (suc b) p q = omega arith
+    go : (a b : ℕ) → 0 < a → 0 < b → pos 0 <ℤ (m *ℤ k)
+    go a b p q = record { lt = subst (λ (z : ℤ). T (ltZ (pos 0) z)) (sym (λ i. over m h .1 i *ℤ over k l .1 i)) (lt→ltb 0 _ (both (natAbs m) (natAbs k) (over m h .0) (over k l .0))) }
+
+-- there is one whole root
+pub root-unique : (x r s : ℕ) → IsFloorRoot x r → IsFloorRoot x s → r ≡ s
+root-unique x r s p q = le-antisymm (no-more r s p q) (no-more s r q p)
+  where
+    square : {a b : ℕ} → a ≤ b → a * a ≤ b * b
+    square {a} {b} h = le-trans (mul-le-mul-right a h) (mul-le-mul-left b h)
+    no-more : (r s : ℕ) → IsFloorRoot x r → IsFloorRoot x s → r ≤ s
+    no-more r s p q = go (decLe r s)
+      where
+        go : Dec (r ≤ s) → r ≤ s
+        go (yes h) = h
+        go (no h) =
+            let k : s + 1 ≤ r = omega arith in
+            let w = square k in
+            let a = p .low in
+            let b = q .high in
+            absurd (omega arith)
+
+-- the digits from x / 4 to x
+double-low : (s y x : ℕ) → s * s ≤ y → 4 * y ≤ x → (2 * s) * (2 * s) ≤ x
+double-low s y x h k = omega arith
+
+double-high : (s y x : ℕ) → y < (s + 1) * (s + 1) → x < 4 * (y + 1) → x < (2 * s + 1 + 1) * (2 * s + 1 + 1)
+double-high s y x h k = omega arith
+
+root-step : (x r : ℕ) → r * r ≤ x → x < (r + 1 + 1) * (r + 1 + 1) → IsFloorRoot x (lastDigit x r)
+root-step x r l h = go (leb ((r + 1) * (r + 1)) x) refl
+  where
+    go : (b : Bool) → leb ((r + 1) * (r + 1)) x ≡ b → IsFloorRoot x (cond b (r + 1) r)
+    go true e = record { low = leb→le _ _ (subst T (sym e) tt); high = h }
+    go false e = record { low = l; high = nleb→lt _ _ (subst (λ (b : Bool). T (not b)) (sym e) tt) }
+
+pub root-digits : (k x : ℕ) → x < 4 ^ k → IsFloorRoot x (rootDigits k x)
+unfolding rootDigits
+root-digits zero x h = record { low = omega arith; high = omega arith }
+root-digits (suc k) x h =
+    let s = rootDigits k (x / 4) in
+    let p : x < 4 ^ k * 4 = subst (λ (y : ℕ). x < y) (pow-suc 4 k) h in
+    let i = root-digits k (x / 4) (omega arith) in
+    root-step x (2 * s) (double-low s (x / 4) x (i .low) (omega arith)) (double-high s (x / 4) x (i .high) (omega arith))
+
+-- the whole root of a u64 is the one number with its two bounds
+pub floor-root-is : (x : ℕ) → x < 2 ^ 64 → IsFloorRoot x (floorRoot x)
+floor-root-is x h = root-digits 32 x h
+
+pub is-floor-root : (x r : ℕ) → x < 2 ^ 64 → IsFloorRoot x r → r ≡ floorRoot x
+is-floor-root x r h p = root-unique x r (floorRoot x) p (floor-root-is x h)
