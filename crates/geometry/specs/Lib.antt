@@ -1,3 +1,3 @@
 pub mod Vectors
 pub mod Spheres
-pub mod Bends
+pub mod Faces

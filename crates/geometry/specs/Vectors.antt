@@ -3,7 +3,7 @@ use Prim.Native.Nat.{ℕ}
 use lib.IntN.{ℤ, _+ℤ_, _-ℤ_, _*ℤ_}
 use Rattle.grid.specs.declared.GridPoint.{GridPoint}
 use Rattle.geometry.specs.declared.Vector.{Vector}
-use Rattle.integers.specs.Bounds.{AtMost}
+use Rattle.integers.specs.Bounds.{AtMost, largest}
 
 -- "b − a": from the point q to the point p
 abbrev pub differenceOf : GridPoint → GridPoint → Vector
@@ -42,10 +42,8 @@ pub record Within (n : ℕ) (v : Vector) : Type 0 where
   pub in-y : AtMost n (v .y)
   pub in-z : AtMost n (v .z)
 
--- the largest i64, and a third of it
-abbrev pub largest : ℕ
-largest = 9223372036854775807
 
+-- a third of the largest i64
 abbrev pub third : ℕ
 third = 3074457345618258602
 

@@ -1,7 +1,7 @@
 // Vectors between grid points, and their products.
 use grid::GridPoint;
 
-pub mod bend;
+pub mod face;
 pub mod sphere;
 
 ghost use mathlib.Core.Path.{_≡_};

@@ -30,7 +30,7 @@ pub fn lift(base: GridPoint, p: GridPoint) -> Lifted
 }
 
 // Once for three corners.
-pub fn pencil(u: Lifted, v: Lifted) -> Pencil
+pub fn pencil_through(u: Lifted, v: Lifted) -> Pencil
     requires { ⌜ (LiftedBounds u) × (LiftedBounds v) ⌝ }
     ensures { λ r. ⌜ r ≡ pencilOf u v ⌝ }
 {
@@ -78,7 +78,7 @@ pub fn circumsphere(pencil: Pencil, t: Lifted) -> Sphere
 }
 
 // Where a point lies. Its meaning where the orientation is not 0: `position-is` of proofs/Spheres.antt.
-pub fn position(sphere: Sphere, w: Lifted) -> Position
+pub fn locate(sphere: Sphere, w: Lifted) -> Position
     requires { ⌜ (SphereBounds sphere) × (LiftedBounds w) ⌝ }
     ensures { λ r. ⌜ r ≡ positionBy sphere w ⌝ }
 {

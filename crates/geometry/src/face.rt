@@ -9,7 +9,7 @@ ghost use mathlib.Core.Path.{_≡_};
 ghost use Prim.Native.Nat.{_≤_, _<_};
 ghost use Rattle.integers.specs.Bounds.{AtMost};
 ghost use Rattle.geometry.specs.Vectors.{OnGrid, Within};
-ghost use Rattle.geometry.specs.Bends.{normalOf, lengthOf, areaWeightOf, bendOf, bendWeightOf};
+ghost use Rattle.geometry.specs.Faces.{normalOf, lengthOf, areaWeightOf, bendOf, bendWeightOf};
 
 pub fn normal(a: GridPoint, b: GridPoint, c: GridPoint) -> Vector
     requires { ⌜ (OnGrid a) × (OnGrid b) × (OnGrid c) ⌝ }
