@@ -6,8 +6,9 @@ use crate::dot;
 use grid::GridPoint;
 
 ghost use mathlib.Core.Path.{_≡_};
-ghost use Rattle.geometry.specs.Vectors.{OnGrid};
-ghost use Rattle.geometry.specs.Spheres.{LiftedBounds, PencilBounds, SphereBounds, liftOf, pencilOf, sphereOf, positionBy};
+ghost use Rattle.integers.specs.Bounds.{AtMost};
+ghost use Rattle.geometry.specs.Vectors.{OnGrid, Within, scaledBy, plus, minus};
+ghost use Rattle.geometry.specs.Spheres.{LiftedBounds, PencilBounds, SphereBounds, liftOf, pencilOf, turned, sphereOf, positionBy};
 
 // A point as seen from the base, with its squared distance: the lifting map of Delaunay triangulation.
 pub struct Lifted { pub vector: Vector, pub square: i64 }
@@ -29,6 +30,49 @@ pub fn lift(base: GridPoint, p: GridPoint) -> Lifted
     Lifted { vector, square }
 }
 
+// i · a - j · b
+fn scaled_difference(i: i64, a: Vector, j: i64, b: Vector) -> Vector
+    requires { ⌜ (AtMost 12000000 i) × (Within 2000 a) × (AtMost 12000000 j) × (Within 2000 b) ⌝ }
+    ensures { λ r. ⌜ r ≡ minus (scaledBy i a) (scaledBy j b) ⌝ }
+{
+    let ax = a.x;
+    let ay = a.y;
+    let az = a.z;
+    let bx = b.x;
+    let by = b.y;
+    let bz = b.z;
+    Vector { x: i * ax - j * bx, y: i * ay - j * by, z: i * az - j * bz }
+}
+
+// a + k · b
+fn scaled_sum(a: Vector, k: i64, b: Vector) -> Vector
+    requires { ⌜ (Within 192000000000000 a) × (AtMost 12000000 k) × (Within 8000000 b) ⌝ }
+    ensures { λ r. ⌜ r ≡ plus a (scaledBy k b) ⌝ }
+{
+    let ax = a.x;
+    let ay = a.y;
+    let az = a.z;
+    let bx = b.x;
+    let by = b.y;
+    let bz = b.z;
+    Vector { x: ax + k * bx, y: ay + k * by, z: az + k * bz }
+}
+
+// Where four corners turn the other way all signs are changed, so that one comparison places a point.
+fn turn(o: i64, c: Vector) -> Sphere
+    requires { ⌜ (AtMost 48000000000 o) × (Within 288000000000000 c) ⌝ }
+    ensures { λ r. ⌜ r ≡ turned o c ⌝ }
+{
+    if o < 0 {
+        let x = c.x;
+        let y = c.y;
+        let z = c.z;
+        let centre = Vector { x: -x, y: -y, z: -z };
+        return Sphere { orient: -o, centre };
+    }
+    Sphere { orient: o, centre: c }
+}
+
 // Once for three corners.
 pub fn pencil_through(u: Lifted, v: Lifted) -> Pencil
     requires { ⌜ (LiftedBounds u) × (LiftedBounds v) ⌝ }
@@ -38,18 +82,12 @@ pub fn pencil_through(u: Lifted, v: Lifted) -> Pencil
     let b = v.vector;
     let i = u.square;
     let j = v.square;
-    let ax = a.x;
-    let ay = a.y;
-    let az = a.z;
-    let bx = b.x;
-    let by = b.y;
-    let bz = b.z;
     let normal = cross(a, b);
-    let weighted = Vector { x: i * bx - j * ax, y: i * by - j * ay, z: i * bz - j * az };
+    let weighted = scaled_difference(i, b, j, a);
     Pencil { normal, weighted }
 }
 
-// Once for four corners. Where they turn the other way all signs are changed, so that one comparison places a point.
+// Once for four corners.
 pub fn circumsphere(pencil: Pencil, t: Lifted) -> Sphere
     requires { ⌜ (PencilBounds pencil) × (LiftedBounds t) ⌝ }
     ensures { λ r. ⌜ r ≡ sphereOf pencil t ⌝ }
@@ -60,21 +98,8 @@ pub fn circumsphere(pencil: Pencil, t: Lifted) -> Sphere
     let l = t.square;
     let o = dot(normal, v);
     let c = cross(weighted, v);
-    let cx = c.x;
-    let cy = c.y;
-    let cz = c.z;
-    let nx = normal.x;
-    let ny = normal.y;
-    let nz = normal.z;
-    let x = cx + l * nx;
-    let y = cy + l * ny;
-    let z = cz + l * nz;
-    if o < 0 {
-        let centre = Vector { x: -x, y: -y, z: -z };
-        return Sphere { orient: -o, centre };
-    }
-    let centre = Vector { x, y, z };
-    Sphere { orient: o, centre }
+    let centre = scaled_sum(c, l, normal);
+    turn(o, centre)
 }
 
 // Where a point lies. Its meaning where the orientation is not 0: `position-is` of proofs/Spheres.antt.

@@ -76,14 +76,18 @@ pub record Holds (n : ℕ) (m z : ℤ) : Type 0 where
   pub value : z ≡ m
   pub bound : AtMost n m
 
+-- an i64 as it is read from its bits
+abbrev pub bits : ℤ → ℤ
+bits z = toZ w64 (ofZ w64 z)
+
 -- read back from its bits
-pub stored : {n : ℕ} {m z : ℤ} → T (leb n largest) → Holds n m z → Holds n m (toZ w64 (ofZ w64 z))
+pub stored : {n : ℕ} {m z : ℤ} → T (leb n largest) → Holds n m z → Holds n m (bits z)
 stored {n} {m} {z} t h = record { value = ap (λ (x : ℤ). toZ w64 (ofZ w64 x)) (h .value) ∙ toZ-ofZ w64 m (signed-fits t (h .bound)); bound = h .bound }
 
 pub fits : {n : ℕ} {m z : ℤ} → T (leb n largest) → Holds n m z → SFits w64 z
 fits t h = subst (λ (x : ℤ). SFits w64 x) (sym (h .value)) (signed-fits t (h .bound))
 
-pub given : {n : ℕ} {x : ℤ} → T (leb n largest) → AtMost n x → Holds n x (toZ w64 (ofZ w64 x))
+pub given : {n : ℕ} {x : ℤ} → T (leb n largest) → AtMost n x → Holds n x (bits x)
 given t h = stored t (record { value = refl; bound = h })
 
 infixl 6 _+!_ _-!_
@@ -97,12 +101,19 @@ h -! k = record { value = (λ i. h .value i -ℤ k .value i); bound = at-most-su
 pub _*!_ : {m n : ℕ} {a b x y : ℤ} → Holds m a x → Holds n b y → Holds (m * n) (a *ℤ b) (x *ℤ y)
 h *! k = record { value = (λ i. h .value i *ℤ k .value i); bound = at-most-mul (h .bound) (k .bound) }
 
--- a product with a bound of its own
-pub product : {m n k : ℕ} {a b x y : ℤ} → Holds m a x → Holds n b y → AtMost k (a *ℤ b) → Holds k (a *ℤ b) (x *ℤ y)
-product h k r = record { value = (λ i. h .value i *ℤ k .value i); bound = r }
+-- a product with a bound of its own: it fits, and is held
+module _ {k : ℕ} {a b : ℤ} (t : T (leb k largest)) (h : AtMost largest a) (l : AtMost largest b) (r : AtMost k (a *ℤ b)) where
+  product : Holds k (a *ℤ b) (bits a *ℤ bits b)
+  product = record { value = (λ i. given tt h .value i *ℤ given tt l .value i); bound = r }
+
+  pub product-fits : SFits w64 (bits a *ℤ bits b)
+  product-fits = fits t product
+
+  pub product-held : Holds k (a *ℤ b) (bits (bits a *ℤ bits b))
+  product-held = stored t product
 
 -- a call's result z, which its contract says is m
-pub returned : {n : ℕ} {m z : ℤ} → T (leb n largest) → z ≡ m → AtMost n m → Holds n m (toZ w64 (ofZ w64 z))
+pub returned : {n : ℕ} {m z : ℤ} → T (leb n largest) → z ≡ m → AtMost n m → Holds n m (bits z)
 returned t e h = stored t (record { value = e; bound = h })
 
 pub at-most-held : {n : ℕ} {m z : ℤ} → Holds n m z → AtMost n z
