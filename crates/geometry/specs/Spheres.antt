@@ -1,7 +1,6 @@
 -- Four points in one plane, and the sphere through four points, by its centre. Definitions only.
 use mathlib.Core.Bool.{Bool, cond}
-use lib.Dec.{eqb}
-use lib.IntN.{ℤ, pos, negℤ, natAbs, _-ℤ_, _*ℤ_}
+use lib.IntN.{ℤ, pos, _-ℤ_, _*ℤ_}
 use lib.Signed.{ltZ}
 use Rattle.grid.specs.declared.GridPoint.{GridPoint}
 use Rattle.geometry.specs.declared.Vector.{Vector}
@@ -11,10 +10,8 @@ use Rattle.geometry.specs.declared.sphere.Sphere.{Sphere}
 use Rattle.geometry.specs.declared.sphere.Position.{Position}
 use Rattle.geometry.specs.declared.sphere.Position.the-variants.{Inside, On, Outside}
 use Rattle.integers.specs.Bounds.{AtMost}
+use Rattle.integers.specs.Order.{equal}
 use Rattle.geometry.specs.Vectors.{differenceOf, dotOf, crossOf, squareOf, scaledBy, plus, minus, Within}
-
-abbrev pub equal : ℤ → ℤ → Bool
-equal a b = eqb (natAbs (a -ℤ b)) 0
 
 -- six times the volume of the four, negative where they turn the other way: u·(v×t)
 unfoldable pub orientOf : GridPoint → GridPoint → GridPoint → GridPoint → ℤ
@@ -59,7 +56,7 @@ pencilOf u v = record { normal = crossOf (u .vector) (v .vector); weighted = min
 
 -- turned so that the orientation is not negative
 abbrev pub turned : ℤ → Vector → Sphere
-turned o c = cond (ltZ o (pos 0)) (record { orient = negℤ o; centre = record { x = negℤ (c .x); y = negℤ (c .y); z = negℤ (c .z) } }) (record { orient = o; centre = c })
+turned o c = cond (ltZ o (pos 0)) (record { orient = pos 0 -ℤ o; centre = record { x = pos 0 -ℤ c .x; y = pos 0 -ℤ c .y; z = pos 0 -ℤ c .z } }) (record { orient = o; centre = c })
 
 -- the sphere of a pencil that goes through t
 abbrev pub sphereOf : Pencil → Lifted → Sphere

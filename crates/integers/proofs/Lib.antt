@@ -1,4 +1,5 @@
 pub mod Laws
 pub mod Ring
 pub mod Bounds
+pub mod Order
 pub mod Rounding

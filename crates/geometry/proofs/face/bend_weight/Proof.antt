@@ -1,14 +1,14 @@
+-- `geometry::face::bend_weight` meets its contract: the product is below 2 ^ 32.
+use native.Mathlib.Nat.{lt-of-le-of-lt}
+use lib.Dec.{lit<}
 use borrow.Author.Needs.{needs}
+use Rattle.integers.proofs.Bounds.{mul-le}
 use Rattle.geometry.proofs.face.bend_weight.Statement.{statement}
 use Rattle.geometry.proofs.face.bend_weight.Tie as tie
-use Rattle.geometry.proofs.face.bend_weight.Reads as reads
-use Rattle.geometry.proofs.face.bend_weight.Lts as lts
 
--- src/face.rt:54:5
 mul-result : tie.Need-mul-result
-mul-result c = ?
+mul-result c = record { fits = lt-of-le-of-lt (mul-le (c .pre .0) (c .pre .1)) (lit< tt) }
 
--- src/face.rt:50:1
 returns : tie.Need-returns
 returns c = search needs
 

@@ -1,22 +1,28 @@
-use borrow.Author.Needs.{needs}
+-- `geometry::sphere::lift` meets its contract.
+use mathlib.Core.Path.{_≡_, sym, _∙_, ap}
+use lib.IntN.{ℤ}
+use Rattle.geometry.specs.declared.Vector.{Vector}
+use Rattle.geometry.specs.Vectors.{differenceOf, squareOf, Within}
+use Rattle.integers.proofs.Bounds.{returned}
+use Rattle.geometry.proofs.Vectors.{within-difference, within-as, at-most-dot, products-fit}
 use Rattle.geometry.proofs.sphere.lift.Statement.{statement}
 use Rattle.geometry.proofs.sphere.lift.Tie as tie
-use Rattle.geometry.proofs.sphere.lift.Reads as reads
-use Rattle.geometry.proofs.sphere.lift.Lts as lts
-use Rattle.geometry.proofs.difference.Reads as difference-reads
-use Rattle.geometry.proofs.dot.Reads as dot-reads
 
--- src/sphere.rt:27:9
 difference-requires : tie.Need-difference-requires
-difference-requires c κs = search needs
+difference-requires c κs = (c .pre .1, c .pre .0)
 
--- src/sphere.rt:28:9
+inside : (c : tie.After-difference) → Within 2000 (c .difference .result)
+inside c = within-as (c .difference .ensures) (within-difference (c .before .pre .1) (c .before .pre .0))
+
 dot-requires : tie.Need-dot-requires
-dot-requires c κs = ?
+dot-requires c κs = products-fit tt tt tt (inside c) (inside c)
 
--- src/sphere.rt:23:1
 returns : tie.Need-returns
-returns c = ?
+returns c =
+    let d = c .before .difference .ensures in
+    let h = inside (c .before) in
+    let e = returned tt (c .dot .ensures) (at-most-dot h h) .value ∙ ap squareOf d in
+    λ i. record { vector = d i; square = e i }
 
 pub lift-spec : {M : Type 1} → statement M
 lift-spec = tie.close (tie.spec difference-requires dot-requires returns)

@@ -1,31 +1,46 @@
+-- `geometry::sphere::turn` meets its contract.
+use mathlib.Core.Path.{_≡_, refl, sym, _∙_, ap}
+use lib.IntN.{ℤ, pos, _-ℤ_}
+use lib.Signed.{ltZ}
+use mir.Syntax.{w64}
+use mir.ValLaws.{toZ-ofZ}
+use Rattle.integers.specs.Bounds.{AtMost}
+use Rattle.integers.proofs.Bounds.{Holds, bits, given, stored, fits, _-!_}
 use Rattle.geometry.proofs.sphere.turn.Statement.{statement}
 use Rattle.geometry.proofs.sphere.turn.Tie as tie
-use Rattle.geometry.proofs.sphere.turn.Reads as reads
-use Rattle.geometry.proofs.sphere.turn.Lts as lts
 
--- src/sphere.rt:70:34
+nothing : Holds 0 (pos 0) (pos 0)
+nothing = record { value = refl; bound = record { size = lib.Dec.lit≤ tt } }
+
 sub-t8 : tie.Need-sub-t8
-sub-t8 c = ?
+sub-t8 c = fits tt (nothing -! given tt (c .before .before .before .before .pre .1 .in-x))
 
--- src/sphere.rt:70:41
 sub-t9 : tie.Need-sub-t9
-sub-t9 c = ?
+sub-t9 c = fits tt (nothing -! given tt (c .before .before .before .before .pre .1 .in-y))
 
--- src/sphere.rt:70:48
 sub-t10 : tie.Need-sub-t10
-sub-t10 c = ?
+sub-t10 c = fits tt (nothing -! given tt (c .before .before .before .before .pre .1 .in-z))
 
--- src/sphere.rt:71:33
 sub-t8-2 : tie.Need-sub-t8-2
-sub-t8-2 c = ?
+sub-t8-2 c = fits tt (nothing -! given tt (c .before .before .before .before .pre .0))
 
--- src/sphere.rt:71:9
 returns : tie.Need-returns
-returns c = ?
+returns c =
+    let s = c .before .before .before .before in
+    let t = sym (ap (λ (z : ℤ). ltZ z (pos 0)) (given tt (s .pre .0) .value)) ∙ c .before .before .before .if1 .taken in
+    (λ i. record {
+      orient = stored tt (nothing -! given tt (s .pre .0)) .value i;
+      centre = record {
+        x = stored tt (nothing -! given tt (s .pre .1 .in-x)) .value i;
+        y = stored tt (nothing -! given tt (s .pre .1 .in-y)) .value i;
+        z = stored tt (nothing -! given tt (s .pre .1 .in-z)) .value i } })
+    ∙ rw t
 
--- src/sphere.rt:62:1
 returns-2 : tie.Need-returns-2
-returns-2 c = ?
+returns-2 c =
+    let s = c .before in
+    let t = sym (ap (λ (z : ℤ). ltZ z (pos 0)) (given tt (s .pre .0) .value)) ∙ c .if1 .left in
+    (λ i. record { orient = given tt (s .pre .0) .value i; centre = s .args .c }) ∙ rw t
 
 pub turn-spec : {M : Type 1} → statement M
 turn-spec = tie.close (tie.spec sub-t8 sub-t9 sub-t10 sub-t8-2 returns returns-2)

@@ -1,0 +1,94 @@
+-- Tests of order and equality of integers: by the sign of the difference, and unchanged by a positive factor. Assumes nothing.
+use mathlib.Core.Path.{_≡_, refl, sym, _∙_, ap, subst}
+use mathlib.Core.Bool.{Bool, true, false, not, cond}
+use Prim.Native.Nat.{ℕ, zero, suc, _+_, _*_, _-_, _^_, _≤_, _<_}
+use native.Mathlib.Omega.{arith}
+use lib.Dec.{T, ltb, eqb}
+use lib.IntN.{ℤ, pos, negsuc, negℤ, natAbs, subℕ, _+ℤ_, _-ℤ_, _*ℤ_, +ℤ-idl}
+use lib.Signed.{ltZ}
+use borrow.Author.Tests.{lt-ltb, le-ltb, eq-eqb, ne-eqb, eqb-true, ltb-true, ltb-false}
+use mir.Syntax.{w64}
+use mir.Val.{SFits, ofZ}
+use Rattle.integers.specs.Order.{equal}
+use Rattle.integers.proofs.Laws.{sub-zero, sub-self}
+
+true≢false : {X : Type 0} → true ≡ false → X
+true≢false e = absurd (subst T e tt)
+
+-- ---- equality
+
+pub equal-yes : (a b : ℤ) → equal a b ≡ true → a ≡ b
+equal-yes (pos a) (pos b) e = ap pos (eqb-true a b e)
+equal-yes (pos a) (negsuc b) e = true≢false (sym e)
+equal-yes (negsuc a) (pos b) e = true≢false (sym e)
+equal-yes (negsuc a) (negsuc b) e = ap negsuc (eqb-true a b e)
+
+pub equal-self : (a : ℤ) → equal a a ≡ true
+equal-self (pos a) = eq-eqb a a refl
+equal-self (negsuc a) = eq-eqb a a refl
+
+pub equal-is : {a b : ℤ} → a ≡ b → equal a b ≡ true
+equal-is {a} e = subst (λ (z : ℤ). equal a z ≡ true) e (equal-self a)
+
+pub equal-no : (a b : ℤ) → (a ≡ b → ⊥) → equal a b ≡ false
+equal-no a b h = go (equal a b) refl
+  where
+    go : (t : Bool) → equal a b ≡ t → t ≡ false
+    go true e = absurd (h (equal-yes a b e))
+    go false e = refl
+
+-- ---- the sign of the difference
+
+ltb-sub : (a b : ℕ) → ltZ (subℕ a b) (pos 0) ≡ ltb a b
+ltb-sub a b = go (ltb a b)
+  where
+    go : (t : Bool) → ltZ (cond t (negsuc (b - suc a)) (pos (a - b))) (pos 0) ≡ t
+    go true = refl
+    go false = le-ltb (a - b) 0 (omega arith)
+
+not-below : (n : ℕ) → ltb n 0 ≡ false
+not-below n = le-ltb n 0 (omega arith)
+
+pub less-by-difference : (a b : ℤ) → ltZ a b ≡ ltZ (a -ℤ b) (pos 0)
+less-by-difference (pos a) (pos zero) = not-below a ∙ sym (not-below (a + 0))
+less-by-difference (pos a) (pos (suc b)) = sym (ltb-sub a (suc b))
+less-by-difference (pos a) (negsuc b) = sym (not-below (a + suc b))
+less-by-difference (negsuc a) (pos zero) = sym (ltb-sub 0 (suc a) ∙ lt-ltb 0 (suc a) (omega arith))
+less-by-difference (negsuc a) (pos (suc b)) = refl
+less-by-difference (negsuc a) (negsuc b) = both (ltb b a) refl ∙ sym (ltb-sub (suc b) (suc a))
+  where
+    both : (t : Bool) → ltb b a ≡ t → t ≡ ltb (suc b) (suc a)
+    both true e = let h = ltb-true b a e in sym (lt-ltb (suc b) (suc a) (omega arith))
+    both false e = let h = ltb-false b a e in sym (le-ltb (suc b) (suc a) (omega arith))
+
+pub equal-by-difference : (a b : ℤ) → equal a b ≡ equal (a -ℤ b) (pos 0)
+equal-by-difference a b = go (equal a b) refl
+  where
+    go : (t : Bool) → equal a b ≡ t → t ≡ equal (a -ℤ b) (pos 0)
+    go true e = sym (equal-is (sub-self a b (equal-yes a b e)))
+    go false e = sym (equal-no (a -ℤ b) (pos 0) (λ z. true≢false (sym (equal-is (sub-zero a b z)) ∙ e)))
+
+-- ---- a positive factor
+
+product-suc : (k n : ℕ) → suc k * suc n ≡ suc (k * n + k + n)
+product-suc k n = omega arith
+
+module _ (k : ℕ) where
+  pub less-multiple : (c : ℤ) → ltZ (pos (suc k) *ℤ c) (pos 0) ≡ ltZ c (pos 0)
+  less-multiple (pos n) = not-below (suc k * n) ∙ sym (not-below n)
+  less-multiple (negsuc n) = ap (λ (x : ℕ). ltZ (negℤ (pos x)) (pos 0)) (product-suc k n)
+
+  pub equal-multiple : (c : ℤ) → equal (pos (suc k) *ℤ c) (pos 0) ≡ equal c (pos 0)
+  equal-multiple (pos zero) = eq-eqb (suc k * 0) 0 (omega arith)
+  equal-multiple (pos (suc n)) = ne-eqb (suc k * suc n) 0 (λ e. omega (arith, product-suc k n)) ∙ sym (ne-eqb (suc n) 0 (λ e. omega arith))
+  equal-multiple (negsuc n) = ap (λ (x : ℕ). equal (negℤ (pos x)) (pos 0)) (product-suc k n)
+
+-- ---- the machine's test `z == 0`, which compares bits
+
+pub zero-bits : (z : ℤ) → SFits w64 z → ofZ w64 z ≡ 0 → equal z (pos 0) ≡ true
+zero-bits (pos n) f e = eq-eqb n 0 e
+zero-bits (negsuc n) f e = let g : n < 2 ^ 63 = f .sfits in absurd (omega arith)
+
+pub other-bits : (z : ℤ) → (ofZ w64 z ≡ 0 → ⊥) → equal z (pos 0) ≡ false
+other-bits (pos n) f = ne-eqb n 0 f
+other-bits (negsuc n) f = refl
