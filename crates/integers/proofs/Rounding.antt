@@ -1,19 +1,19 @@
 -- What the machine's quotient and remainder say of the quotient that is rounded down; a signed test carried from bits to numbers. Assumes nothing.
 use mathlib.Core.Path.{_≡_, refl, sym, _∙_, ap, subst}
 use mathlib.Core.Bool.{Bool, true, false, not, cond}
-use Prim.Native.Nat.{ℕ, zero, suc, _+_, _*_, _/_, _%_, _^_, _≤_, _<_}
+use Prim.Native.Nat.{ℕ, zero, suc, _+_, _*_, _-_, _/_, _%_, _^_, _≤_, _<_}
 use native.Mathlib.Nat.{div-add-mod', div-eq-of-lt-le, mod-lt, div-le-self, mod-le, add-zero, le-trans, le-antisymm, pow-suc, mul-le-mul-left, mul-le-mul-right}
 use native.Mathlib.Decide.{decLe}
 use native.Mathlib.Omega.{arith}
-use lib.Dec.{T, ltb, leb, lt→ltb, leb→le, nleb→lt}
+use lib.Dec.{T, ltb, leb, lt→ltb, leb→le, nleb→lt, lit≤}
 use lib.IntN.{ℤ, pos, negsuc, negℤ, natAbs, _-ℤ_, _+ℤ_, _*ℤ_}
 use lib.Signed.{ltZ, quotZ, remZ, _<ℤ_}
-use borrow.Author.Tests.{ltb-true}
+use borrow.Author.Tests.{ltb-true, ltb-false}
 use mir.Syntax.{w64}
 use mir.Val.{SFits, toZ, ofZ}
 use mir.ValLaws.{toZ-ofZ}
 use Rattle.integers.proofs.Bounds.{Holds, natAbs-neg}
-use Rattle.integers.specs.Rounding.{floorDiv, IsFloorRoot, lastDigit, rootDigits, floorRoot}
+use Rattle.integers.specs.Rounding.{floorDiv, clamped, IsFloorRoot, lastDigit, rootDigits, floorRoot}
 use Rattle.integers.specs.Bounds.{AtMost}
 
 true≢false : {X : Type 0} → true ≡ false → X
@@ -139,3 +139,43 @@ floor-root-is x h = root-digits 32 x h
 
 pub is-floor-root : (x r : ℕ) → x < 2 ^ 64 → IsFloorRoot x r → r ≡ floorRoot x
 is-floor-root x r h p = root-unique x r (floorRoot x) p (floor-root-is x h)
+
+-- bounds of the whole root
+pub floor-root-le : (x b : ℕ) → x < 2 ^ 64 → x < (b + 1) * (b + 1) → floorRoot x ≤ b
+floor-root-le x b h l = go (decLe (floorRoot x) b)
+  where
+    go : Dec (floorRoot x ≤ b) → floorRoot x ≤ b
+    go (yes k) = k
+    go (no k) =
+        let r = floorRoot x in
+        let w : b + 1 ≤ r = omega arith in
+        let q = le-trans (mul-le-mul-right (b + 1) w) (mul-le-mul-left r w) in
+        let s = floor-root-is x h .low in
+        absurd (omega arith)
+
+pub floor-root-above-0 : (x : ℕ) → x < 2 ^ 64 → 0 < x → 0 < floorRoot x
+floor-root-above-0 x h p = go (floorRoot x) (floor-root-is x h)
+  where
+    go : (r : ℕ) → IsFloorRoot x r → 0 < r
+    go zero i = let l = i .high in absurd (omega arith)
+    go (suc r) i = omega arith
+
+-- the whole root squared is within the number
+pub floor-root-square : (x : ℕ) → x < 2 ^ 64 → floorRoot x * floorRoot x ≤ x
+floor-root-square x h = floor-root-is x h .low
+
+-- ---- the clamp to -1000 to 1000, taken from 1000
+
+pub clamped-range : (x : ℤ) → (j : ℕ) × (j ≤ 2000) × (pos 1000 -ℤ clamped (negsuc 999) (pos 1000) x ≡ pos j)
+clamped-range x = low (ltZ x (negsuc 999)) refl
+  where
+    middle : (x : ℤ) → ltZ x (negsuc 999) ≡ false → ltZ (pos 1000) x ≡ false → (j : ℕ) × (j ≤ 2000) × (pos 1000 -ℤ x ≡ pos j)
+    middle (pos zero) s t = (1000, lit≤ tt, refl)
+    middle (pos (suc a)) s t = (1000 - suc a, omega arith, ap (λ (b : Bool). cond b (negsuc (suc a - 1001)) (pos (1000 - suc a))) t)
+    middle (negsuc a) s t = let h = ltb-false 999 a s in (1000 + suc a, omega arith, refl)
+    high : (b : Bool) → ltZ x (negsuc 999) ≡ false → ltZ (pos 1000) x ≡ b → (j : ℕ) × (j ≤ 2000) × (pos 1000 -ℤ cond b (pos 1000) x ≡ pos j)
+    high true s t = (0, lit≤ tt, refl)
+    high false s t = middle x s t
+    low : (b : Bool) → ltZ x (negsuc 999) ≡ b → (j : ℕ) × (j ≤ 2000) × (pos 1000 -ℤ cond b (negsuc 999) (cond (ltZ (pos 1000) x) (pos 1000) x) ≡ pos j)
+    low true s = (2000, lit≤ tt, refl)
+    low false s = high (ltZ (pos 1000) x) s refl

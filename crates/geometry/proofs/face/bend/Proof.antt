@@ -1,57 +1,85 @@
-use borrow.Author.Needs.{needs}
+-- `geometry::face::bend` meets its contract.
+use mathlib.Core.Path.{_≡_, refl, sym, _∙_, ap, subst}
+use Prim.Native.Nat.{ℕ, zero, suc, _*_, _^_, _≤_, _<_}
+use native.Mathlib.Nat.{lt-of-le-of-lt}
+use native.Mathlib.Omega.{arith}
+use lib.Dec.{T, lit<, lit≤, ltb, lt→ltb}
+use lib.IntN.{ℤ, pos, negsuc, natAbs, _-ℤ_, _*ℤ_}
+use lib.Signed.{nonNeg, _<ℤ_}
+use mir.Syntax.{w64}
+use mir.Val.{SFits}
+use mir.ValLaws.{toZ-ofZ}
+use Rattle.integers.specs.Bounds.{AtMost}
+use Rattle.integers.specs.Rounding.{floorDiv, clamped}
+use Rattle.geometry.specs.Faces.{ratioOf, bendOf}
+use Rattle.integers.proofs.Bounds.{Holds, bits, given, stored, fits, signed-fits, at-most-held, at-most-le, _*!_, _-!_}
+use Rattle.geometry.proofs.Faces.{bend-is, bend-bound}
 use Rattle.geometry.proofs.face.bend.Statement.{statement}
 use Rattle.geometry.proofs.face.bend.Tie as tie
-use Rattle.geometry.proofs.face.bend.Reads as reads
-use Rattle.geometry.proofs.face.bend.Lts as lts
-use Rattle.integers.proofs.clamp.Reads as clamp-reads
-use Rattle.integers.proofs.floor_div.Reads as floor-div-reads
 
--- src/face.rt:44:13
+thousand : Holds 1000 (pos 1000) (pos 1000)
+thousand = record { value = refl; bound = record { size = lit≤ tt } }
+
+natural : {n m : ℕ} → m ≤ n → AtMost n (pos m)
+natural h = record { size = h }
+
+product-above-0 : (m k : ℕ) → 0 < m → 0 < k → 0 < m * k
+product-above-0 zero k h l = absurd (omega arith)
+product-above-0 (suc m) zero h l = absurd (omega arith)
+product-above-0 (suc m) (suc k) h l = omega arith
+
+module _ (s : tie.Start) where
+  numerator : Holds 192000000000000000 (pos 1000 *ℤ s .args .d) (pos 1000 *ℤ bits (s .args .d))
+  numerator = thousand *! given tt (s .pre .0)
+
+  divisor : Holds 191999987236836 (pos (s .args .m * s .args .k)) (bits (pos (s .args .m)) *ℤ bits (pos (s .args .k)))
+  divisor = given tt (natural (s .pre .2)) *! given tt (natural (s .pre .4))
+
 mul-n : tie.Need-mul-n
-mul-n c = ?
+mul-n c = fits tt (numerator c)
 
--- src/face.rt:45:13
 cast-w : tie.Need-cast-w
-cast-w c = search needs
+cast-w c = signed-fits tt (natural (c .pre .2))
 
--- src/face.rt:45:24
 cast-w-2 : tie.Need-cast-w-2
-cast-w-2 c = search needs
+cast-w-2 c = signed-fits tt (natural (c .pre .4))
 
--- src/face.rt:45:13
 mul-w : tie.Need-mul-w
-mul-w c = ?
+mul-w c = fits tt (divisor c)
 
--- src/face.rt:46:29
 floor-div-requires : tie.Need-floor-div-requires
-floor-div-requires c κs = ?
+floor-div-requires c κs =
+    (at-most-le tt (at-most-held (stored tt (numerator c))),
+     subst (λ (z : ℤ). pos 0 <ℤ z) (sym (stored tt (divisor c) .value)) (record { lt = lt→ltb 0 _ (product-above-0 (c .args .m) (c .args .k) (c .pre .1) (c .pre .3)) }))
 
--- src/face.rt:46:9
 clamp-requires : tie.Need-clamp-requires
-clamp-requires c κs = search needs
+clamp-requires c κs = tt
 
--- src/face.rt:47:6
+ratio! : (c : tie.After-clamp) → c .clamp .result ≡ ratioOf (c .before .before .args .d) (c .before .before .args .m) (c .before .before .args .k)
+unfolding ratioOf
+ratio! c =
+    let s = c .before .before in
+    let q = c .before .floor-div in
+    c .clamp .ensures
+    ∙ ap (clamped (negsuc 999) (pos 1000)) (toZ-ofZ w64 (q .result) (record { sfits = q .ok }) ∙ q .ensures ∙ (λ i. floorDiv (stored tt (numerator s) .value i) (natAbs (stored tt (divisor s) .value i))))
+
+bend! : (c : tie.After-clamp) → Holds 2000 (pos (bendOf (c .before .before .args .d) (c .before .before .args .m) (c .before .before .args .k))) (pos 1000 -ℤ bits (c .clamp .result))
+bend! c =
+    let s = c .before .before in
+    record {
+      value = ap (λ (z : ℤ). pos 1000 -ℤ z) (toZ-ofZ w64 (c .clamp .result) (record { sfits = c .clamp .ok }) ∙ ratio! c) ∙ sym (bend-is (s .args .d) (s .args .m) (s .args .k));
+      bound = natural (bend-bound (s .args .d) (s .args .m) (s .args .k)) }
+
 sub-result : tie.Need-sub-result
-sub-result c = ?
+sub-result c = fits tt (bend! c)
 
--- src/face.rt:47:5
 cast-result : tie.Need-cast-result
-cast-result c = ?
+cast-result c =
+    let h = stored tt (bend! c) in
+    (subst (λ (z : ℤ). T (nonNeg z)) (sym (h .value)) tt, record { fits = lt-of-le-of-lt (at-most-held h .size) (lit< tt) })
 
--- src/face.rt:40:1
 returns : tie.Need-returns
-returns c = ?
+returns c = ap natAbs (stored tt (bend! c) .value)
 
 pub bend-spec : {M : Type 1} → statement M
-bend-spec =
-    tie.close
-    (tie.spec
-    mul-n
-    cast-w
-    cast-w-2
-    mul-w
-    floor-div-requires
-    clamp-requires
-    sub-result
-    cast-result
-    returns)
+bend-spec = tie.close (tie.spec mul-n cast-w cast-w-2 mul-w floor-div-requires clamp-requires sub-result cast-result returns)
