@@ -1,8 +1,8 @@
 -- A case picked by its test, and tests as facts. Assumes nothing.
-use lib.Dec.{ltb}
-use borrow.Author.Tests.{le-ltb, lt-ltb}
-use mathlib.Core.Path.{_≡_, refl, ap, _∙_}
-use mathlib.Core.Bool.{Bool, true, false, cond}
+use lib.Dec.{ltb, eqb}
+use borrow.Author.Tests.{le-ltb, lt-ltb, eq-eqb, ne-eqb, not-true, not-false}
+use mathlib.Core.Path.{_≡_, refl, sym, ap, _∙_}
+use mathlib.Core.Bool.{Bool, true, false, cond, not}
 use mathlib.Core.Logic.{_⊎_, inl, inr}
 use Prim.Native.Nat.{ℕ, _≤_, _<_}
 use native.Mathlib.Omega.{arith}
@@ -76,3 +76,16 @@ ge-via {y = y} {n = n} e h = le-ltb n y (omega arith)
 
 pub gt-via : {x y n : ℕ} → x ≡ y → n < x → ltb n y ≡ true
 gt-via {y = y} {n = n} e h = lt-ltb n y (omega arith)
+
+pub eq-via : {x y n : ℕ} → x ≡ y → x ≡ n → eqb y n ≡ true
+eq-via {y = y} {n = n} e h = eq-eqb y n (sym e ∙ h)
+
+pub ne-via : {x y n : ℕ} → x ≡ y → (x ≡ n → ⊥) → eqb y n ≡ false
+ne-via {y = y} {n = n} e h = ne-eqb y n (λ d. h (e ∙ d))
+
+-- a test that a call handed on, and that was negated
+pub fails-via : {r b : Bool} → r ≡ b → not r ≡ true → b ≡ false
+fails-via {r} e h = sym e ∙ not-true r h
+
+pub holds-via : {r b : Bool} → r ≡ b → not r ≡ false → b ≡ true
+holds-via {r} e h = sym e ∙ not-false r h

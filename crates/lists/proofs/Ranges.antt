@@ -1,7 +1,7 @@
 -- Lists and tests over a range of numbers, taken from the front, and what such a test says of each number. Assumes nothing.
 use mathlib.Core.Path.{_≡_, refl, sym, _∙_, ap, subst}
 use mathlib.Core.Bool.{Bool, true, false, cond}
-use mathlib.Core.List.{List, [], _∷_, _++_, append-assoc}
+use mathlib.Core.List.{List, [], _∷_, _++_, append-assoc, append-nil}
 use mathlib.Core.Logic.{⊎-elim}
 use Prim.Native.Nat.{ℕ, zero, suc, _+_, _*_, _-_, _≤_, _<_}
 use native.Mathlib.Nat.{sub-eq-zero-of-le}
@@ -28,6 +28,27 @@ module _ {A : Type 0} where
 
   pub over-none : (lo hi : ℕ) (f : ℕ → List A) (r : List A) → hi ≤ lo → over lo hi f ++ r ≡ r
   over-none lo hi f r h = ap (λ (x : List A). x ++ r) (over-end lo hi f h)
+
+  up-last : (f : ℕ → List A) (lo k : ℕ) → upFrom f lo (suc k) ≡ upFrom f lo k ++ f (lo + k)
+  unfolding upFrom
+  up-last f lo zero = append-nil (f lo) ∙ ap f (omega arith)
+  up-last f lo (suc k) =
+      ap (λ (x : List A). f lo ++ x) (up-last f (suc lo) k ∙ ap (λ (i : ℕ). upFrom f (suc lo) k ++ f i) (omega arith))
+      ∙ sym (append-assoc (f lo) (upFrom f (suc lo) k) (f (lo + suc k)))
+
+  -- taken from the end
+  pub over-last : (lo hi : ℕ) (f : ℕ → List A) → lo ≤ hi → over lo (hi + 1) f ≡ over lo hi f ++ f hi
+  over-last lo hi f h =
+      ap (λ (k : ℕ). upFrom f lo k) (omega arith) ∙ up-last f lo (hi - lo) ∙ ap (λ (i : ℕ). over lo hi f ++ f i) (omega arith)
+
+  up-length : (g : ℕ → A) (lo k : ℕ) → length (upFrom (λ i. g i ∷ []) lo k) ≡ k
+  unfolding upFrom
+  up-length g lo zero = refl
+  up-length g lo (suc k) = omega (arith, up-length g (suc lo) k)
+
+  -- one element for each number
+  pub over-length : (lo hi : ℕ) (g : ℕ → A) → length (over lo hi (λ i. g i ∷ [])) ≡ hi - lo
+  over-length lo hi g = up-length g lo (hi - lo)
 
   -- how long such a list can be
   pub up-bound : (f : ℕ → List A) (B lo k : ℕ) → ((i : ℕ) → length (f i) ≤ B) → length (upFrom f lo k) ≤ k * B

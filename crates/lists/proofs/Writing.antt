@@ -6,7 +6,7 @@ use native.Mathlib.Nat.{le-trans, le-refl}
 use native.Mathlib.Numerals.{add-one}
 use native.Mathlib.Omega.{arith}
 use lib.ListN.{length, take, drop, set, getD, drop-of-length-le, length-append, length-set, take-append-drop, length-drop}
-use lib.Seq.{length-take-le, drop-cons, take-suc-set, drop-set-lt, drop-drop, take-at}
+use lib.Seq.{length-take-le, drop-cons, take-suc-set, drop-set-lt, drop-drop, take-at, set-append-seam}
 use Rattle.lists.specs.Lists.{filled}
 
 module _ {A : Type 0} where
@@ -80,6 +80,16 @@ module _ {A : Type 0} where
   -- a filled table's length, and its first places
   pub filled-length : (l t : List A) → length l ≤ length t → length (filled l t) ≡ length t
   filled-length l t h = length-append l (drop (length l) t) ∙ omega (arith, length-drop (length l) t)
+
+  -- one place more is filled
+  pub filled-next : (l t : List A) (x : A) (n : ℕ) → n ≡ length l → n < length t → set (filled l t) n x ≡ filled (l ++ (x ∷ [])) t
+  filled-next l t x n e h =
+      let longer : suc (length l) ≡ length (l ++ (x ∷ [])) = omega (arith, length-append l (x ∷ [])) in
+      ap (λ (m : ℕ). set (filled l t) m x) e
+      ∙ ap (λ (r : List A). set (l ++ r) (length l) x) (drop-cons t (length l) x (omega arith))
+      ∙ set-append-seam l (getD t (length l) x) (drop (suc (length l)) t) x
+      ∙ sym (append-assoc l (x ∷ []) (drop (suc (length l)) t))
+      ∙ ap (λ (m : ℕ). (l ++ (x ∷ [])) ++ drop m t) longer
 
   pub filled-take : (l t : List A) (n : ℕ) → n ≡ length l → take n (filled l t) ≡ l
   filled-take l t n e = take-at l (drop (length l) t) n (sym e)

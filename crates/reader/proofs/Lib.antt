@@ -1,0 +1,3 @@
+pub mod Numbers
+pub mod Vertices
+pub mod Walking
