@@ -23,7 +23,7 @@ use Rattle.reader.specs.declared.Vertex.{Vertex}
 use Rattle.reader.specs.declared.Vertex.the-variants.{At, Refused}
 
 -- the number of no due number is 0, and then all numbers are finite and in range
-code-none : (f r : Bool) → cond f (cond r 0 9) 8 ≡ 0 → (f ≡ true) × (r ≡ true)
+code-none : (f r : Bool) → _≡_ {A = ℕ} (cond f (cond r 0 9) 8) 0 → (f ≡ true) × (r ≡ true)
 code-none true true e = (refl, refl)
 code-none true false e = absurd (omega (arith, e))
 code-none false r e = absurd (omega (arith, e))
