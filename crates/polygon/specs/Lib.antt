@@ -1,1 +1,1 @@
-pub mod Polygon
+pub mod Polygons
