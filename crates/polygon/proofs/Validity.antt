@@ -1,16 +1,16 @@
 -- No two vertices share a grid point exactly where the test finds none, and a polygon's code is 0 exactly where it is valid. Assumes nothing.
-use mathlib.Core.Path.{_≡_, refl, sym, ap, _∙_}
+use mathlib.Core.Path.{_≡_, refl, _∙_}
 use mathlib.Core.Bool.{Bool, true, false, cond}
 use mathlib.Core.List.{List}
-use Prim.Native.Nat.{ℕ, zero, suc, _≤_, _<_}
+use Prim.Native.Nat.{ℕ, _<_}
 use native.Mathlib.Omega.{arith}
 use borrow.Author.Tests.{ltb-false, le-ltb}
 use lib.Dec.{ltb}
 use Rattle.grid.specs.declared.GridPoint.{GridPoint}
 use Rattle.grid.specs.Point.{PointOnGrid, pointOnGrid}
 use Rattle.grid.proofs.Points.{point-on-grid, point-on-grid-test}
-use Rattle.lists.specs.Lists.{both, every, some}
-use Rattle.lists.proofs.Choice.{yes, no, Truth, truth}
+use Rattle.lists.specs.Lists.{some}
+use Rattle.lists.proofs.Choice.{yes, no}
 use Rattle.lists.proofs.Ranges.{every-at, every-all, some-none, some-here, some-nowhere, some-found}
 use Rattle.polygon.specs.declared.Polygon.{Polygon}
 use Rattle.polygon.specs.Polygons.{maxVertices, vertexAt, samePoint, repeatedVertex, verticesOnGrid, codeOf, Valid}

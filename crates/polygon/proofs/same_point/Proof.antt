@@ -1,5 +1,3 @@
-use mir.Syntax.{w64}
-use mir.Val.{SFits}
 use Rattle.polygon.proofs.Points.{differ-x, differ-y, test-z}
 use Rattle.polygon.proofs.same_point.Statement.{statement}
 use Rattle.polygon.proofs.same_point.Tie as tie
