@@ -10,7 +10,7 @@ use lib.IntN.{ℤ, pos, negsuc}
 use Rattle.grid.specs.declared.GridPoint.{GridPoint}
 use Rattle.lists.specs.Lists.{both}
 use Rattle.lists.proofs.Choice.{true-not-false, both-left, both-right, both-true, not-true-false}
-use Rattle.polygon.specs.Polygons.{sameCoordinate, samePoint}
+use Rattle.polygon.specs.Polygon.{sameCoordinate, samePoint}
 
 pub coordinate-equal : (a b : ℤ) → sameCoordinate a b ≡ true → a ≡ b
 coordinate-equal (pos a) (pos b) h = ap pos (eqb-true a b h)

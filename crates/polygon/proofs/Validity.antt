@@ -13,7 +13,7 @@ use Rattle.lists.specs.Lists.{some}
 use Rattle.lists.proofs.Choice.{yes, no}
 use Rattle.lists.proofs.Ranges.{every-at, every-all, some-none, some-here, some-nowhere, some-found}
 use Rattle.polygon.specs.declared.Polygon.{Polygon}
-use Rattle.polygon.specs.Polygons.{maxVertices, vertexAt, samePoint, repeatedVertex, verticesOnGrid, codeOf, Valid}
+use Rattle.polygon.specs.Polygon.{maxVertices, vertexAt, samePoint, repeatedVertex, verticesOnGrid, codeOf, Valid}
 use Rattle.polygon.proofs.Points.{point-equal, point-same}
 
 module _ (vertices : List GridPoint) (n : ℕ) where

@@ -1,1 +1,1 @@
-pub mod Polygons
+pub mod Polygon

@@ -2,7 +2,7 @@
 use grid::GridPoint;
 ghost use mathlib.Core.Path.{_≡_};
 ghost use Prim.Native.Nat.{_≤_};
-ghost use Rattle.polygon.specs.Polygons.{maxVertices, emptyPolygon, samePoint, repeatedVertex, verticesOnGrid, codeOf};
+ghost use Rattle.polygon.specs.Polygon.{maxVertices, emptyPolygon, samePoint, repeatedVertex, verticesOnGrid, codeOf};
 
 pub const MIN_VERTICES: usize = 3;
 

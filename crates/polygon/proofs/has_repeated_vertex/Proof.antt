@@ -7,7 +7,7 @@ use borrow.Author.Needs.{needs}
 use Rattle.grid.specs.declared.GridPoint.{GridPoint}
 use Rattle.lists.specs.Lists.{some}
 use Rattle.lists.proofs.Ranges.{some-on, some-stop, some-end}
-use Rattle.polygon.specs.Polygons.{vertexAt, samePoint, repeatedVertex}
+use Rattle.polygon.specs.Polygon.{vertexAt, samePoint, repeatedVertex}
 use Rattle.polygon.proofs.has_repeated_vertex.Statement.{statement}
 use Rattle.polygon.proofs.has_repeated_vertex.Tie as tie
 use Rattle.polygon.proofs.has_repeated_vertex.Reads as reads

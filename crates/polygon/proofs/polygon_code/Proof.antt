@@ -2,7 +2,7 @@ use mathlib.Core.Path.{sym, _∙_}
 use borrow.Author.Needs.{needs}
 use borrow.Author.Tests.{lt-ltb, le-ltb, not-true, not-false}
 use Rattle.lists.proofs.Choice.{yes, no}
-use Rattle.polygon.specs.Polygons.{codeOf}
+use Rattle.polygon.specs.Polygon.{codeOf}
 use Rattle.polygon.proofs.polygon_code.Statement.{statement}
 use Rattle.polygon.proofs.polygon_code.Tie as tie
 

@@ -9,7 +9,7 @@ use Rattle.grid.specs.declared.GridPoint.{GridPoint}
 use Rattle.grid.specs.Point.{pointOnGrid}
 use Rattle.lists.specs.Lists.{every}
 use Rattle.lists.proofs.Ranges.{every-on, every-stop, every-end}
-use Rattle.polygon.specs.Polygons.{vertexAt, verticesOnGrid}
+use Rattle.polygon.specs.Polygon.{vertexAt, verticesOnGrid}
 use Rattle.polygon.proofs.vertices_on_grid.Statement.{statement}
 use Rattle.polygon.proofs.vertices_on_grid.Tie as tie
 use Rattle.polygon.proofs.vertices_on_grid.Reads as reads
