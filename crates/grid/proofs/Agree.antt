@@ -1,20 +1,19 @@
--- The two definitions of the grid step agree at every pattern; and what they give at a few. Assumes nothing.
-use mathlib.Core.Path.{_≡_, refl, sym, ap, _∙_}
+-- The grid number of a pattern's value is that of the pattern alone; and what it is at a few patterns. Assumes nothing.
+use mathlib.Core.Path.{_≡_, refl}
 use Prim.Native.Nat.{ℕ, _*_, _%_, _^_, _≤_, _<_}
 use mathlib.Core.Bool.{Bool, true, false, not, cond}
 use lib.IntN.{pos, negsuc}
 use lib.Dec.{T, leb, leb→le, nleb→lt}
 use lib.Pow.{pow-pos}
-use lib.Ieee.{binary32, ofBits, odd}
-use Rattle.grid.specs.declared.GridNumber.{GridNumber}
+use lib.Ieee.{binary32, ofBits}
 use Rattle.grid.specs.declared.GridNumber.the-variants.{Value, NotFinite, OutOfRange}
-use Rattle.grid.specs.Number.{finite, numerator, denominator, negative, signed, inRange, roundEighths, gridNumberOf}
+use Rattle.grid.specs.Number.{finite, numerator, denominator, negative, inRange, roundEighths, gridNumberOf}
 use Rattle.grid.specs.Pattern.{gridFraction, gridNumberOfBits, units}
 use Rattle.grid.proofs.Value.{bits-value, grid-value}
-use Rattle.grid.proofs.Times8.{bits-not-finite}
+use Rattle.grid.proofs.Product.{bits-not-finite}
 
-pub both : (b : ℕ) → gridNumberOf (ofBits binary32 b) ≡ gridNumberOfBits b
-both b = go (leb 2139095040 (b % 2147483648)) (leb→le 2139095040 (b % 2147483648)) (nleb→lt 2139095040 (b % 2147483648))
+pub bits-agree : (b : ℕ) → gridNumberOf (ofBits binary32 b) ≡ gridNumberOfBits b
+bits-agree b = go (leb 2139095040 (b % 2147483648)) (leb→le 2139095040 (b % 2147483648)) (nleb→lt 2139095040 (b % 2147483648))
   where
     go : (t : Bool) → (T t → 2139095040 ≤ b % 2147483648) → (T (not t) → b % 2147483648 < 2139095040)
         → gridNumberOf (ofBits binary32 b) ≡ cond t NotFinite (gridFraction (leb 2147483648 b) (8 * units (b % 2147483648)) (2 ^ 149))

@@ -1,5 +1,5 @@
 -- What each answer of a grid number says of the float. Assumes nothing.
-use mathlib.Core.Path.{_≡_, refl, sym, ap, _∙_}
+use mathlib.Core.Path.{_≡_, refl, ap, _∙_, subst}
 use mathlib.Core.Bool.{Bool, true, false, cond}
 use Prim.Native.Nat.{ℕ}
 use native.Mathlib.Omega.{arith}
@@ -8,6 +8,8 @@ use lib.Ieee.{Float}
 use Rattle.grid.specs.declared.GridNumber.{GridNumber}
 use Rattle.grid.specs.declared.GridNumber.the-variants.{Value, NotFinite, OutOfRange}
 use Rattle.grid.specs.Number.{finite, inRange, roundEighths, gridNumberOf}
+use Rattle.grid.specs.Point.{OnGrid}
+use Rattle.grid.proofs.HalfStep.{in-range-on-grid}
 
 -- the three answers
 pub value-is : (v : Float) → finite v ≡ true → inRange v ≡ true → gridNumberOf v ≡ Value (roundEighths v)
@@ -67,3 +69,7 @@ out-of-range-told v h = let k = out-cases (finite v) (inRange v) (roundEighths v
 pub not-finite-told : (v : Float) → gridNumberOf v ≡ NotFinite → finite v ≡ false
 unfolding gridNumberOf answer
 not-finite-told v h = not-finite-cases (finite v) (inRange v) (roundEighths v) h
+
+-- a grid number is on the grid
+pub value-on-grid : (v : Float) (i : ℤ) → gridNumberOf v ≡ Value i → OnGrid i
+value-on-grid v i h = let t = value-told v i h in subst OnGrid (t .value) (in-range-on-grid v (t .in-range))

@@ -7,7 +7,7 @@ use mathlib.Core.Bool.{Bool, true, false, not, cond}
 use borrow.Author.Tests.{leb-true, ltb-true, ltb-false}
 use lib.IntN.{ℤ, pos, negsuc, negℤ, natAbs, _-ℤ_, _*ℤ_, negℤ-+ℤ, negsuc-*ℤ-pos, pos-*ℤ-pos}
 use lib.Dec.{T, isLe, isEq, leb→le, nleb→lt, eqb→eq, leb, ltb}
-use lib.Ieee.{Float, nan, inf, fin, up, down, nearest}
+use lib.Ieee.{Float, nan, inf, fin, nearest}
 use lib.Ieee.Fits.{down-pos}
 use lib.Ieee.Nearest.{closest, closest-mono}
 use Rattle.grid.specs.declared.GridNumber.the-variants.{Value}

@@ -1,6 +1,6 @@
 pub mod Value
 pub mod Round
-pub mod Times8
+pub mod Product
 pub mod Signs
 pub mod Agree
 pub mod HalfStep

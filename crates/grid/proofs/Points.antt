@@ -1,7 +1,7 @@
 -- The test of a grid coordinate by two comparisons, and what it says of the coordinate. Assumes nothing.
 use mathlib.Core.Path.{_≡_, refl, sym, ap, _∙_, subst}
 use mathlib.Core.Bool.{Bool, true, false, not, _&&_, and-true}
-use Prim.Native.Nat.{ℕ, zero, suc, _≤_, _<_}
+use Prim.Native.Nat.{ℕ, suc, _≤_, _<_}
 use native.Mathlib.Omega.{arith}
 use borrow.Author.Tests.{le-leb, lt-leb, leb-true, ltb-true, ltb-false}
 use lib.Dec.{T, leb, ltb}
@@ -45,14 +45,14 @@ on-grid-test (negsuc n) g = and-true (leb n 999) ∙ le-leb n 999 (back n (g .si
     back : (n : ℕ) → suc n ≤ 1000 → n ≤ 999
     back n k = omega arith
 
-both-true : (a b : Bool) → (a && b) ≡ true → (a ≡ true) × (b ≡ true)
-both-true true b h = (refl, h)
-both-true false b h = absurd (subst T (sym h) tt)
+and-parts : (a b : Bool) → (a && b) ≡ true → (a ≡ true) × (b ≡ true)
+and-parts true b h = (refl, h)
+and-parts false b h = absurd (subst T (sym h) tt)
 
 pub point-on-grid : (p : GridPoint) → pointOnGrid p ≡ true → PointOnGrid p
 point-on-grid p h =
-    let a = both-true (coordinateOnGrid (p .x)) (coordinateOnGrid (p .y) && coordinateOnGrid (p .z)) h in
-    let b = both-true (coordinateOnGrid (p .y)) (coordinateOnGrid (p .z)) (a .1) in
+    let a = and-parts (coordinateOnGrid (p .x)) (coordinateOnGrid (p .y) && coordinateOnGrid (p .z)) h in
+    let b = and-parts (coordinateOnGrid (p .y)) (coordinateOnGrid (p .z)) (a .1) in
     record { x = on-grid (p .x) (a .0); y = on-grid (p .y) (b .0); z = on-grid (p .z) (b .1) }
 
 pub point-on-grid-test : (p : GridPoint) → PointOnGrid p → pointOnGrid p ≡ true

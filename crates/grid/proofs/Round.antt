@@ -1,11 +1,10 @@
 -- The three cases of `closest`, and the number nearest to what a pattern below 1024 stands for. Assumes nothing.
 use mathlib.Core.Path.{_≡_, refl, sym, ap, _∙_, subst}
 use Prim.Native.Nat.{ℕ, zero, suc, _+_, _-_, _*_, _/_, _%_, _^_, _≤_, _<_, compare, Ordering, Ordering·lt, Ordering·eq, Ordering·gt}
-use native.Mathlib.Nat.{lt-irrefl, le-of-lt, not-le-of-lt, mul-comm, mul-assoc, mul-left-comm, mul-le-mul-left, mul-le-mul-right, mul-lt-mul-of-pos-right, lt-of-lt-of-le, lt-of-le-of-lt, le-trans, le-of-eq, zero-lt-suc, mod-lt, mod-eq-of-lt, div-eq-of-lt, div-le-self}
+use native.Mathlib.Nat.{lt-irrefl, le-of-lt, not-le-of-lt, mul-assoc, mul-le-mul-left, mul-lt-mul-of-pos-right, lt-of-lt-of-le, zero-lt-suc, mod-lt, mod-eq-of-lt, div-eq-of-lt, div-le-self}
 use native.Mathlib.Numerals.{add-one}
 use native.Mathlib.Omega.{arith}
-use mathlib.Core.Bool.{not}
-use lib.Dec.{T, isLe, isEq, eqb, leb→le, le→leb, nleb→lt, eqb→eq, eqb-refl}
+use lib.Dec.{T, isLe, isEq, eqb, leb→le, le→leb, eqb→eq, eqb-refl}
 use lib.Pow.{pow-pos, pow-mono, pow-add}
 use lib.Ieee.{nearest}
 use lib.Ieee.Nearest.{closest, closest-same}

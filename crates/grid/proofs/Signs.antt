@@ -1,4 +1,4 @@
--- The test for a NaN, and a number below 2 ^ 63 as an i32, with a sign. Assumes nothing.
+-- The test for a NaN, and a number below 2 ^ 63 as an i64, with a sign. Assumes nothing.
 use mathlib.Core.Path.{_≡_, refl, sym, ap, _∙_, subst}
 use mathlib.Core.Bool.{Bool, true, false, not}
 use Prim.Native.Nat.{ℕ, zero, suc, _^_, _≤_, _<_}
@@ -11,8 +11,7 @@ use lib.Ieee.Compare.{differs-from-itself, nan-differs}
 use mir.Syntax.{w64}
 use mir.Val.{SFits, toZ, ofZ}
 use mir.Facts.{toZ-pos, toZ-ofZ}
-use Rattle.grid.specs.declared.GridNumber.{GridNumber}
-use Rattle.grid.specs.declared.GridNumber.the-variants.{Value, NotFinite, OutOfRange}
+use Rattle.grid.specs.declared.GridNumber.the-variants.{NotFinite}
 use Rattle.grid.specs.Number.{finite, numerator, denominator, negative, signed, inRange, roundEighths, gridNumberOf}
 use Rattle.grid.proofs.Value.{nan-is}
 

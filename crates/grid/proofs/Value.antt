@@ -1,19 +1,16 @@
 -- What the fields of an f32's pattern say of its exact value. Assumes nothing.
 use mathlib.Core.Path.{_≡_, refl, sym, ap, _∙_, subst}
-use Prim.Native.Nat.{ℕ, zero, suc, _+_, _*_, _/_, _%_, _^_, _≤_, _<_, compare, Ordering, Ordering·lt, Ordering·eq, Ordering·gt}
-use native.Mathlib.Nat.{mul-comm, mul-assoc, mul-right-comm, eq-of-mul-eq-mul-right, mul-pos, mul-le-mul-right, le-of-mul-le-mul-right, le-trans, le-of-eq}
+use Prim.Native.Nat.{ℕ, zero, suc, _+_, _*_, _/_, _%_, _^_, _≤_, _<_}
+use native.Mathlib.Nat.{mul-assoc, mul-right-comm, eq-of-mul-eq-mul-right, mul-le-mul-right, le-of-mul-le-mul-right, le-trans, le-of-eq}
 use native.Mathlib.Omega.{arith}
-use mathlib.Core.Bool.{Bool, true, false, not, cond}
-use lib.IntN.{ℤ}
-use lib.Dec.{T, leb, ltb, eqb, not-T, eqb→eq, leb→le, le→leb}
-use lib.Pow.{pow-pos}
-use lib.Ieee.{Float, nan, inf, fin, binary32, up, down, odd, ofFields, ofBits, isNan, nanBits}
-use lib.Ieee.Bits.{cond-no, nanBits-is, nanBits-above}
+use mathlib.Core.Bool.{Bool, true, false, cond}
+use lib.Dec.{T, leb, eqb, not-T, eqb→eq, leb→le, le→leb}
+use lib.Ieee.{Float, nan, inf, fin, binary32, up, down, odd, ofFields, ofBits, isNan}
+use lib.Ieee.Bits.{cond-no}
 use lib.Ieee.Fits.{down-pos}
 use lib.Ieee.Exact.{HasValue, odd-sign}
 use lib.Ieee.Nearest.{closest, closest-same}
-use Rattle.grid.specs.declared.GridNumber.{GridNumber}
-use Rattle.grid.specs.declared.GridNumber.the-variants.{Value, NotFinite, OutOfRange}
+use Rattle.grid.specs.declared.GridNumber.the-variants.{Value, OutOfRange}
 use Rattle.grid.specs.Number.{finite, numerator, denominator, negative, signed, inRange, roundEighths, gridNumberOf}
 use Rattle.grid.specs.Pattern.{gridFraction, significand, exponent, units}
 

@@ -1,5 +1,4 @@
 -- The grid number of a float, from its exact value. A finite float is ± m * 2 ^ e, and 2 ^ e is the fraction up e / down e (`lib.Ieee`). Definitions only.
-use mathlib.Core.Path.{_≡_}
 use Prim.Native.Nat.{ℕ, _*_, _≤_}
 use mathlib.Core.Bool.{Bool, true, false, cond}
 use lib.IntN.{ℤ, pos, negℤ, natAbs, _-ℤ_, _*ℤ_}

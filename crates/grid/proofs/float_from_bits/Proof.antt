@@ -1,10 +1,10 @@
-use mathlib.Core.Path.{_≡_, refl, sym, ap, _∙_, subst}
-use mathlib.Core.Bool.{Bool, true, false, not}
-use Prim.Native.Nat.{ℕ, _%_}
+use mathlib.Core.Path.{_≡_, refl, sym, _∙_, subst}
+use mathlib.Core.Bool.{Bool, not}
+use Prim.Native.Nat.{_%_}
 use borrow.Author.Needs.{needs}
 use borrow.Author.Tests.{lt-ltb, le-ltb}
 use lib.Dec.{T}
-use lib.Ieee.{Float, nan, binary32, div, ofBits}
+use lib.Ieee.{nan, binary32, div, ofBits}
 use lib.Ieee.Bits.{nanBits-is, nanBits-above}
 use Rattle.grid.proofs.Value.{nan-is}
 use Rattle.grid.proofs.float_from_bits.Statement.{statement}

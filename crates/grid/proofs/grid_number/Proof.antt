@@ -1,13 +1,11 @@
-use mathlib.Core.Path.{_≡_, sym, ap, _∙_, subst}
-use mathlib.Core.Bool.{true}
+use mathlib.Core.Path.{sym, ap, _∙_, subst}
 use Prim.Native.Nat.{_^_, _<_}
-use borrow.Author.Needs.{needs}
 use borrow.Author.Tests.{le-leb, lt-leb}
 use lib.Dec.{T, leb}
 use lib.Ieee.{binary32, fits, toBits}
 use Rattle.grid.specs.declared.GridNumber.the-variants.{Value}
 use Rattle.grid.proofs.Signs.{at-nan, no-nan-left, small, negated-fits, plus, less}
-use Rattle.grid.proofs.Times8.{not-finite, too-far, product-no-nan, product-below, grid-is, grid-le}
+use Rattle.grid.proofs.Product.{not-finite, too-far, product-no-nan, product-below, grid-is, grid-le}
 use Rattle.grid.proofs.grid_number.Statement.{statement}
 use Rattle.grid.proofs.grid_number.Tie as tie
 use Rattle.grid.proofs.grid_number.Reads as reads

@@ -2,22 +2,21 @@
 use mathlib.Core.Path.{_≡_, refl, sym, ap, _∙_, subst}
 use mathlib.Core.Logic.{inl, inr}
 use Prim.Native.Nat.{ℕ, zero, suc, _+_, _-_, _*_, _/_, _%_, _^_, _≤_, _<_, compare}
-use native.Mathlib.Nat.{lt-irrefl, le-refl, le-of-lt, le-trans, le-of-eq, lt-of-lt-of-le, lt-of-le-of-lt, lt-of-not-le, not-le-of-lt, eq-or-lt-of-le, mul-one, mul-comm, mul-assoc, mul-right-comm, mul-left-comm, mul-le-mul-left, mul-le-mul-right, mul-lt-mul-of-pos-right, mul-lt-mul-of-pos-left, mul-pos, zero-lt-suc, eq-of-mul-eq-mul-right, pow-succ', div-le-of-le-mul}
+use native.Mathlib.Nat.{le-of-lt, le-trans, le-of-eq, lt-of-lt-of-le, lt-of-le-of-lt, lt-of-not-le, not-le-of-lt, eq-or-lt-of-le, mul-one, mul-comm, mul-assoc, mul-right-comm, mul-le-mul-left, mul-le-mul-right, mul-lt-mul-of-pos-right, mul-lt-mul-of-pos-left, zero-lt-suc, eq-of-mul-eq-mul-right, pow-succ', div-le-of-le-mul}
 use native.Mathlib.Omega.{arith}
 use mathlib.Core.Bool.{Bool, true, false, not, cond}
 use borrow.Author.Tests.{le-leb, lt-leb}
-use lib.IntN.{ℤ, pos, negℤ, _-ℤ_}
-use lib.Dec.{T, leb, ltb, eqb, leb→le, le→leb, nleb→lt}
+use lib.IntN.{ℤ}
+use lib.Dec.{T, leb, eqb, leb→le}
 use lib.Pow.{pow-pos, pow-mono, pow-add}
-use lib.Ieee.{Float, nan, inf, fin, binary32, up, down, odd, ofFields, ofBits, toBits, isNan, fits, mul, round, unlike, ne, nearest}
-use lib.Ieee.Bits.{ofBits-toBits, is-true}
-use lib.Ieee.Fits.{down-pos, mul-fits, nearest-le, eq→eqb}
+use lib.Ieee.{Float, nan, inf, fin, binary32, up, down, ofFields, ofBits, toBits, isNan, fits, mul, round}
+use lib.Ieee.Bits.{ofBits-toBits}
+use lib.Ieee.Fits.{down-pos, mul-fits, nearest-le}
 use lib.Ieee.Exact.{HasValue, round-exact}
 use lib.Ieee.Nearest.{closest}
-use Rattle.grid.specs.declared.GridNumber.{GridNumber}
 use Rattle.grid.specs.declared.GridNumber.the-variants.{Value, NotFinite, OutOfRange}
 use Rattle.grid.specs.Number.{finite, numerator, denominator, negative, signed, inRange, roundEighths, gridNumberOf}
-use Rattle.grid.specs.Pattern.{gridFraction, significand, exponent, units}
+use Rattle.grid.specs.Pattern.{significand, exponent, units}
 use Rattle.grid.proofs.Value.{ofBits-is, bits-value, value-unique, grid-value}
 use Rattle.grid.proofs.Round.{significand-lt, digits-lt}
 
