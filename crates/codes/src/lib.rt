@@ -2,15 +2,25 @@
 
 // The writer of the file.
 pub const LENGTH: u32 = 1;
+
 pub const AREA_FACTOR: u32 = 2;
+
 pub const LINK: u32 = 3;
+
 pub const RECORD_REPEATED: u32 = 4;
+
 pub const TOO_MANY_VERTICES: u32 = 5;
+
 pub const KIND: u32 = 6;
+
 pub const NO_HEIGHT: u32 = 7;
+
 pub const NOT_FINITE: u32 = 8;
+
 pub const OUT_OF_RANGE: u32 = 9;
+
 pub const TOO_FEW_VERTICES: u32 = 10;
+
 pub const VERTEX_REPEATED: u32 = 11;
 
 // The shape of the polygon.
@@ -21,6 +31,9 @@ pub const TABLE_TOO_SHORT: u32 = 13;
 
 // The lister of a direct job.
 pub const VERTEX_COUNT: u32 = 14;
+
 pub const CANDIDATE: u32 = 15;
+
 pub const ROW: u32 = 16;
+
 pub const WEIGHT: u32 = 17;

@@ -1,2 +1,4 @@
-pub mod Laws
+pub mod Choice
 pub mod Ranges
+pub mod Writing
+pub mod Counting

@@ -1,0 +1,112 @@
+-- The grid number is at most half a step from the exact 8v, and within the grid where 8v is in range. Assumes nothing.
+use mathlib.Core.Path.{_≡_, refl, sym, ap, _∙_, subst}
+use Prim.Native.Nat.{ℕ, zero, suc, _+_, _-_, _*_, _/_, _%_, _≤_, _<_, compare, Ordering, Ordering·lt, Ordering·eq, Ordering·gt}
+use native.Mathlib.Nat.{div-add-mod', mod-lt, suc-mul, mul-one, le-trans, le-of-eq, zero-lt-suc}
+use native.Mathlib.Omega.{arith}
+use mathlib.Core.Bool.{Bool, true, false, not, cond}
+use borrow.Author.Tests.{leb-true, ltb-true, ltb-false}
+use lib.IntN.{ℤ, pos, negsuc, negℤ, natAbs, _-ℤ_, _*ℤ_, negℤ-+ℤ, negsuc-*ℤ-pos, pos-*ℤ-pos}
+use lib.Dec.{T, isLe, isEq, leb→le, nleb→lt, eqb→eq, leb, ltb}
+use lib.Ieee.{Float, nan, inf, fin, nearest}
+use lib.Ieee.Fits.{down-pos}
+use lib.Ieee.Nearest.{closest, closest-mono}
+use Rattle.grid.specs.declared.GridNumber.the-variants.{Value}
+use Rattle.grid.specs.Number.{finite, numerator, denominator, negative, signed, inRange, roundEighths, gridNumberOf, HalfStep}
+use Rattle.grid.specs.Point.{OnGrid}
+
+-- ---- g is at most half a step from a / b
+record Near (a b g : ℕ) : Type 0 where
+  low : 2 * (g * b) ≤ 2 * a + b
+  high : 2 * a ≤ 2 * (g * b) + b
+
+at-whole : (a b q r : ℕ) → q * b + r ≡ a → r * 2 ≤ b → Near a b q
+at-whole a b q r e h = record { low = omega arith; high = omega arith }
+
+at-next : (a b q r : ℕ) → q * b + r ≡ a → r < b → b ≤ r * 2 → Near a b (suc q)
+at-next a b q r e l h = let s : suc q * b ≡ q * b + b = suc-mul q b in record { low = omega arith; high = omega arith }
+
+at-tie : (a b q r k : ℕ) → q * b + r ≡ a → r < b → r * 2 ≡ b → k < 2 → Near a b (q + k)
+at-tie a b q r zero e l h k = subst (λ (n : ℕ). Near a b n) (none q) (at-whole a b q r e (le-of-eq h))
+  where
+    none : (q : ℕ) → q ≡ q + 0
+    none q = omega arith
+at-tie a b q r (suc k) e l h i = subst (λ (n : ℕ). Near a b n) (one q k i) (at-next a b q r e l (le-of-eq (sym h)))
+  where
+    one : (q k : ℕ) → suc k < 2 → suc q ≡ q + suc k
+    one q k i = omega arith
+
+parity : (q : ℕ) → q % 2 < 2
+parity q = omega arith
+
+near : (a b : ℕ) → 0 < b → Near a b (closest a b)
+near a b B = go (compare (a % b * 2) b) (leb→le (a % b * 2) b) (nleb→lt (a % b * 2) b) (eqb→eq (a % b * 2) b)
+  where
+    go : (o : Ordering) → (T (isLe o) → a % b * 2 ≤ b) → (T (not (isLe o)) → b < a % b * 2) → (T (isEq o) → a % b * 2 ≡ b) → Near a b (nearest (a / b) o)
+    go Ordering·lt h k e = at-whole a b (a / b) (a % b) (div-add-mod' a b) (h tt)
+    go Ordering·eq h k e = at-tie a b (a / b) (a % b) (a / b % 2) (div-add-mod' a b) (mod-lt a B) (e tt) (parity (a / b))
+    go Ordering·gt h k e = at-next a b (a / b) (a % b) (div-add-mod' a b) (mod-lt a B) (less (k tt))
+      where
+        less : {x y : ℕ} → x < y → x ≤ y
+        less {x} {y} p = omega arith
+
+-- ---- the same with a sign
+natAbs-neg : (z : ℤ) → natAbs (negℤ z) ≡ natAbs z
+natAbs-neg (pos zero) = refl
+natAbs-neg (pos (suc n)) = refl
+natAbs-neg (negsuc n) = refl
+
+distance : (x y k : ℕ) → 2 * x ≤ 2 * y + k → 2 * y ≤ 2 * x + k → 2 * natAbs (pos x -ℤ pos y) ≤ k
+distance x zero k h l = omega arith
+distance x (suc y) k h l = go (ltb x (suc y)) (ltb-true x (suc y)) (ltb-false x (suc y))
+  where
+    go : (t : Bool) → (t ≡ true → x < suc y) → (t ≡ false → suc y ≤ x) → 2 * natAbs (cond t (negsuc (suc y - suc x)) (pos (x - suc y))) ≤ k
+    go true a b = let c = a refl in omega arith
+    go false a b = let c = b refl in omega arith
+
+neg-times : (g b : ℕ) → negℤ (pos g) *ℤ pos b ≡ negℤ (pos (g * b))
+neg-times zero b = pos-*ℤ-pos 0 b ∙ ap pos (none b) ∙ ap (λ (n : ℕ). negℤ (pos n)) (sym (none b))
+  where
+    none : (b : ℕ) → 0 * b ≡ 0
+    none b = omega arith
+neg-times (suc g) b = negsuc-*ℤ-pos g b
+
+signed-distance : (s : Bool) (g b a : ℕ) → natAbs ((signed s g *ℤ pos b) -ℤ signed s a) ≡ natAbs (pos (g * b) -ℤ pos a)
+signed-distance false g b a = ap (λ (z : ℤ). natAbs (z -ℤ pos a)) (pos-*ℤ-pos g b)
+signed-distance true g b a =
+    ap (λ (z : ℤ). natAbs (z -ℤ negℤ (pos a))) (neg-times g b)
+    ∙ ap natAbs (sym (negℤ-+ℤ (pos (g * b)) (negℤ (pos a))))
+    ∙ natAbs-neg (pos (g * b) -ℤ pos a)
+
+pub denominator-pos : (v : Float) → 0 < denominator v
+unfolding denominator
+denominator-pos nan = zero-lt-suc 0
+denominator-pos (inf s) = zero-lt-suc 0
+denominator-pos (fin s m e) = down-pos e
+
+-- "The grid number is a whole number at most half a step from 8v."
+pub half-step : (v : Float) → finite v ≡ true → HalfStep v (roundEighths v)
+unfolding roundEighths
+half-step v f =
+    let a = numerator v in
+    let b = denominator v in
+    let g = closest a b in
+    let n = near a b (denominator-pos v) in
+    record { near = subst (λ (k : ℕ). 2 * k ≤ b) (sym (signed-distance (negative v) g b a)) (distance (g * b) a b (n .low) (n .high)) }
+
+-- ---- in range, it is on the grid
+natAbs-signed : (s : Bool) (n : ℕ) → natAbs (signed s n) ≡ n
+natAbs-signed true n = natAbs-neg (pos n)
+natAbs-signed false n = refl
+
+pub in-range-on-grid : (v : Float) → inRange v ≡ true → OnGrid (roundEighths v)
+unfolding inRange roundEighths
+in-range-on-grid v h =
+    let a = numerator v in
+    let b = denominator v in
+    let r : a ≤ 1000 * b = leb-true a (1000 * b) h in
+    record { size = le-trans (le-of-eq (natAbs-signed (negative v) (closest a b))) (closest-mono a b 1000 1 (denominator-pos v) (zero-lt-suc 0) (le-trans (le-of-eq (mul-one a)) r)) }
+
+-- "Minus zero is zero."
+pub minus-zero : gridNumberOf (fin true 0 (pos 0)) ≡ Value (pos 0)
+unfolding gridNumberOf finite inRange roundEighths numerator denominator negative
+minus-zero = refl

@@ -1,0 +1,28 @@
+-- The value of an f32's bit pattern in whole numbers, with no word of floats. Definitions only.
+use Prim.Native.Nat.{ℕ, zero, suc, _+_, _*_, _/_, _%_, _^_}
+use mathlib.Core.Bool.{Bool, cond}
+use lib.Dec.{leb}
+use lib.Ieee.Nearest.{closest}
+use Rattle.grid.specs.declared.GridNumber.{GridNumber}
+use Rattle.grid.specs.declared.GridNumber.the-variants.{Value, NotFinite, OutOfRange}
+use Rattle.grid.specs.Number.{signed}
+
+-- A finite pattern with no sign bit, of the exponent field e and the digits t, is significand e t * 2 ^ exponent e units of 2 ^ -149.
+abbrev pub significand : ℕ → ℕ → ℕ
+significand zero t = t
+significand (suc e) t = 8388608 + t
+
+abbrev pub exponent : ℕ → ℕ
+exponent zero = 0
+exponent (suc e) = e
+
+abbrev pub units : ℕ → ℕ
+units c = significand (c / 8388608) (c % 8388608) * 2 ^ exponent (c / 8388608)
+
+-- the grid number for a value of the size a / 8b: within the range, or not
+abbrev pub gridFraction : Bool → ℕ → ℕ → GridNumber
+gridFraction s a b = cond (leb a (1000 * b)) (Value (signed s (closest a b))) OutOfRange
+
+-- the grid number from a pattern alone; proofs/Agree.antt shows that it is that of the pattern's value
+abbrev pub gridNumberOfBits : ℕ → GridNumber
+gridNumberOfBits b = cond (leb 2139095040 (b % 2147483648)) NotFinite (gridFraction (leb 2147483648 b) (8 * units (b % 2147483648)) (2 ^ 149))

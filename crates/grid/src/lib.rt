@@ -1,0 +1,125 @@
+// Grid points, and the grid number of a float: a step of the grid is an eighth of a millimetre.
+ghost use mathlib.Core.Path.{_≡_};
+ghost use Prim.Native.Nat.{_^_, _<_};
+ghost use lib.Ieee.{binary32, ofBits};
+ghost use lib.Ieee.Nearest as Nearest;
+ghost use Rattle.grid.specs.Number.{gridNumberOf};
+ghost use Rattle.grid.specs.Pattern.{units};
+ghost use Rattle.grid.specs.Point.{point, OnGrid, coordinateOnGrid, pointOnGrid};
+
+// A point in grid steps.
+pub struct GridPoint {
+    pub x: i64,
+    pub y: i64,
+    pub z: i64,
+}
+
+impl GridPoint {
+    pub const LOWEST: i64 = -1000;
+
+    pub const HIGHEST: i64 = 1000;
+
+    pub fn new(x: i64, y: i64, z: i64) -> GridPoint
+        requires { ⌜ (OnGrid x) × (OnGrid y) × (OnGrid z) ⌝ }
+        ensures { λ r. ⌜ r ≡ point x y z ⌝ }
+    {
+        GridPoint { x, y, z }
+    }
+
+    // Is each coordinate from LOWEST to HIGHEST?
+    pub fn on_grid(self) -> bool
+        ensures { λ r. ⌜ r ≡ pointOnGrid self ⌝ }
+    {
+        let x = self.x;
+        let y = self.y;
+        let z = self.z;
+        if !GridPoint::coordinate_on_grid(x) {
+            return false;
+        }
+        if !GridPoint::coordinate_on_grid(y) {
+            return false;
+        }
+        GridPoint::coordinate_on_grid(z)
+    }
+
+    fn coordinate_on_grid(c: i64) -> bool
+        ensures { λ r. ⌜ r ≡ coordinateOnGrid c ⌝ }
+    {
+        if c < GridPoint::LOWEST {
+            return false;
+        }
+        c <= GridPoint::HIGHEST
+    }
+}
+
+// What a float is on the grid.
+pub enum GridNumber {
+    Value(i64),
+    NotFinite,
+    OutOfRange,
+}
+
+// The value of a bit pattern. A NaN pattern is the NaN, which f32::from_bits does not cover.
+pub fn float_from_bits(bits: u32) -> f32
+    ensures { λ r. ⌜ r ≡ ofBits binary32 bits ⌝ }
+{
+    if bits % 0x8000_0000 > 0x7f80_0000 {
+        0.0 / 0.0
+    } else {
+        f32::from_bits(bits)
+    }
+}
+
+// The whole number nearest to a / b, at a tie the even one.
+fn closest(a: u32, b: u32) -> u32
+    requires { ⌜ (0 < b) × (b < 2 ^ 31) × (a < 2 ^ 31) ⌝ }
+    ensures { λ r. ⌜ r ≡ Nearest.closest a b ⌝ }
+{
+    let quotient = a / b;
+    let twice = a % b * 2;
+    if twice < b {
+        quotient
+    } else if b < twice {
+        quotient + 1
+    } else {
+        quotient + quotient % 2
+    }
+}
+
+// The whole number nearest to a float below 1024, from its pattern without the sign.
+fn rounded(pattern: u32) -> u32
+    requires { ⌜ pattern < 0x4480_0000 ⌝ }
+    ensures { λ r. ⌜ r ≡ Nearest.closest (units pattern) (2 ^ 149) ⌝ }
+{
+    if pattern < 0x3f00_0000 {
+        return 0;
+    }
+    let shift = 150 - pattern / 0x80_0000;
+    closest(0x80_0000 + pattern % 0x80_0000, 1 << shift)
+}
+
+// The grid number of a value in millimetres. The range is tested on v itself, before any rounding
+// (0x42fa_0000 is 125.0), and within it v * 8.0 is exact.
+pub fn grid_number(v: f32) -> GridNumber
+    ensures { λ r. ⌜ r ≡ gridNumberOf v ⌝ }
+{
+    if v != v {
+        return GridNumber::NotFinite;
+    }
+    let bits = f32::to_bits(v);
+    let size = bits % 0x8000_0000;
+    if 0x7f80_0000 <= size {
+        return GridNumber::NotFinite;
+    }
+    if 0x42fa_0000 < size {
+        return GridNumber::OutOfRange;
+    }
+    let eighths = v * 8.0;
+    let pattern = f32::to_bits(eighths);
+    let number = rounded(pattern % 0x8000_0000) as i64;
+    if bits < 0x8000_0000 {
+        GridNumber::Value(number)
+    } else {
+        GridNumber::Value(-number)
+    }
+}

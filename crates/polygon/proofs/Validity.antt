@@ -1,0 +1,84 @@
+-- No two vertices share a grid point exactly where the test finds none, and a polygon's code is 0 exactly where it is valid. Assumes nothing.
+use mathlib.Core.Path.{_≡_, refl, _∙_}
+use mathlib.Core.Bool.{Bool, true, false, cond}
+use mathlib.Core.List.{List}
+use Prim.Native.Nat.{ℕ, _<_}
+use native.Mathlib.Omega.{arith}
+use borrow.Author.Tests.{ltb-false, le-ltb}
+use lib.Dec.{ltb}
+use Rattle.grid.specs.declared.GridPoint.{GridPoint}
+use Rattle.grid.specs.Point.{PointOnGrid, pointOnGrid}
+use Rattle.grid.proofs.Points.{point-on-grid, point-on-grid-test}
+use Rattle.lists.specs.Lists.{some}
+use Rattle.lists.proofs.Choice.{yes, no}
+use Rattle.lists.proofs.Ranges.{every-at, every-all, some-none, some-here, some-nowhere, some-found}
+use Rattle.polygon.specs.declared.Polygon.{Polygon}
+use Rattle.polygon.specs.Polygon.{maxVertices, vertexAt, samePoint, repeatedVertex, verticesOnGrid, codeOf, Valid}
+use Rattle.polygon.proofs.Points.{point-equal, point-same}
+
+module _ (vertices : List GridPoint) (n : ℕ) where
+  pub repeated-none : repeatedVertex vertices n ≡ false → (i j : ℕ) → i < j → j < n → vertexAt vertices i ≡ vertexAt vertices j → ⊥
+  unfolding repeatedVertex
+  repeated-none h i j l k e =
+      some-none 0 n (λ j. some 0 j (λ i. samePoint (vertexAt vertices i) (vertexAt vertices j))) h j (omega arith) k
+      (some-here 0 j (λ i. samePoint (vertexAt vertices i) (vertexAt vertices j)) i (omega arith) l (point-same (vertexAt vertices i) (vertexAt vertices j) e))
+
+  pub repeated-nowhere : ((i j : ℕ) → i < j → j < n → vertexAt vertices i ≡ vertexAt vertices j → ⊥) → repeatedVertex vertices n ≡ false
+  unfolding repeatedVertex
+  repeated-nowhere d =
+      some-nowhere 0 n (λ j. some 0 j (λ i. samePoint (vertexAt vertices i) (vertexAt vertices j))) (λ j l k h.
+      let f = some-found 0 j (λ i. samePoint (vertexAt vertices i) (vertexAt vertices j)) h in
+      d (f .at) j (f .high) k (point-equal (vertexAt vertices (f .at)) (vertexAt vertices j) (f .true-at)))
+
+  pub on-grid-at : verticesOnGrid vertices n ≡ true → (i : ℕ) → i < n → PointOnGrid (vertexAt vertices i)
+  unfolding verticesOnGrid
+  on-grid-at h i l = point-on-grid (vertexAt vertices i) (every-at 0 n (λ i. pointOnGrid (vertexAt vertices i)) h i (omega arith) l)
+
+  pub on-grid-all : ((i : ℕ) → i < n → PointOnGrid (vertexAt vertices i)) → verticesOnGrid vertices n ≡ true
+  unfolding verticesOnGrid
+  on-grid-all h = every-all 0 n (λ i. pointOnGrid (vertexAt vertices i)) (λ i z l. point-on-grid-test (vertexAt vertices i) (h i l))
+
+-- six tests one after the other: the code is 0 exactly where each is passed
+tests : Bool → Bool → Bool → Bool → Bool → Bool → ℕ
+tests area bend most grid least same = cond area 2 (cond bend 2 (cond most 5 (cond grid (cond least 10 (cond same 11 0)) 9)))
+
+record Passed (t₁ t₂ t₃ t₄ t₅ t₆ : Bool) : Type 0 where
+  area : t₁ ≡ false
+  bend : t₂ ≡ false
+  most : t₃ ≡ false
+  grid : t₄ ≡ true
+  least : t₅ ≡ false
+  same : t₆ ≡ false
+
+passed : (t₁ t₂ t₃ t₄ t₅ t₆ : Bool) → tests t₁ t₂ t₃ t₄ t₅ t₆ ≡ 0 → Passed t₁ t₂ t₃ t₄ t₅ t₆
+unfolding tests
+passed false false false true false false h = record { area = refl; bend = refl; most = refl; grid = refl; least = refl; same = refl }
+passed true t₂ t₃ t₄ t₅ t₆ h = absurd (omega arith)
+passed false true t₃ t₄ t₅ t₆ h = absurd (omega arith)
+passed false false true t₄ t₅ t₆ h = absurd (omega arith)
+passed false false false false t₅ t₆ h = absurd (omega arith)
+passed false false false true true t₆ h = absurd (omega arith)
+passed false false false true false true h = absurd (omega arith)
+
+pub code-valid : (p : Polygon) → codeOf p ≡ 0 → Valid p
+unfolding codeOf tests
+code-valid p h =
+    let t = passed (ltb 16 (p .«area_factor»)) (ltb 65535 (p .«bend_factor»)) (ltb maxVertices (p .n)) (verticesOnGrid (p .vertices) (p .n)) (ltb (p .n) 3) (repeatedVertex (p .vertices) (p .n)) h in
+    record {
+      area-factor = ltb-false 16 (p .«area_factor») (t .area);
+      bend-factor = ltb-false 65535 (p .«bend_factor») (t .bend);
+      most = ltb-false maxVertices (p .n) (t .most);
+      on-grid = on-grid-at (p .vertices) (p .n) (t .grid);
+      least = ltb-false (p .n) 3 (t .least);
+      distinct = repeated-none (p .vertices) (p .n) (t .same);
+    }
+
+pub valid-code : (p : Polygon) → Valid p → codeOf p ≡ 0
+unfolding codeOf
+valid-code p v =
+    no _ _ (le-ltb 16 (p .«area_factor») (v .area-factor))
+    ∙ no _ _ (le-ltb 65535 (p .«bend_factor») (v .bend-factor))
+    ∙ no _ _ (le-ltb maxVertices (p .n) (v .most))
+    ∙ yes _ _ (on-grid-all (p .vertices) (p .n) (v .on-grid))
+    ∙ no _ _ (le-ltb (p .n) 3 (v .least))
+    ∙ no _ _ (repeated-nowhere (p .vertices) (p .n) (v .distinct))

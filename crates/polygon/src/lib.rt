@@ -1,0 +1,113 @@
+// Polygons on the grid. The boundary polygon is the "rim" of document 01.
+use grid::GridPoint;
+ghost use mathlib.Core.Path.{_≡_};
+ghost use Prim.Native.Nat.{_≤_};
+ghost use Rattle.polygon.specs.Polygon.{maxVertices, emptyPolygon, samePoint, repeatedVertex, verticesOnGrid, codeOf};
+
+pub const MIN_VERTICES: usize = 3;
+
+pub const MAX_VERTICES: usize = 64;
+
+pub const MAX_AREA_FACTOR: u32 = 16;
+
+pub const MAX_BEND_FACTOR: u32 = 65535;
+
+// The vertices are the first n places; the places after them belong to no vertex.
+pub struct Polygon {
+    pub n: usize,
+    pub area_factor: u32,
+    pub bend_factor: u32,
+    pub vertices: [GridPoint; MAX_VERTICES],
+}
+
+impl Polygon {
+    // What stands for a polygon where a file is refused.
+    pub fn empty() -> Polygon
+        ensures { λ r. ⌜ r ≡ emptyPolygon ⌝ }
+    {
+        let vertices = [GridPoint { x: 0, y: 0, z: 0 }; MAX_VERTICES];
+        Polygon {
+            n: 0,
+            area_factor: 0,
+            bend_factor: 0,
+            vertices,
+        }
+    }
+}
+
+fn same_point(p: GridPoint, q: GridPoint) -> bool
+    ensures { λ r. ⌜ r ≡ samePoint p q ⌝ }
+{
+    let px = p.x;
+    let qx = q.x;
+    let py = p.y;
+    let qy = q.y;
+    let pz = p.z;
+    let qz = q.z;
+    if px != qx {
+        return false;
+    }
+    if py != qy {
+        return false;
+    }
+    pz == qz
+}
+
+// Do two of the first n vertices share a grid point?
+pub fn has_repeated_vertex(vertices: [GridPoint; MAX_VERTICES], n: usize) -> bool
+    requires { ⌜ n ≤ maxVertices ⌝ }
+    ensures { λ r. ⌜ r ≡ repeatedVertex vertices n ⌝ }
+{
+    for j in 0..n {
+        let q = vertices[j];
+        for i in 0..j {
+            let p = vertices[i];
+            if same_point(p, q) {
+                return true;
+            }
+        }
+    }
+    false
+}
+
+fn vertices_on_grid(vertices: [GridPoint; MAX_VERTICES], n: usize) -> bool
+    requires { ⌜ n ≤ maxVertices ⌝ }
+    ensures { λ r. ⌜ r ≡ verticesOnGrid vertices n ⌝ }
+{
+    for i in 0..n {
+        let p = vertices[i];
+        if !p.on_grid() {
+            return false;
+        }
+    }
+    true
+}
+
+// The error code due on a polygon, which a caller may have built by hand; 0 where none is.
+pub fn polygon_code(p: Polygon) -> u32
+    ensures { λ r. ⌜ r ≡ codeOf p ⌝ }
+{
+    let n = p.n;
+    let area_factor = p.area_factor;
+    let bend_factor = p.bend_factor;
+    let vertices = p.vertices;
+    if MAX_AREA_FACTOR < area_factor {
+        return codes::AREA_FACTOR;
+    }
+    if MAX_BEND_FACTOR < bend_factor {
+        return codes::AREA_FACTOR;
+    }
+    if MAX_VERTICES < n {
+        return codes::TOO_MANY_VERTICES;
+    }
+    if !vertices_on_grid(vertices, n) {
+        return codes::OUT_OF_RANGE;
+    }
+    if n < MIN_VERTICES {
+        return codes::TOO_FEW_VERTICES;
+    }
+    if has_repeated_vertex(vertices, n) {
+        return codes::VERTEX_REPEATED;
+    }
+    0
+}

@@ -1,0 +1,4 @@
+pub mod Numbers
+pub mod Vertices
+pub mod Lengths
+pub mod Walking

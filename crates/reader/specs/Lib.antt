@@ -1,0 +1,5 @@
+pub mod File
+pub mod Record
+pub mod Chain
+pub mod Reading
+pub mod Steps

@@ -1,0 +1,48 @@
+-- The reader's answer: the polygon, or the first number due of 1 to 11. Document 01, "Who causes which number". Definitions only.
+use Prim.Native.Nat.{ℕ, zero, suc}
+use mathlib.Core.Bool.{Bool, cond}
+use mathlib.Core.List.{List}
+use lib.Dec.{ltb, eqb}
+use Rattle.polygon.specs.Polygon.{emptyPolygon, repeatedVertex}
+use Rattle.polygon.specs.declared.Polygon.{Polygon}
+use Rattle.reader.specs.File.{areaFactor, bendFactor, lengthWrong}
+use Rattle.reader.specs.Chain.{chainCode, vertexCount, verticesOf}
+use Rattle.reader.specs.declared.Status.{Status}
+use Rattle.reader.specs.declared.Status.the-variants.{Complete, Refused}
+use Rattle.reader.specs.declared.Reading.{Reading}
+
+-- the first of two numbers that is due
+abbrev pub firstDue : ℕ → ℕ → ℕ
+firstDue zero k = k
+firstDue (suc j) k = suc j
+
+-- "Order for a file: 1, 2, then record by record along the chain ..; then 10 to 13": the first number due of 1 to 11, 0 where none is
+unfoldable pub numberDue : List ℕ → ℕ
+numberDue s =
+    cond (lengthWrong s) 1
+    (cond (ltb 16 (areaFactor s)) 2
+    (firstDue (chainCode s)
+    (cond (ltb (vertexCount s) 3) 10
+    (cond (repeatedVertex (verticesOf s (vertexCount s)) (vertexCount s)) 11
+    0))))
+
+-- the polygon of a file on which no number is due
+abbrev pub polygonOf : List ℕ → Polygon
+polygonOf s = record { n = vertexCount s; «area_factor» = areaFactor s; «bend_factor» = bendFactor s; vertices = verticesOf s (vertexCount s) }
+
+-- document 01's number of each case of the answer
+abbrev pub statusNumber : Status → ℕ
+statusNumber Complete = 0
+statusNumber (Refused k) = k
+
+-- the answer that gives a number: with no polygon
+abbrev pub refusal : ℕ → Reading
+refusal k = record { status = Refused k; polygon = emptyPolygon }
+
+-- the answer with a number that is due, and with none
+abbrev pub answer : ℕ → Polygon → Reading
+answer zero p = record { status = Complete; polygon = p }
+answer (suc k) p = refusal (suc k)
+
+abbrev pub readingOf : List ℕ → Reading
+readingOf s = answer (numberDue s) (polygonOf s)

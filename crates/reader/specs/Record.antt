@@ -1,0 +1,60 @@
+-- One record: what it decodes to, and its vertex or the first number due on it. Document 01, "The rim file" and numbers 6 to 9. Definitions only.
+use Prim.Native.Nat.{ℕ, suc, zero}
+use mathlib.Core.Bool.{Bool, true, false, cond}
+use mathlib.Core.List.{List, [], _∷_}
+use lib.IntN.{ℤ, pos}
+use lib.Dec.{eqb}
+use lib.Ieee.{Float}
+use Rattle.lists.specs.Lists.{both}
+use Rattle.grid.specs.Number.{finite, inRange, roundEighths}
+use Rattle.grid.specs.Point.{point}
+use Rattle.grid.specs.declared.GridPoint.{GridPoint}
+use Rattle.reader.specs.File.{kind, firstNumber, secondNumber, thirdNumber, tailZero}
+use Rattle.reader.specs.declared.Coordinates.{Coordinates}
+use Rattle.reader.specs.declared.Height.{Height}
+use Rattle.reader.specs.declared.Height.the-variants.{Unknown, Known}
+use Rattle.reader.specs.declared.Record.{Record}
+use Rattle.reader.specs.declared.Record.the-variants.{Point, Level}
+use Rattle.reader.specs.declared.Record.the-variants as record-variants
+use Rattle.reader.specs.declared.Vertex.{Vertex}
+use Rattle.reader.specs.declared.Vertex.the-variants.{At}
+use Rattle.reader.specs.declared.Vertex.the-variants as vertex-variants
+
+-- is there a kind 1 before, whose height a level point takes?
+abbrev pub known : Height → Bool
+known Unknown = false
+known (Known h) = true
+
+abbrev pub heightOf : Height → ℤ
+heightOf Unknown = pos 0
+heightOf (Known h) = h
+
+-- "6 kind isn't 1 or 2. 7 a level point has no kind 1 before it. 8 .. or a level point's last four bytes aren't zero", of the record that starts at i
+unfoldable pub recordAt : List ℕ → ℕ → Bool → Record
+recordAt s i heightKnown =
+    cond (eqb (kind s i) 1)
+    (Point (record { x = firstNumber s i; y = secondNumber s i; z = thirdNumber s i }))
+    (cond (eqb (kind s i) 2)
+    (cond heightKnown
+    (cond (tailZero s i) (Level (firstNumber s i) (secondNumber s i)) (record-variants.Refused 8))
+    (record-variants.Refused 7))
+    (record-variants.Refused 6))
+
+-- "8 a used number is infinite or not a number", before "9 8v is out of range", of all used numbers of a record
+abbrev pub everyNumber : (Float → Bool) → List Float → Bool
+everyNumber P [] = true
+everyNumber P (v ∷ vs) = both (P v) (everyNumber P vs)
+
+unfoldable pub numbersCode : List Float → ℕ
+numbersCode vs = cond (everyNumber finite vs) (cond (everyNumber inRange vs) 0 9) 8
+
+-- the vertex, unless a number is due
+abbrev pub vertexUnless : ℕ → GridPoint → Vertex
+vertexUnless zero p = At p
+vertexUnless (suc k) p = vertex-variants.Refused (suc k)
+
+-- "Each point becomes a grid point by eighths of a millimetre"; a level point "takes that point's grid height"
+unfoldable pub vertexOf : Record → ℤ → Vertex
+vertexOf (Point c) h = vertexUnless (numbersCode (c .x ∷ c .y ∷ c .z ∷ [])) (point (roundEighths (c .x)) (roundEighths (c .y)) (roundEighths (c .z)))
+vertexOf (Level x y) h = vertexUnless (numbersCode (x ∷ y ∷ [])) (point (roundEighths x) (roundEighths y) h)
+vertexOf (record-variants.Refused k) h = vertex-variants.Refused k

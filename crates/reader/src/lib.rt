@@ -1,0 +1,99 @@
+// The rim reader: from the bytes of a rim file to its polygon, or the first number due of 1 to 11.
+mod bytes;
+mod records;
+mod walk;
+
+ghost use mathlib.Core.Path.{_≡_};
+ghost use Rattle.reader.specs.Reading.{refusal, readingOf};
+
+use grid::GridPoint;
+use polygon::Polygon;
+
+// The coordinates of a point, in millimetres.
+pub struct Coordinates {
+    pub x: f32,
+    pub y: f32,
+    pub z: f32,
+}
+
+// A record as it stands in the file: a point, a level point with no height of its own, or a number.
+pub enum Record {
+    Point(Coordinates),
+    Level(f32, f32),
+    Refused(u32),
+}
+
+// The grid height of the nearest point before, which a level point takes.
+pub enum Height {
+    Unknown,
+    Known(i64),
+}
+
+// A record's vertex, or a number.
+pub enum Vertex {
+    At(GridPoint),
+    Refused(u32),
+}
+
+// The chain followed to its end: its vertices, or a number and none.
+pub struct Chain {
+    pub code: u32,
+    pub n: usize,
+    pub vertices: [GridPoint; 64],
+}
+
+pub enum Status {
+    Complete,
+    Refused(u32),
+}
+
+// The reader's answer. The polygon is the empty one where the file is refused.
+pub struct Reading {
+    pub status: Status,
+    pub polygon: Polygon,
+}
+
+fn refused(code: u32) -> Reading
+    ensures { λ r. ⌜ r ≡ refusal code ⌝ }
+{
+    Reading {
+        status: Status::Refused(code),
+        polygon: Polygon::empty(),
+    }
+}
+
+// The polygon of a rim file, or the first number due of 1 to 11. Any bytes are taken.
+pub fn read_polygon(file: &[u8]) -> Reading
+    ensures { λ r. ⌜ r ≡ readingOf (now (file .entry)) ⌝ }
+{
+    if bytes::length_wrong(file) {
+        return refused(codes::LENGTH);
+    }
+    let area_factor = bytes::u16_at(file, 4);
+    if 16 < area_factor {
+        return refused(codes::AREA_FACTOR);
+    }
+    let chain = walk::follow_chain(file);
+    let code = chain.code;
+    if code != 0 {
+        return refused(code);
+    }
+    let n = chain.n;
+    if n < 3 {
+        return refused(codes::TOO_FEW_VERTICES);
+    }
+    let vertices = chain.vertices;
+    if polygon::has_repeated_vertex(vertices, n) {
+        return refused(codes::VERTEX_REPEATED);
+    }
+    let bend_factor = bytes::u16_at(file, 6);
+    Reading {
+        status: Status::Complete,
+        polygon: Polygon {
+            n,
+            area_factor,
+            bend_factor,
+            vertices,
+        },
+    }
+}
