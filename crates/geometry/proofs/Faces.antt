@@ -8,13 +8,14 @@ use lib.Dec.{T, lit<, lit≤}
 use lib.IntN.{ℤ, pos, negsuc, natAbs, _+ℤ_, _-ℤ_, _*ℤ_}
 use lib.Signed.{nonNeg}
 use Rattle.grid.specs.declared.GridPoint.{GridPoint}
+use Rattle.grid.specs.Point.{PointOnGrid}
 use Rattle.geometry.specs.declared.Vector.{Vector}
 use Rattle.integers.specs.Bounds.{AtMost}
 use Rattle.integers.specs.Rounding.{floorDiv}
 use Rattle.integers.proofs.Laws.{square-is}
 use Rattle.integers.proofs.Bounds.{mul-le}
 use Rattle.integers.proofs.Rounding.{floor-root-le, floor-root-above-0, floor-root-square, clamped-range}
-use Rattle.geometry.specs.Vectors.{dotOf, squareOf, OnGrid, Within}
+use Rattle.geometry.specs.Vectors.{dotOf, squareOf, Within}
 use Rattle.geometry.specs.Faces.{normalOf, lengthOf, areaWeightOf, ratioOf, bendOf, bendWeightOf}
 use Rattle.geometry.proofs.Vectors.{within-difference, within-cross, at-most-dot}
 
@@ -25,7 +26,7 @@ square-natural v = λ i. square-is (v .x) i +ℤ square-is (v .y) i +ℤ square-
 pub square-nonneg : (v : Vector) → T (nonNeg (squareOf v))
 square-nonneg v = subst (λ (z : ℤ). T (nonNeg z)) (sym (square-natural v)) tt
 
-pub normal-within : {a b c : GridPoint} → OnGrid a → OnGrid b → OnGrid c → Within 8000000 (normalOf a b c)
+pub normal-within : {a b c : GridPoint} → PointOnGrid a → PointOnGrid b → PointOnGrid c → Within 8000000 (normalOf a b c)
 normal-within h k l = within-cross (within-difference k h) (within-difference l h)
 
 pub normals-dot : {n k : Vector} → Within 8000000 n → Within 8000000 k → AtMost 192000000000000 (dotOf n k)

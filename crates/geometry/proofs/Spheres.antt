@@ -6,19 +6,20 @@ use lib.Dec.{T, leb}
 use lib.IntN.{ℤ, pos, _+ℤ_, _-ℤ_, _*ℤ_}
 use lib.Signed.{ltZ}
 use Rattle.grid.specs.declared.GridPoint.{GridPoint}
+use Rattle.grid.specs.Point.{PointOnGrid}
 use Rattle.geometry.specs.declared.Vector.{Vector}
 use Rattle.geometry.specs.declared.sphere.Lifted.{Lifted}
 use Rattle.geometry.specs.declared.sphere.Pencil.{Pencil}
 use Rattle.geometry.specs.declared.sphere.Sphere.{Sphere}
 use Rattle.integers.specs.Bounds.{AtMost}
 use Rattle.integers.proofs.Bounds.{at-most-sub}
-use Rattle.geometry.specs.Vectors.{differenceOf, dotOf, crossOf, squareOf, scaledBy, plus, minus, OnGrid, Within}
+use Rattle.geometry.specs.Vectors.{differenceOf, dotOf, crossOf, squareOf, scaledBy, plus, minus, Within}
 use Rattle.geometry.specs.Spheres.{orientOf, centreOf, distanceOf, positionOf, liftOf, pencilOf, turned, sphereOf, powerOf, positionBy, LiftedBounds, PencilBounds, SphereBounds}
 use Rattle.geometry.proofs.Vectors.{within-difference, within-plus, within-minus, within-scaled, within-cross, at-most-dot}
 
 -- ---- bounds
 
-pub lift-bounds : {base p : GridPoint} → OnGrid base → OnGrid p → LiftedBounds (liftOf base p)
+pub lift-bounds : {base p : GridPoint} → PointOnGrid base → PointOnGrid p → LiftedBounds (liftOf base p)
 lift-bounds h k = let d = within-difference k h in record { vector-in = d; square-in = at-most-dot d d }
 
 pub pencil-bounds : {u v : Lifted} → LiftedBounds u → LiftedBounds v → PencilBounds (pencilOf u v)

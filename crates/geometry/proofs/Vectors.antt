@@ -4,13 +4,18 @@ use Prim.Native.Nat.{ℕ, _+_, _*_}
 use lib.Dec.{T, leb}
 use lib.IntN.{ℤ, _*ℤ_}
 use Rattle.grid.specs.declared.GridPoint.{GridPoint}
+use Rattle.grid.specs.Point.{OnGrid, PointOnGrid}
 use Rattle.geometry.specs.declared.Vector.{Vector}
 use Rattle.integers.specs.Bounds.{AtMost, largest}
 use Rattle.integers.proofs.Bounds.{at-most-add, at-most-sub, at-most-mul, at-most-le}
-use Rattle.geometry.specs.Vectors.{differenceOf, dotOf, crossOf, squareOf, scaledBy, plus, minus, OnGrid, Within, ProductsFit, third}
+use Rattle.geometry.specs.Vectors.{differenceOf, dotOf, crossOf, squareOf, scaledBy, plus, minus, Within, ProductsFit, third}
 
-pub within-difference : {p q : GridPoint} → OnGrid p → OnGrid q → Within 2000 (differenceOf p q)
-within-difference h k = record { in-x = at-most-sub (h .on-x) (k .on-x); in-y = at-most-sub (h .on-y) (k .on-y); in-z = at-most-sub (h .on-z) (k .on-z) }
+-- a grid coordinate
+pub coordinate : {c : ℤ} → OnGrid c → AtMost 1000 c
+coordinate h = record { size = h .size }
+
+pub within-difference : {p q : GridPoint} → PointOnGrid p → PointOnGrid q → Within 2000 (differenceOf p q)
+within-difference h k = record { in-x = at-most-sub (coordinate (h .x)) (coordinate (k .x)); in-y = at-most-sub (coordinate (h .y)) (coordinate (k .y)); in-z = at-most-sub (coordinate (h .z)) (coordinate (k .z)) }
 
 module _ {m n : ℕ} {u v : Vector} (h : Within m u) (k : Within n v) where
   pub within-plus : Within (m + n) (plus u v)

@@ -30,12 +30,6 @@ plus u v = record { x = u .x +ℤ v .x; y = u .y +ℤ v .y; z = u .z +ℤ v .z }
 abbrev pub minus : Vector → Vector → Vector
 minus u v = record { x = u .x -ℤ v .x; y = u .y -ℤ v .y; z = u .z -ℤ v .z }
 
--- "grid coordinates run from −1000 to 1000"
-pub record OnGrid (p : GridPoint) : Type 0 where
-  pub on-x : AtMost 1000 (p .x)
-  pub on-y : AtMost 1000 (p .y)
-  pub on-z : AtMost 1000 (p .z)
-
 -- each coordinate is at most n away from 0
 pub record Within (n : ℕ) (v : Vector) : Type 0 where
   pub in-x : AtMost n (v .x)

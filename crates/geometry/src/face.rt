@@ -6,13 +6,14 @@ use crate::dot;
 use grid::GridPoint;
 
 ghost use mathlib.Core.Path.{_≡_};
+ghost use Rattle.grid.specs.Point.{PointOnGrid};
 ghost use Prim.Native.Nat.{_≤_, _<_};
 ghost use Rattle.integers.specs.Bounds.{AtMost};
-ghost use Rattle.geometry.specs.Vectors.{OnGrid, Within};
+ghost use Rattle.geometry.specs.Vectors.{Within};
 ghost use Rattle.geometry.specs.Faces.{normalOf, lengthOf, areaWeightOf, bendOf, bendWeightOf};
 
 pub fn normal(a: GridPoint, b: GridPoint, c: GridPoint) -> Vector
-    requires { ⌜ (OnGrid a) × (OnGrid b) × (OnGrid c) ⌝ }
+    requires { ⌜ (PointOnGrid a) × (PointOnGrid b) × (PointOnGrid c) ⌝ }
     ensures { λ r. ⌜ r ≡ normalOf a b c ⌝ }
 {
     let u = difference(b, a);

@@ -5,13 +5,14 @@ pub mod face;
 pub mod sphere;
 
 ghost use mathlib.Core.Path.{_≡_};
-ghost use Rattle.geometry.specs.Vectors.{OnGrid, ProductsFit, differenceOf, dotOf, crossOf};
+ghost use Rattle.grid.specs.Point.{PointOnGrid};
+ghost use Rattle.geometry.specs.Vectors.{ProductsFit, differenceOf, dotOf, crossOf};
 
 pub struct Vector { pub x: i64, pub y: i64, pub z: i64 }
 
 // From q to p.
 pub fn difference(p: GridPoint, q: GridPoint) -> Vector
-    requires { ⌜ (OnGrid p) × (OnGrid q) ⌝ }
+    requires { ⌜ (PointOnGrid p) × (PointOnGrid q) ⌝ }
     ensures { λ r. ⌜ r ≡ differenceOf p q ⌝ }
 {
     let px = p.x;

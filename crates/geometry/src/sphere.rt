@@ -6,8 +6,9 @@ use crate::dot;
 use grid::GridPoint;
 
 ghost use mathlib.Core.Path.{_≡_};
+ghost use Rattle.grid.specs.Point.{PointOnGrid};
 ghost use Rattle.integers.specs.Bounds.{AtMost};
-ghost use Rattle.geometry.specs.Vectors.{OnGrid, Within, scaledBy, plus, minus};
+ghost use Rattle.geometry.specs.Vectors.{Within, scaledBy, plus, minus};
 ghost use Rattle.geometry.specs.Spheres.{LiftedBounds, PencilBounds, SphereBounds, liftOf, pencilOf, turned, sphereOf, positionBy};
 
 // A point as seen from the base, with its squared distance: the lifting map of Delaunay triangulation.
@@ -22,7 +23,7 @@ pub struct Sphere { pub orient: i64, pub centre: Vector }
 pub enum Position { Inside, On, Outside }
 
 pub fn lift(base: GridPoint, p: GridPoint) -> Lifted
-    requires { ⌜ (OnGrid base) × (OnGrid p) ⌝ }
+    requires { ⌜ (PointOnGrid base) × (PointOnGrid p) ⌝ }
     ensures { λ r. ⌜ r ≡ liftOf base p ⌝ }
 {
     let vector = difference(p, base);
