@@ -1,3 +1,4 @@
 pub mod Vectors
+pub mod Terms
 pub mod Spheres
 pub mod Faces

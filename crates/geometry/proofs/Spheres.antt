@@ -1,20 +1,28 @@
 -- The sphere that the code computes: its bounds, and that it is the sphere of the definitions. Assumes nothing.
 use mathlib.Core.Path.{_≡_, refl, sym, _∙_, ap, subst}
+use mathlib.Core.List.{List, [], _∷_}
 use mathlib.Core.Bool.{Bool, true, false, cond}
-use Prim.Native.Nat.{ℕ, zero, _+_, _*_, _≤_}
+use Prim.Native.Nat.{ℕ, zero, suc, _+_, _*_, _≤_}
+use native.Mathlib.Omega.{arith}
 use lib.Dec.{T, leb}
-use lib.IntN.{ℤ, pos, _+ℤ_, _-ℤ_, _*ℤ_}
+use borrow.Author.Tests.{ne-eqb}
+use lib.IntN.{ℤ, pos, negsuc, _+ℤ_, _-ℤ_, _*ℤ_, +ℤ-idl}
 use lib.Signed.{ltZ}
+use Rattle.integers.specs.Order.{equal}
 use Rattle.grid.specs.declared.GridPoint.{GridPoint}
 use Rattle.grid.specs.Point.{PointOnGrid}
 use Rattle.geometry.specs.declared.Vector.{Vector}
 use Rattle.geometry.specs.declared.sphere.Lifted.{Lifted}
 use Rattle.geometry.specs.declared.sphere.Pencil.{Pencil}
 use Rattle.geometry.specs.declared.sphere.Sphere.{Sphere}
+use Rattle.geometry.specs.declared.sphere.Position.the-variants.{Inside, On, Outside}
 use Rattle.integers.specs.Bounds.{AtMost}
+use Rattle.integers.proofs.Ring.{E, var, con, _:+_, _:-_, _:*_, ring}
+use Rattle.geometry.proofs.Terms.{VectorE, vec, dotE, crossE, scaledE, plusE, minusE}
 use Rattle.integers.proofs.Bounds.{at-most-sub}
+use Rattle.integers.proofs.Order.{equal-is, less-by-multiple, equal-by-multiple, product-suc, not-below, true≢false}
 use Rattle.geometry.specs.Vectors.{differenceOf, dotOf, crossOf, squareOf, scaledBy, plus, minus, Within}
-use Rattle.geometry.specs.Spheres.{orientOf, centreOf, distanceOf, positionOf, liftOf, pencilOf, turned, sphereOf, powerOf, positionBy, LiftedBounds, PencilBounds, SphereBounds}
+use Rattle.geometry.specs.Spheres.{orientOf, coplanar, centreOf, distanceOf, positionOf, liftOf, pencilOf, turned, sphereOf, powerOf, positionBy, LiftedBounds, PencilBounds, SphereBounds}
 use Rattle.geometry.proofs.Vectors.{within-difference, within-plus, within-minus, within-scaled, within-cross, at-most-dot}
 
 -- ---- bounds
@@ -42,3 +50,102 @@ sphere-bounds {k} {t} h l =
     turned-bounds (dotOf (k .normal) (t .vector)) (plus (crossOf (k .weighted) (t .vector)) (scaledBy (t .square) (k .normal)))
       (at-most-dot (h .normal-in) (l .vector-in))
       (within-plus (within-cross (h .weighted-in) (l .vector-in)) (within-scaled (l .square-in) (h .normal-in)))
+
+-- ---- the computed sphere is the one of the definitions
+
+module _ (u v t : Vector) where
+  abbrev values : List ℤ
+  values = u .x ∷ u .y ∷ u .z ∷ v .x ∷ v .y ∷ v .z ∷ t .x ∷ t .y ∷ t .z ∷ []
+
+  abbrev pencilCentreE : VectorE
+  pencilCentreE =
+      plusE (crossE (minusE (scaledE (dotE (vec 0) (vec 0)) (vec 3)) (scaledE (dotE (vec 3) (vec 3)) (vec 0))) (vec 6))
+        (scaledE (dotE (vec 6) (vec 6)) (crossE (vec 0) (vec 3)))
+
+  abbrev centreE : VectorE
+  centreE = plusE (plusE (scaledE (dotE (vec 0) (vec 0)) (crossE (vec 3) (vec 6))) (scaledE (dotE (vec 3) (vec 3)) (crossE (vec 6) (vec 0)))) (scaledE (dotE (vec 6) (vec 6)) (crossE (vec 0) (vec 3)))
+
+  triple-product : dotOf (crossOf u v) t ≡ dotOf u (crossOf v t)
+  triple-product = ring values (dotE (crossE (vec 0) (vec 3)) (vec 6)) (dotE (vec 0) (crossE (vec 3) (vec 6))) tt
+
+  pencil-centre :
+    plus (crossOf (minus (scaledBy (squareOf u) v) (scaledBy (squareOf v) u)) t) (scaledBy (squareOf t) (crossOf u v))
+    ≡ plus (plus (scaledBy (squareOf u) (crossOf v t)) (scaledBy (squareOf v) (crossOf t u))) (scaledBy (squareOf t) (crossOf u v))
+  pencil-centre = λ i. record {
+    x = ring values (pencilCentreE .X) (centreE .X) tt i;
+    y = ring values (pencilCentreE .Y) (centreE .Y) tt i;
+    z = ring values (pencilCentreE .Z) (centreE .Z) tt i }
+
+module _ (p q r s : GridPoint) where
+  -- what the code computes of four corners
+  abbrev pub computedSphere : Sphere
+  computedSphere = sphereOf (pencilOf (liftOf p q) (liftOf p r)) (liftOf p s)
+
+  pub sphere-is : computedSphere ≡ turned (orientOf p q r s) (centreOf p q r s)
+  unfolding orientOf centreOf
+  sphere-is = λ i. turned (triple-product (differenceOf q p) (differenceOf r p) (differenceOf s p) i) (pencil-centre (differenceOf q p) (differenceOf r p) (differenceOf s p) i)
+
+-- the difference of two squared distances from a centre is a multiple of the power
+module _ (o : ℤ) (b v : Vector) (p : GridPoint) where
+  abbrev atE : E → VectorE → VectorE → E
+  atE k c d = let w = minusE (scaledE (con (pos 2) :* k) d) c in dotE w w
+
+  abbrev distancesE : E
+  distancesE = atE (var 0) (vec 1) (vec 4) :- atE (var 0) (vec 1) (minusE (vec 7) (vec 7))
+
+  abbrev distances : ℤ
+  distances = squareOf (minus (scaledBy (pos 2 *ℤ o) v) b) -ℤ squareOf (minus (scaledBy (pos 2 *ℤ o) (differenceOf p p)) b)
+
+  abbrev known : List ℤ
+  known = o ∷ b .x ∷ b .y ∷ b .z ∷ v .x ∷ v .y ∷ v .z ∷ p .x ∷ p .y ∷ p .z ∷ []
+
+  abbrev opposite : Vector
+  opposite = record { x = pos 0 -ℤ b .x; y = pos 0 -ℤ b .y; z = pos 0 -ℤ b .z }
+
+  abbrev oppositeE : VectorE
+  oppositeE = record { X = con (pos 0) :- var 1; Y = con (pos 0) :- var 2; Z = con (pos 0) :- var 3 }
+
+  distances-power : distances ≡ (pos 4 *ℤ o) *ℤ (o *ℤ squareOf v -ℤ dotOf b v)
+  distances-power = ring known distancesE ((con (pos 4) :* var 0) :* (var 0 :* dotE (vec 4) (vec 4) :- dotE (vec 1) (vec 4))) tt
+
+  distances-opposite : distances ≡ (pos 4 *ℤ (pos 0 -ℤ o)) *ℤ ((pos 0 -ℤ o) *ℤ squareOf v -ℤ dotOf opposite v)
+  distances-opposite = ring known distancesE ((con (pos 4) :* (con (pos 0) :- var 0)) :* ((con (pos 0) :- var 0) :* dotE (vec 4) (vec 4) :- dotE oppositeE (vec 4))) tt
+
+-- the position by two distances, and by the power of which their difference is a positive multiple
+by-multiple : (n : ℕ) (a d c : ℤ) → a -ℤ d ≡ (pos 4 *ℤ pos (suc n)) *ℤ c →
+  cond (ltZ c (pos 0)) Inside (cond (equal c (pos 0)) On Outside) ≡ cond (ltZ a d) Inside (cond (equal a d) On Outside)
+by-multiple n a d c e =
+    let k = 3 * n + 3 + n in
+    let f : a -ℤ d ≡ pos (suc k) *ℤ c = e ∙ ap (λ (x : ℕ). pos x *ℤ c) (product-suc 3 n) in
+    sym (λ i. cond (less-by-multiple k a d c f i) Inside (cond (equal-by-multiple k a d c f i) On Outside))
+
+module _ (p q r s w : GridPoint) where
+  placed : (o : ℤ) → orientOf p q r s ≡ o → (o ≡ pos 0 → ⊥) → positionBy (turned o (centreOf p q r s)) (liftOf p w) ≡ positionOf p q r s w
+  unfolding positionOf distanceOf
+  placed (pos zero) e h = absurd (h refl)
+  placed (pos (suc n)) e h =
+      let b = centreOf p q r s in
+      let v = differenceOf w p in
+      let power = pos (suc n) *ℤ squareOf v -ℤ dotOf b v in
+      ap (λ (t : Bool). positionBy (cond t (record { orient = pos 0 -ℤ pos (suc n); centre = opposite (pos (suc n)) b v p }) (record { orient = pos (suc n); centre = b })) (liftOf p w)) (not-below (suc n))
+      ∙ by-multiple n (distanceOf p q r s w) (distanceOf p q r s p) power (ap (λ (o : ℤ). distances o b v p) e ∙ distances-power (pos (suc n)) b v p)
+  placed (negsuc n) e h =
+      let b = centreOf p q r s in
+      let v = differenceOf w p in
+      let o = pos 0 -ℤ negsuc n in
+      let power = o *ℤ squareOf v -ℤ dotOf (opposite (negsuc n) b v p) v in
+      by-multiple n (distanceOf p q r s w) (distanceOf p q r s p) power (ap (λ (z : ℤ). distances z b v p) e ∙ distances-opposite (negsuc n) b v p ∙ ap (λ (z : ℤ). (pos 4 *ℤ z) *ℤ power) (+ℤ-idl (pos (suc n))))
+
+  -- where the code puts a vertex, and where it lies by the distance from the centre
+  pub position-is : coplanar p q r s ≡ false → positionBy (computedSphere p q r s) (liftOf p w) ≡ positionOf p q r s w
+  position-is h =
+      ap (λ (k : Sphere). positionBy k (liftOf p w)) (sphere-is p q r s)
+      ∙ placed (orientOf p q r s) refl (λ e. true≢false (sym (equal-is e) ∙ h))
+
+-- the code's orientation is 0 where the four are in one plane
+turned-orient : (o : ℤ) (c : Vector) → equal (turned o c .orient) (pos 0) ≡ equal o (pos 0)
+turned-orient (pos n) c = ap (λ (t : Bool). equal (cond {A = Sphere} t (record { orient = pos 0 -ℤ pos n; centre = record { x = pos 0 -ℤ c .x; y = pos 0 -ℤ c .y; z = pos 0 -ℤ c .z } }) (record { orient = pos n; centre = c }) .orient) (pos 0)) (not-below n)
+turned-orient (negsuc n) c = ap (λ (z : ℤ). equal z (pos 0)) (+ℤ-idl (pos (suc n))) ∙ ne-eqb (suc n) 0 (λ e. omega arith)
+
+pub coplanar-is : (p q r s : GridPoint) → equal (computedSphere p q r s .orient) (pos 0) ≡ coplanar p q r s
+coplanar-is p q r s = ap (λ (k : Sphere). equal (k .orient) (pos 0)) (sphere-is p q r s) ∙ turned-orient (orientOf p q r s) (centreOf p q r s)

@@ -12,7 +12,7 @@ use mir.Val.{SFits, ofZ}
 use Rattle.integers.specs.Order.{equal}
 use Rattle.integers.proofs.Laws.{sub-zero, sub-self}
 
-true≢false : {X : Type 0} → true ≡ false → X
+pub true≢false : {X : Type 0} → true ≡ false → X
 true≢false e = absurd (subst T e tt)
 
 -- ---- equality
@@ -46,7 +46,7 @@ ltb-sub a b = go (ltb a b)
     go true = refl
     go false = le-ltb (a - b) 0 (omega arith)
 
-not-below : (n : ℕ) → ltb n 0 ≡ false
+pub not-below : (n : ℕ) → ltb n 0 ≡ false
 not-below n = le-ltb n 0 (omega arith)
 
 pub less-by-difference : (a b : ℤ) → ltZ a b ≡ ltZ (a -ℤ b) (pos 0)
@@ -70,7 +70,7 @@ equal-by-difference a b = go (equal a b) refl
 
 -- ---- a positive factor
 
-product-suc : (k n : ℕ) → suc k * suc n ≡ suc (k * n + k + n)
+pub product-suc : (k n : ℕ) → suc k * suc n ≡ suc (k * n + k + n)
 product-suc k n = omega arith
 
 module _ (k : ℕ) where
@@ -92,3 +92,10 @@ zero-bits (negsuc n) f e = let g : n < 2 ^ 63 = f .sfits in absurd (omega arith)
 pub other-bits : (z : ℤ) → (ofZ w64 z ≡ 0 → ⊥) → equal z (pos 0) ≡ false
 other-bits (pos n) f = ne-eqb n 0 f
 other-bits (negsuc n) f = refl
+
+-- two tests of a and b, by an integer whose positive multiple is their difference
+pub less-by-multiple : (k : ℕ) (a b c : ℤ) → a -ℤ b ≡ pos (suc k) *ℤ c → ltZ a b ≡ ltZ c (pos 0)
+less-by-multiple k a b c e = less-by-difference a b ∙ ap (λ (z : ℤ). ltZ z (pos 0)) e ∙ less-multiple k c
+
+pub equal-by-multiple : (k : ℕ) (a b c : ℤ) → a -ℤ b ≡ pos (suc k) *ℤ c → equal a b ≡ equal c (pos 0)
+equal-by-multiple k a b c e = equal-by-difference a b ∙ ap (λ (z : ℤ). equal z (pos 0)) e ∙ equal-multiple k c

@@ -13,11 +13,9 @@ use mir.Syntax.{w64}
 use mir.Val.{SFits, toZ, ofZ}
 use mir.ValLaws.{toZ-ofZ}
 use Rattle.integers.proofs.Bounds.{Holds, natAbs-neg}
+use Rattle.integers.proofs.Order.{true≢false}
 use Rattle.integers.specs.Rounding.{floorDiv, clamped, IsFloorRoot, lastDigit, rootDigits, floorRoot}
 use Rattle.integers.specs.Bounds.{AtMost}
-
-true≢false : {X : Type 0} → true ≡ false → X
-true≢false e = absurd (subst T e tt)
 
 one-less : (q : ℕ) → negℤ (pos q) -ℤ pos 1 ≡ negsuc q
 one-less zero = refl
