@@ -1,4 +1,5 @@
 pub mod Vectors
 pub mod Terms
 pub mod Spheres
+pub mod Corners
 pub mod Faces

@@ -15,6 +15,7 @@ use Rattle.geometry.specs.declared.Vector.{Vector}
 use Rattle.geometry.specs.declared.sphere.Lifted.{Lifted}
 use Rattle.geometry.specs.declared.sphere.Pencil.{Pencil}
 use Rattle.geometry.specs.declared.sphere.Sphere.{Sphere}
+use Rattle.geometry.specs.declared.sphere.Position.{Position}
 use Rattle.geometry.specs.declared.sphere.Position.the-variants.{Inside, On, Outside}
 use Rattle.integers.specs.Bounds.{AtMost}
 use Rattle.integers.proofs.Ring.{E, var, con, _:+_, _:-_, _:*_, ring}
@@ -22,7 +23,7 @@ use Rattle.geometry.proofs.Terms.{VectorE, vec, dotE, crossE, scaledE, 
 use Rattle.integers.proofs.Bounds.{at-most-sub}
 use Rattle.integers.proofs.Order.{equal-is, less-by-multiple, equal-by-multiple, product-suc, not-below, true≢false}
 use Rattle.geometry.specs.Vectors.{differenceOf, dotOf, crossOf, squareOf, scaledBy, plus, minus, Within}
-use Rattle.geometry.specs.Spheres.{orientOf, coplanar, centreOf, distanceOf, positionOf, liftOf, pencilOf, turned, sphereOf, powerOf, positionBy, LiftedBounds, PencilBounds, SphereBounds}
+use Rattle.geometry.specs.Spheres.{orientOf, coplanar, centreOf, distanceOf, strictlyInside, onSphere, positionOf, liftOf, pencilOf, turned, sphereOf, powerOf, positionBy, LiftedBounds, PencilBounds, SphereBounds}
 use Rattle.geometry.proofs.Vectors.{within-difference, within-plus, within-minus, within-scaled, within-cross, at-most-dot}
 
 -- ---- bounds
@@ -105,7 +106,7 @@ module _ (o : ℤ) (b v : Vector) (p : GridPoint) where
   abbrev oppositeE : VectorE
   oppositeE = record { X = con (pos 0) :- var 1; Y = con (pos 0) :- var 2; Z = con (pos 0) :- var 3 }
 
-  distances-power : distances ≡ (pos 4 *ℤ o) *ℤ (o *ℤ squareOf v -ℤ dotOf b v)
+  pub distances-power : distances ≡ (pos 4 *ℤ o) *ℤ (o *ℤ squareOf v -ℤ dotOf b v)
   distances-power = ring known distancesE ((con (pos 4) :* var 0) :* (var 0 :* dotE (vec 4) (vec 4) :- dotE (vec 1) (vec 4))) tt
 
   distances-opposite : distances ≡ (pos 4 *ℤ (pos 0 -ℤ o)) *ℤ ((pos 0 -ℤ o) *ℤ squareOf v -ℤ dotOf opposite v)
@@ -149,3 +150,38 @@ turned-orient (negsuc n) c = ap (λ (z : ℤ). equal z (pos 0)) (+ℤ-idl (pos (
 
 pub coplanar-is : (p q r s : GridPoint) → equal (computedSphere p q r s .orient) (pos 0) ≡ coplanar p q r s
 coplanar-is p q r s = ap (λ (k : Sphere). equal (k .orient) (pos 0)) (sphere-is p q r s) ∙ turned-orient (orientOf p q r s) (centreOf p q r s)
+
+-- ---- what a position tells
+
+data Told (i o : Bool) : Position → Type 0 where
+  inside : i ≡ true → Told i o Inside
+  on : i ≡ false → o ≡ true → Told i o On
+  outside : i ≡ false → o ≡ false → Told i o Outside
+
+told : (i o : Bool) → Told i o (cond i Inside (cond o On Outside))
+told true o = inside refl
+told false true = on refl refl
+told false false = outside refl refl
+
+module _ (p q r s w : GridPoint) where
+  told-of : Told (strictlyInside p q r s w) (onSphere p q r s w) (positionOf p q r s w)
+  unfolding positionOf
+  told-of = told (strictlyInside p q r s w) (onSphere p q r s w)
+
+  pub position-inside : positionOf p q r s w ≡ Inside → strictlyInside p q r s w ≡ true
+  position-inside e = go (subst (Told (strictlyInside p q r s w) (onSphere p q r s w)) e told-of)
+    where
+      go : Told (strictlyInside p q r s w) (onSphere p q r s w) Inside → strictlyInside p q r s w ≡ true
+      go (inside h) = h
+
+  pub position-on : positionOf p q r s w ≡ On → (strictlyInside p q r s w ≡ false) × (onSphere p q r s w ≡ true)
+  position-on e = go (subst (Told (strictlyInside p q r s w) (onSphere p q r s w)) e told-of)
+    where
+      go : Told (strictlyInside p q r s w) (onSphere p q r s w) On → (strictlyInside p q r s w ≡ false) × (onSphere p q r s w ≡ true)
+      go (on h k) = (h, k)
+
+  pub position-outside : positionOf p q r s w ≡ Outside → (strictlyInside p q r s w ≡ false) × (onSphere p q r s w ≡ false)
+  position-outside e = go (subst (Told (strictlyInside p q r s w) (onSphere p q r s w)) e told-of)
+    where
+      go : Told (strictlyInside p q r s w) (onSphere p q r s w) Outside → (strictlyInside p q r s w ≡ false) × (onSphere p q r s w ≡ false)
+      go (outside h k) = (h, k)
