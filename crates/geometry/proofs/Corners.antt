@@ -69,3 +69,119 @@ module _ (p q r s : GridPoint) where
   -- so each corner is on the sphere
   pub corner-on : (w : GridPoint) → distanceOf p q r s w ≡ distanceOf p q r s p → onSphere p q r s w ≡ true
   corner-on w e = equal-is e
+
+-- ---- the order of the corners
+
+abbrev opposite : Vector → Vector
+opposite v = record { x = pos 0 -ℤ v .x; y = pos 0 -ℤ v .y; z = pos 0 -ℤ v .z }
+
+abbrev oppositeE : VectorE → VectorE
+oppositeE v = record { X = con (pos 0) :- v .X; Y = con (pos 0) :- v .Y; Z = con (pos 0) :- v .Z }
+
+abbrev distanceE : E → VectorE → VectorE → E
+distanceE o c v = let w = minusE (scaledE (con (pos 2) :* o) v) c in dotE w w
+
+-- the opposite orientation and the opposite centre give the same distances
+distance-opposite : (o : ℤ) (c v : Vector) → squareOf (minus (scaledBy (pos 2 *ℤ (pos 0 -ℤ o)) v) (opposite c)) ≡ squareOf (minus (scaledBy (pos 2 *ℤ o) v) c)
+distance-opposite o c v =
+    ring (o ∷ c .x ∷ c .y ∷ c .z ∷ v .x ∷ v .y ∷ v .z ∷ [])
+      (distanceE (con (pos 0) :- var 0) (oppositeE (vec 1)) (vec 4)) (distanceE (var 0) (vec 1) (vec 4)) tt
+
+abbrev centreAtE : VectorE → VectorE → VectorE → VectorE
+centreAtE u v t = plusE (plusE (scaledE (dotE u u) (crossE v t)) (scaledE (dotE v v) (crossE t u))) (scaledE (dotE t t) (crossE u v))
+
+module _ (u v t : Vector) where
+  orient-swap-uv : dotOf v (crossOf u t) ≡ pos 0 -ℤ dotOf u (crossOf v t)
+  orient-swap-uv = ring (values u v t) (dotE (vec 3) (crossE (vec 0) (vec 6))) (con (pos 0) :- dotE (vec 0) (crossE (vec 3) (vec 6))) tt
+
+  orient-swap-vt : dotOf u (crossOf t v) ≡ pos 0 -ℤ dotOf u (crossOf v t)
+  orient-swap-vt = ring (values u v t) (dotE (vec 0) (crossE (vec 6) (vec 3))) (con (pos 0) :- dotE (vec 0) (crossE (vec 3) (vec 6))) tt
+
+  centre-swap-uv : centre v u t ≡ opposite (centre u v t)
+  centre-swap-uv =
+      let a = centreAtE (vec 3) (vec 0) (vec 6) in
+      let b = oppositeE (centreAtE (vec 0) (vec 3) (vec 6)) in
+      λ i. record { x = ring (values u v t) (a .X) (b .X) tt i; y = ring (values u v t) (a .Y) (b .Y) tt i; z = ring (values u v t) (a .Z) (b .Z) tt i }
+
+  centre-swap-vt : centre u t v ≡ opposite (centre u v t)
+  centre-swap-vt =
+      let a = centreAtE (vec 0) (vec 6) (vec 3) in
+      let b = oppositeE (centreAtE (vec 0) (vec 3) (vec 6)) in
+      λ i. record { x = ring (values u v t) (a .X) (b .X) tt i; y = ring (values u v t) (a .Y) (b .Y) tt i; z = ring (values u v t) (a .Z) (b .Z) tt i }
+
+module _ (p q r s : GridPoint) where
+  pub orient-swap-qr : orientOf p r q s ≡ pos 0 -ℤ orientOf p q r s
+  unfolding orientOf
+  orient-swap-qr = orient-swap-uv (differenceOf q p) (differenceOf r p) (differenceOf s p)
+
+  pub orient-swap-rs : orientOf p q s r ≡ pos 0 -ℤ orientOf p q r s
+  unfolding orientOf
+  orient-swap-rs = orient-swap-vt (differenceOf q p) (differenceOf r p) (differenceOf s p)
+
+  pub distance-swap-qr : (w : GridPoint) → distanceOf p r q s w ≡ distanceOf p q r s w
+  unfolding distanceOf centreOf
+  distance-swap-qr w =
+      (λ i. squareOf (minus (scaledBy (pos 2 *ℤ orient-swap-qr i) (differenceOf w p)) (centre-swap-uv (differenceOf q p) (differenceOf r p) (differenceOf s p) i)))
+      ∙ distance-opposite (orientOf p q r s) (centreOf p q r s) (differenceOf w p)
+
+  pub distance-swap-rs : (w : GridPoint) → distanceOf p q s r w ≡ distanceOf p q r s w
+  unfolding distanceOf centreOf
+  distance-swap-rs w =
+      (λ i. squareOf (minus (scaledBy (pos 2 *ℤ orient-swap-rs i) (differenceOf w p)) (centre-swap-vt (differenceOf q p) (differenceOf r p) (differenceOf s p) i)))
+      ∙ distance-opposite (orientOf p q r s) (centreOf p q r s) (differenceOf w p)
+
+  -- the first two corners
+  abbrev points : List ℤ
+  points = p .x ∷ p .y ∷ p .z ∷ q .x ∷ q .y ∷ q .z ∷ r .x ∷ r .y ∷ r .z ∷ s .x ∷ s .y ∷ s .z ∷ []
+
+  abbrev orientAtE : VectorE → VectorE → VectorE → VectorE → E
+  orientAtE a b c d = dotE (minusE b a) (crossE (minusE c a) (minusE d a))
+
+  abbrev centrePointsE : VectorE → VectorE → VectorE → VectorE → VectorE
+  centrePointsE a b c d = centreAtE (minusE b a) (minusE c a) (minusE d a)
+
+  -- the centre seen from q, not from p
+  abbrev shifted : Vector
+  shifted = plus (opposite (centreOf p q r s)) (scaledBy (pos 2 *ℤ orientOf p q r s) (differenceOf q p))
+
+  pub orient-swap-pq : orientOf q p r s ≡ pos 0 -ℤ orientOf p q r s
+  unfolding orientOf
+  orient-swap-pq = ring points (orientAtE (vec 3) (vec 0) (vec 6) (vec 9)) (con (pos 0) :- orientAtE (vec 0) (vec 3) (vec 6) (vec 9)) tt
+
+  centre-swap-pq : centreOf q p r s ≡ shifted
+  unfolding centreOf orientOf
+  centre-swap-pq =
+      let a = centrePointsE (vec 3) (vec 0) (vec 6) (vec 9) in
+      let b = plusE (oppositeE (centrePointsE (vec 0) (vec 3) (vec 6) (vec 9))) (scaledE (con (pos 2) :* orientAtE (vec 0) (vec 3) (vec 6) (vec 9)) (minusE (vec 3) (vec 0))) in
+      λ i. record { x = ring points (a .X) (b .X) tt i; y = ring points (a .Y) (b .Y) tt i; z = ring points (a .Z) (b .Z) tt i }
+
+distance-shift : (o : ℤ) (c : Vector) (p q w : GridPoint) →
+  squareOf (minus (scaledBy (pos 2 *ℤ (pos 0 -ℤ o)) (differenceOf w q)) (plus (opposite c) (scaledBy (pos 2 *ℤ o) (differenceOf q p))))
+  ≡ squareOf (minus (scaledBy (pos 2 *ℤ o) (differenceOf w p)) c)
+distance-shift o c p q w =
+    ring (o ∷ c .x ∷ c .y ∷ c .z ∷ p .x ∷ p .y ∷ p .z ∷ q .x ∷ q .y ∷ q .z ∷ w .x ∷ w .y ∷ w .z ∷ [])
+      (distanceE (con (pos 0) :- var 0) (plusE (oppositeE (vec 1)) (scaledE (con (pos 2) :* var 0) (minusE (vec 7) (vec 4)))) (minusE (vec 10) (vec 7)))
+      (distanceE (var 0) (vec 1) (minusE (vec 10) (vec 4))) tt
+
+module _ (p q r s : GridPoint) where
+  pub distance-swap-pq : (w : GridPoint) → distanceOf q p r s w ≡ distanceOf p q r s w
+  unfolding distanceOf
+  distance-swap-pq w =
+      (λ i. squareOf (minus (scaledBy (pos 2 *ℤ orient-swap-pq p q r s i) (differenceOf w q)) (centre-swap-pq p q r s i)))
+      ∙ distance-shift (orientOf p q r s) (centreOf p q r s) p q w
+
+  -- so the position does not depend on the order: these three exchanges give every order
+  pub position-swap-pq : (w : GridPoint) → positionOf q p r s w ≡ positionOf p q r s w
+  unfolding positionOf
+  position-swap-pq w =
+      let a = distance-swap-pq w in
+      let b = distance-swap-pq q ∙ corner-q p q r s in
+      λ i. cond (ltZ (a i) (b i)) Inside (cond (equal (a i) (b i)) On Outside)
+
+  pub position-swap-qr : (w : GridPoint) → positionOf p r q s w ≡ positionOf p q r s w
+  unfolding positionOf
+  position-swap-qr w = λ i. cond (ltZ (distance-swap-qr p q r s w i) (distance-swap-qr p q r s p i)) Inside (cond (equal (distance-swap-qr p q r s w i) (distance-swap-qr p q r s p i)) On Outside)
+
+  pub position-swap-rs : (w : GridPoint) → positionOf p q s r w ≡ positionOf p q r s w
+  unfolding positionOf
+  position-swap-rs w = λ i. cond (ltZ (distance-swap-rs p q r s w i) (distance-swap-rs p q r s p i)) Inside (cond (equal (distance-swap-rs p q r s w i) (distance-swap-rs p q r s p i)) On Outside)
