@@ -1,11 +1,12 @@
 -- Lengths of normals, weights and bends: their bounds. Assumes nothing.
 use mathlib.Core.Path.{_≡_, refl, sym, _∙_, ap, subst}
+use mathlib.Core.List.{List, [], _∷_}
 use mathlib.Core.Bool.{Bool, true, false, cond}
 use Prim.Native.Nat.{ℕ, zero, suc, _+_, _*_, _^_, _≤_, _<_}
 use native.Mathlib.Nat.{le-trans, lt-of-le-of-lt}
 use native.Mathlib.Omega.{arith}
 use lib.Dec.{T, lit<, lit≤}
-use lib.IntN.{ℤ, pos, negsuc, natAbs, _+ℤ_, _-ℤ_, _*ℤ_}
+use lib.IntN.{ℤ, pos, negsuc, natAbs, _+ℤ_, _-ℤ_, _*ℤ_, *ℤ-zero}
 use lib.Signed.{nonNeg}
 use Rattle.grid.specs.declared.GridPoint.{GridPoint}
 use Rattle.grid.specs.Point.{PointOnGrid}
@@ -13,10 +14,14 @@ use Rattle.geometry.specs.declared.Vector.{Vector}
 use Rattle.integers.specs.Bounds.{AtMost}
 use Rattle.integers.specs.Rounding.{floorDiv}
 use Rattle.integers.proofs.Laws.{square-is}
+use Rattle.integers.proofs.Ring.{E, var, con, _:+_, _:-_, _:*_, ring}
 use Rattle.integers.proofs.Bounds.{mul-le}
+use Rattle.integers.proofs.Order.{equal-is, true≢false}
 use Rattle.integers.proofs.Rounding.{floor-root-le, floor-root-above-0, floor-root-square, clamped-range}
-use Rattle.geometry.specs.Vectors.{dotOf, squareOf, Within}
+use Rattle.geometry.specs.Vectors.{differenceOf, dotOf, squareOf, Within}
+use Rattle.geometry.specs.Spheres.{orientOf, coplanar}
 use Rattle.geometry.specs.Faces.{normalOf, lengthOf, areaWeightOf, ratioOf, bendOf, bendWeightOf}
+use Rattle.geometry.proofs.Terms.{VectorE, vec, dotE, crossE, minusE}
 use Rattle.geometry.proofs.Vectors.{within-difference, within-cross, at-most-dot}
 
 -- a squared length is not negative
@@ -80,3 +85,65 @@ module _ (d : ℤ) (m k : ℕ) where
   pub bend-bound : bendOf d m k ≤ 2000
   unfolding bendOf
   bend-bound = subst (λ (z : ℤ). natAbs z ≤ 2000) (sym (bend-natural .2)) (bend-natural .1)
+
+-- ---- the faces of four that are not in one plane have a normal
+
+-- a vector of length 0 has coordinates 0
+zero-square : (a b c : ℕ) → a * a + b * b + c * c ≡ 0 → (a ≡ 0) × (b ≡ 0) × (c ≡ 0)
+zero-square zero zero zero e = (refl, refl, refl)
+zero-square zero zero (suc c) e = absurd (omega arith)
+zero-square zero (suc b) c e = absurd (omega arith)
+zero-square (suc a) b c e = absurd (omega arith)
+
+zero-size : (z : ℤ) → natAbs z ≡ 0 → z ≡ pos 0
+zero-size (pos n) e = ap pos e
+zero-size (negsuc n) e = absurd (omega arith)
+
+dot-zero : (e n : Vector) → squareOf n ≡ pos 0 → dotOf e n ≡ pos 0
+dot-zero e n h =
+    let k = zero-square (natAbs (n .x)) (natAbs (n .y)) (natAbs (n .z)) (ap natAbs (sym (square-natural n) ∙ h)) in
+    (λ i. e .x *ℤ zero-size (n .x) (k .0) i +ℤ e .y *ℤ zero-size (n .y) (k .1) i +ℤ e .z *ℤ zero-size (n .z) (k .2) i)
+    ∙ (λ i. *ℤ-zero (e .x) i +ℤ *ℤ-zero (e .y) i +ℤ *ℤ-zero (e .z) i)
+
+module _ (p q r s : GridPoint) where
+  abbrev points : List ℤ
+  points = p .x ∷ p .y ∷ p .z ∷ q .x ∷ q .y ∷ q .z ∷ r .x ∷ r .y ∷ r .z ∷ s .x ∷ s .y ∷ s .z ∷ []
+
+  abbrev orientE : E
+  orientE = dotE (minusE (vec 3) (vec 0)) (crossE (minusE (vec 6) (vec 0)) (minusE (vec 9) (vec 0)))
+
+  abbrev normalE : VectorE → VectorE → VectorE → VectorE
+  normalE a b c = crossE (minusE b a) (minusE c a)
+
+  orient-pqr : orientOf p q r s ≡ dotOf (differenceOf s p) (normalOf p q r)
+  unfolding orientOf
+  orient-pqr = ring points orientE (dotE (minusE (vec 9) (vec 0)) (normalE (vec 0) (vec 3) (vec 6))) tt
+
+  orient-pqs : orientOf p q r s ≡ dotOf (differenceOf p r) (normalOf p q s)
+  unfolding orientOf
+  orient-pqs = ring points orientE (dotE (minusE (vec 0) (vec 6)) (normalE (vec 0) (vec 3) (vec 9))) tt
+
+  orient-prs : orientOf p q r s ≡ dotOf (differenceOf q p) (normalOf p r s)
+  unfolding orientOf
+  orient-prs = ring points orientE (dotE (minusE (vec 3) (vec 0)) (normalE (vec 0) (vec 6) (vec 9))) tt
+
+  orient-qrs : orientOf p q r s ≡ dotOf (differenceOf q p) (normalOf q r s)
+  unfolding orientOf
+  orient-qrs = ring points orientE (dotE (minusE (vec 3) (vec 0)) (normalE (vec 3) (vec 6) (vec 9))) tt
+
+  -- m is at least 1 for each face of a four that is not in one plane
+  module _ (hp : PointOnGrid p) (hq : PointOnGrid q) (hr : PointOnGrid r) (hs : PointOnGrid s) (h : coplanar p q r s ≡ false) where
+    not-zero : (e n : Vector) → orientOf p q r s ≡ dotOf e n → squareOf n ≡ pos 0 → ⊥
+    not-zero e n o z = true≢false (sym (equal-is (o ∙ dot-zero e n z)) ∙ h)
+
+    pub face-length-pqr : 0 < lengthOf (normalOf p q r)
+    face-length-pqr = length-above-0 (normal-within hp hq hr) (not-zero (differenceOf s p) (normalOf p q r) orient-pqr)
+
+    pub face-length-pqs : 0 < lengthOf (normalOf p q s)
+    face-length-pqs = length-above-0 (normal-within hp hq hs) (not-zero (differenceOf p r) (normalOf p q s) orient-pqs)
+
+    pub face-length-prs : 0 < lengthOf (normalOf p r s)
+    face-length-prs = length-above-0 (normal-within hp hr hs) (not-zero (differenceOf q p) (normalOf p r s) orient-prs)
+
+    pub face-length-qrs : 0 < lengthOf (normalOf q r s)
+    face-length-qrs = length-above-0 (normal-within hq hr hs) (not-zero (differenceOf q p) (normalOf q r s) orient-qrs)
