@@ -1,4 +1,4 @@
--- Lengths of normals, weights and bends: their bounds. Assumes nothing.
+-- Lengths of normals and weights: their bounds, and that each face of four points that are not in one plane has a length. Assumes nothing.
 use mathlib.Core.Path.{_≡_, refl, sym, _∙_, ap, subst}
 use mathlib.Core.List.{List, [], _∷_}
 use mathlib.Core.Bool.{Bool, true, false, cond}
@@ -12,21 +12,23 @@ use Rattle.grid.specs.declared.GridPoint.{GridPoint}
 use Rattle.grid.specs.Point.{PointOnGrid}
 use Rattle.geometry.specs.declared.Vector.{Vector}
 use Rattle.integers.specs.Bounds.{AtMost}
-use Rattle.integers.specs.Rounding.{floorDiv}
 use Rattle.integers.proofs.Laws.{square-is}
 use Rattle.integers.proofs.Ring.{E, var, con, _:+_, _:-_, _:*_, ring}
 use Rattle.integers.proofs.Bounds.{mul-le}
 use Rattle.integers.proofs.Order.{equal-is, true≢false}
-use Rattle.integers.proofs.Rounding.{floor-root-le, floor-root-above-0, floor-root-square, clamped-range}
+use Rattle.integers.proofs.Rounding.{floor-root-le, floor-root-above-0, floor-root-square}
 use Rattle.geometry.specs.Vectors.{differenceOf, dotOf, squareOf, Within}
 use Rattle.geometry.specs.Spheres.{orientOf, coplanar}
-use Rattle.geometry.specs.Faces.{normalOf, lengthOf, areaWeightOf, ratioOf, bendOf, bendWeightOf}
+use Rattle.geometry.specs.Faces.{normalOf, lengthOf, areaWeightOf, bendWeightOf}
 use Rattle.geometry.proofs.Terms.{VectorE, vec, dotE, crossE, minusE}
 use Rattle.geometry.proofs.Vectors.{within-difference, within-cross, at-most-dot}
 
 -- a squared length is not negative
 pub square-natural : (v : Vector) → squareOf v ≡ pos (natAbs (v .x) * natAbs (v .x) + natAbs (v .y) * natAbs (v .y) + natAbs (v .z) * natAbs (v .z))
 square-natural v = λ i. square-is (v .x) i +ℤ square-is (v .y) i +ℤ square-is (v .z) i
+
+pub square-size : (v : Vector) → squareOf v ≡ pos (natAbs (squareOf v))
+square-size v = square-natural v ∙ ap (λ (z : ℤ). pos (natAbs z)) (sym (square-natural v))
 
 pub square-nonneg : (v : Vector) → T (nonNeg (squareOf v))
 square-nonneg v = subst (λ (z : ℤ). T (nonNeg z)) (sym (square-natural v)) tt
@@ -56,7 +58,7 @@ module _ {n : Vector} (h : Within 8000000 n) where
   length-above-0 k = floor-root-above-0 (natAbs (squareOf n)) square-fits (positive (natAbs (squareOf n)) refl)
     where
       positive : (x : ℕ) → natAbs (squareOf n) ≡ x → 0 < x
-      positive zero e = absurd (k (square-natural n ∙ ap pos (sym (ap natAbs (square-natural n)) ∙ e)))
+      positive zero e = absurd (k (square-size n ∙ ap pos e))
       positive (suc x) e = omega arith
 
   pub length-squared : lengthOf n * lengthOf n ≤ natAbs (squareOf n)
@@ -70,21 +72,6 @@ area-weight-bound h k = mul-le h k
 
 pub bend-weight-bound : {factor bend : ℕ} → factor ≤ 65535 → bend ≤ 2000 → bendWeightOf factor bend ≤ 131070000
 bend-weight-bound h k = mul-le h k
-
--- ---- the bend
-
-module _ (d : ℤ) (m k : ℕ) where
-  bend-natural : (j : ℕ) × (j ≤ 2000) × (pos 1000 -ℤ ratioOf d m k ≡ pos j)
-  unfolding ratioOf
-  bend-natural = clamped-range (floorDiv (pos 1000 *ℤ d) (m * k))
-
-  pub bend-is : pos (bendOf d m k) ≡ pos 1000 -ℤ ratioOf d m k
-  unfolding bendOf
-  bend-is = ap (λ (z : ℤ). pos (natAbs z)) (bend-natural .2) ∙ sym (bend-natural .2)
-
-  pub bend-bound : bendOf d m k ≤ 2000
-  unfolding bendOf
-  bend-bound = subst (λ (z : ℤ). natAbs z ≤ 2000) (sym (bend-natural .2)) (bend-natural .1)
 
 -- ---- the faces of four that are not in one plane have a normal
 

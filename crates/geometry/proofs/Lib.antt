@@ -3,3 +3,4 @@ pub mod Terms
 pub mod Spheres
 pub mod Corners
 pub mod Faces
+pub mod Bends

@@ -80,15 +80,10 @@ quot! {b = b} {n = n} h e = record { value = (λ i. quotZ (h .value i) (e i)); b
 pub rem! : {m b : ℕ} {n x y : ℤ} → Holds m n x → y ≡ pos b → Holds m (remZ n (pos b)) (remZ x y)
 rem! {b = b} {n = n} h e = record { value = (λ i. remZ (h .value i) (e i)); bound = rem-small n b (h .bound) }
 
-pub product-above : (m k : ℤ) → pos 0 <ℤ m → pos 0 <ℤ k → pos 0 <ℤ (m *ℤ k)
-product-above m k h l = go (natAbs m) (natAbs k) (over m h .0) (over k l .0)
-  where
-    both : (a b : ℕ) → 0 < a → 0 < b → 0 < a * b
-    both zero b p q = absurd (omega arith)
-    both (suc a) zero p q = absurd (omega arith)
-    both (suc a) (suc b) p q = omega arith
-    go : (a b : ℕ) → 0 < a → 0 < b → pos 0 <ℤ (m *ℤ k)
-    go a b p q = record { lt = subst (λ (z : ℤ). T (ltZ (pos 0) z)) (sym (λ i. over m h .1 i *ℤ over k l .1 i)) (lt→ltb 0 _ (both (natAbs m) (natAbs k) (over m h .0) (over k l .0))) }
+pub product-above-0 : (m k : ℕ) → 0 < m → 0 < k → 0 < m * k
+product-above-0 zero k h l = absurd (omega arith)
+product-above-0 (suc m) zero h l = absurd (omega arith)
+product-above-0 (suc m) (suc k) h l = omega arith
 
 -- there is one whole root
 pub root-unique : (x r s : ℕ) → IsFloorRoot x r → IsFloorRoot x s → r ≡ s

@@ -1,8 +1,7 @@
 -- `geometry::face::bend` meets its contract.
 use mathlib.Core.Path.{_≡_, refl, sym, _∙_, ap, subst}
-use Prim.Native.Nat.{ℕ, zero, suc, _*_, _^_, _≤_, _<_}
+use Prim.Native.Nat.{ℕ, _*_, _^_, _≤_, _<_}
 use native.Mathlib.Nat.{lt-of-le-of-lt}
-use native.Mathlib.Omega.{arith}
 use lib.Dec.{T, lit<, lit≤, ltb, lt→ltb}
 use lib.IntN.{ℤ, pos, negsuc, natAbs, _-ℤ_, _*ℤ_}
 use lib.Signed.{nonNeg, _<ℤ_}
@@ -12,8 +11,9 @@ use mir.ValLaws.{toZ-ofZ}
 use Rattle.integers.specs.Bounds.{AtMost}
 use Rattle.integers.specs.Rounding.{floorDiv, clamped}
 use Rattle.geometry.specs.Faces.{ratioOf, bendOf}
+use Rattle.integers.proofs.Rounding.{product-above-0}
 use Rattle.integers.proofs.Bounds.{Holds, bits, given, stored, fits, signed-fits, at-most-held, at-most-le, _*!_, _-!_}
-use Rattle.geometry.proofs.Faces.{bend-is, bend-bound}
+use Rattle.geometry.proofs.Bends.{bend-is, bend-bound}
 use Rattle.geometry.proofs.face.bend.Statement.{statement}
 use Rattle.geometry.proofs.face.bend.Tie as tie
 
@@ -22,11 +22,6 @@ thousand = record { value = refl; bound = record { size = lit≤ tt } }
 
 natural : {n m : ℕ} → m ≤ n → AtMost n (pos m)
 natural h = record { size = h }
-
-product-above-0 : (m k : ℕ) → 0 < m → 0 < k → 0 < m * k
-product-above-0 zero k h l = absurd (omega arith)
-product-above-0 (suc m) zero h l = absurd (omega arith)
-product-above-0 (suc m) (suc k) h l = omega arith
 
 module _ (s : tie.Start) where
   numerator : Holds 192000000000000000 (pos 1000 *ℤ s .args .d) (pos 1000 *ℤ bits (s .args .d))

@@ -1,0 +1,108 @@
+-- The bend: from 0 to 2000, and its values for equal, perpendicular and opposite normals. Assumes nothing.
+use mathlib.Core.Path.{_≡_, refl, sym, _∙_, ap, subst}
+use mathlib.Core.List.{List, [], _∷_}
+use mathlib.Core.Bool.{Bool, true, false, cond}
+use Prim.Native.Nat.{ℕ, zero, suc, _+_, _*_, _/_, _≤_, _<_}
+use native.Mathlib.Nat.{le-antisymm, le-div-iff-mul-le, zero-div}
+use native.Mathlib.Omega.{arith}
+use lib.Dec.{ltb}
+use lib.IntN.{ℤ, pos, negsuc, negℤ, natAbs, _-ℤ_, _*ℤ_, +ℤ-idl}
+use borrow.Author.Tests.{ltb-false}
+use Rattle.geometry.specs.declared.Vector.{Vector}
+use Rattle.integers.specs.Rounding.{floorRoot, floorDiv, clamped}
+use Rattle.integers.proofs.Ring.{E, var, con, _:+_, _:-_, _:*_, ring}
+use Rattle.integers.proofs.Rounding.{clamped-range, product-above-0}
+use Rattle.geometry.specs.Vectors.{dotOf, squareOf, Within}
+use Rattle.geometry.specs.Faces.{lengthOf, ratioOf, bendOf, bendBetween}
+use Rattle.geometry.proofs.Terms.{VectorE, vec, dotE}
+use Rattle.geometry.proofs.Faces.{square-size, length-squared}
+
+module _ (d : ℤ) (m k : ℕ) where
+  bend-natural : (j : ℕ) × (j ≤ 2000) × (pos 1000 -ℤ ratioOf d m k ≡ pos j)
+  unfolding ratioOf
+  bend-natural = clamped-range (floorDiv (pos 1000 *ℤ d) (m * k))
+
+  pub bend-is : pos (bendOf d m k) ≡ pos 1000 -ℤ ratioOf d m k
+  unfolding bendOf
+  bend-is = ap (λ (z : ℤ). pos (natAbs z)) (bend-natural .2) ∙ sym (bend-natural .2)
+
+  pub bend-bound : bendOf d m k ≤ 2000
+  unfolding bendOf
+  bend-bound = subst (λ (z : ℤ). natAbs z ≤ 2000) (sym (bend-natural .2)) (bend-natural .1)
+
+-- ---- its ends
+
+-- a quotient of at least 1000 is held at 1000, one of at most -1000 at -1000
+held-high : (y : ℕ) → 1000 ≤ y → clamped (negsuc 999) (pos 1000) (pos y) ≡ pos 1000
+held-high y h = go (ltb 1000 y) refl
+  where
+    go : (t : Bool) → ltb 1000 y ≡ t → cond t (pos 1000) (pos y) ≡ pos 1000
+    go true e = refl
+    go false e = ap pos (le-antisymm (ltb-false 1000 y e) h)
+
+held-low : (y : ℕ) → 999 ≤ y → clamped (negsuc 999) (pos 1000) (negsuc y) ≡ negsuc 999
+held-low y h = go (ltb 999 y) refl
+  where
+    go : (t : Bool) → ltb 999 y ≡ t → cond t (negsuc 999) (negsuc y) ≡ negsuc 999
+    go true e = refl
+    go false e = ap negsuc (le-antisymm (ltb-false 999 y e) h)
+
+module _ (m k : ℕ) (above : 0 < m * k) where
+  -- d is at least the product of the lengths
+  pub bend-least : (x : ℕ) → m * k ≤ x → bendOf (pos x) m k ≡ 0
+  unfolding bendOf ratioOf
+  bend-least x h =
+      ap (λ (z : ℤ). natAbs (pos 1000 -ℤ z)) (held-high ((1000 * x) / (m * k)) (le-div-iff-mul-le above .1 (omega arith)))
+
+  -- -d is
+  pub bend-most : (x : ℕ) → m * k ≤ x → bendOf (negℤ (pos x)) m k ≡ 2000
+  unfolding bendOf ratioOf
+  bend-most zero h = absurd (omega arith)
+  bend-most (suc a) h =
+      let e : 1000 * suc a ≡ suc (1000 * a + 999) = omega arith in
+      ap (λ (n : ℕ). natAbs (pos 1000 -ℤ clamped (negsuc 999) (pos 1000) (floorDiv (negℤ (pos n)) (m * k)))) e
+      ∙ ap (λ (z : ℤ). natAbs (pos 1000 -ℤ z)) (held-low ((1000 * a + 999) / (m * k)) (le-div-iff-mul-le above .1 (omega arith)))
+
+pub bend-perpendicular : (m k : ℕ) → bendOf (pos 0) m k ≡ 1000
+unfolding bendOf ratioOf
+bend-perpendicular m k = ap (λ (y : ℕ). natAbs (pos 1000 -ℤ clamped (negsuc 999) (pos 1000) (pos y))) (zero-div (m * k))
+
+-- ---- "Bend of equal normals 0, of perpendicular 1000, of opposite 2000."
+
+pub equal-normals : {n : Vector} → Within 8000000 n → 0 < lengthOf n → bendBetween n n ≡ 0
+equal-normals {n} h l =
+    ap (λ (d : ℤ). bendOf d (lengthOf n) (lengthOf n)) (square-size n)
+    ∙ bend-least (lengthOf n) (lengthOf n) (product-above-0 (lengthOf n) (lengthOf n) l l) (natAbs (squareOf n)) (length-squared h)
+
+pub perpendicular-normals : (n k : Vector) → dotOf n k ≡ pos 0 → bendBetween n k ≡ 1000
+perpendicular-normals n k e = ap (λ (d : ℤ). bendOf d (lengthOf n) (lengthOf k)) e ∙ bend-perpendicular (lengthOf n) (lengthOf k)
+
+abbrev pub opposite : Vector → Vector
+opposite v = record { x = pos 0 -ℤ v .x; y = pos 0 -ℤ v .y; z = pos 0 -ℤ v .z }
+
+module _ (n : Vector) where
+  abbrev oppositeE : VectorE
+  oppositeE = record { X = con (pos 0) :- var 0; Y = con (pos 0) :- var 1; Z = con (pos 0) :- var 2 }
+
+  opposite-dot : dotOf n (opposite n) ≡ pos 0 -ℤ squareOf n
+  opposite-dot = ring (n .x ∷ n .y ∷ n .z ∷ []) (dotE (vec 0) oppositeE) (con (pos 0) :- dotE (vec 0) (vec 0)) tt
+
+  opposite-square : squareOf (opposite n) ≡ squareOf n
+  opposite-square = ring (n .x ∷ n .y ∷ n .z ∷ []) (dotE oppositeE oppositeE) (dotE (vec 0) (vec 0)) tt
+
+  opposite-length : lengthOf (opposite n) ≡ lengthOf n
+  unfolding lengthOf
+  opposite-length = ap (λ (z : ℤ). floorRoot (natAbs z)) opposite-square
+
+  pub opposite-normals : Within 8000000 n → 0 < lengthOf n → bendBetween n (opposite n) ≡ 2000
+  opposite-normals h l =
+      (λ i. bendOf (dot i) (lengthOf n) (opposite-length i))
+      ∙ bend-most (lengthOf n) (lengthOf n) (product-above-0 (lengthOf n) (lengthOf n) l l) (natAbs (squareOf n)) (length-squared h)
+    where
+      dot : dotOf n (opposite n) ≡ negℤ (pos (natAbs (squareOf n)))
+      dot = opposite-dot ∙ +ℤ-idl (negℤ (squareOf n)) ∙ ap negℤ (square-size n)
+
+-- "d = −1 with both m equal to 100: 1001."
+pub nearly-perpendicular : bendOf (negsuc 0) 100 100 ≡ 1001
+unfolding bendOf ratioOf
+nearly-perpendicular = refl
