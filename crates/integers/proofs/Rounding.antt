@@ -2,13 +2,13 @@
 use mathlib.Core.Path.{_≡_, refl, sym, _∙_, ap, subst}
 use mathlib.Core.Bool.{Bool, true, false, not, cond}
 use Prim.Native.Nat.{ℕ, zero, suc, _+_, _*_, _-_, _/_, _%_, _^_, _≤_, _<_}
-use native.Mathlib.Nat.{div-add-mod', div-eq-of-lt-le, mod-lt, div-le-self, mod-le, add-zero, le-trans, le-antisymm, pow-suc, mul-le-mul-left, mul-le-mul-right}
+use native.Mathlib.Nat.{div-mul-le-self, lt-div-mul-add, div-add-mod', div-eq-of-lt-le, mod-lt, div-le-self, mod-le, add-zero, le-trans, le-antisymm, pow-suc, mul-le-mul-left, mul-le-mul-right}
 use native.Mathlib.Decide.{decLe}
 use native.Mathlib.Omega.{arith}
-use lib.Dec.{T, ltb, leb, lt→ltb, leb→le, nleb→lt, lit≤}
+use lib.Dec.{T, ltb, leb, lt→ltb, le→leb, leb→le, nleb→lt, lit≤}
 use lib.IntN.{ℤ, pos, negsuc, negℤ, natAbs, _-ℤ_, _+ℤ_, _*ℤ_}
-use lib.Signed.{ltZ, quotZ, remZ, _<ℤ_}
-use borrow.Author.Tests.{ltb-true, ltb-false}
+use lib.Signed.{ltZ, quotZ, remZ, _<ℤ_, _≤ℤ_}
+use borrow.Author.Tests.{ltb-true, ltb-false, lt-ltb}
 use mir.Syntax.{w64}
 use mir.Val.{SFits, toZ, ofZ}
 use mir.ValLaws.{toZ-ofZ}
@@ -172,3 +172,31 @@ clamped-range x = low (ltZ x (negsuc 999)) refl
     low : (b : Bool) → ltZ x (negsuc 999) ≡ b → (j : ℕ) × (j ≤ 2000) × (pos 1000 -ℤ cond b (negsuc 999) (cond (ltZ (pos 1000) x) (pos 1000) x) ≡ pos j)
     low true s = (2000, lit≤ tt, refl)
     low false s = high (ltZ (pos 1000) x) s refl
+
+-- ---- floor division is the whole number below: q · k ≤ n < (q + 1) · k
+
+minus-le : (x a : ℕ) → suc a ≤ x → negℤ (pos x) ≤ℤ negsuc a
+minus-le zero a h = absurd (omega arith)
+minus-le (suc x) a h = record { le = le→leb a x (omega arith) }
+
+minus-lt : (x a : ℕ) → x ≤ a → negsuc a <ℤ negℤ (pos x)
+minus-lt zero a h = record { lt = tt }
+minus-lt (suc x) a h = record { lt = lt→ltb x a (omega arith) }
+
+pub floor-div-low : (n : ℤ) (k : ℕ) → 0 < k → (floorDiv n k *ℤ pos k) ≤ℤ n
+floor-div-low (pos a) k h = record { le = le→leb _ _ (div-mul-le-self a k) }
+floor-div-low (negsuc a) k h = minus-le (suc (a / k) * k) a (let l : a < a / k * k + k = lt-div-mul-add h in omega arith)
+
+pub floor-div-high : (n : ℤ) (k : ℕ) → 0 < k → n <ℤ ((floorDiv n k +ℤ pos 1) *ℤ pos k)
+floor-div-high (pos a) k h = record { lt = lt→ltb _ _ (let l : a < a / k * k + k = lt-div-mul-add h in above (a / k) l) }
+  where
+    above : (q : ℕ) → a < q * k + k → a < (q + 1) * k
+    above q l = omega arith
+floor-div-high (negsuc a) k h = subst (λ (z : ℤ). negsuc a <ℤ (z *ℤ pos k)) (sym (one-more (a / k))) (at (a / k) (div-mul-le-self a k))
+  where
+    one-more : (q : ℕ) → negsuc q +ℤ pos 1 ≡ negℤ (pos q)
+    one-more zero = refl
+    one-more (suc q) = ap (λ (b : Bool). cond b (negsuc (suc (suc q) - 2)) (pos (1 - suc (suc q)))) (lt-ltb 1 (suc (suc q)) (omega arith)) ∙ ap negsuc (omega arith)
+    at : (q : ℕ) → q * k ≤ a → negsuc a <ℤ (negℤ (pos q) *ℤ pos k)
+    at zero l = record { lt = tt }
+    at (suc q) l = minus-lt (suc q * k) a l
