@@ -4,3 +4,5 @@ pub mod Spheres
 pub mod Corners
 pub mod Faces
 pub mod Bends
+pub mod Planes
+mod Cases

@@ -1,0 +1,68 @@
+-- Document 01's rim P over the definitions: its lengths, bends and positions. Assumes nothing.
+use mathlib.Core.Path.{_≡_, refl}
+use mathlib.Core.Bool.{Bool, true, false}
+use lib.IntN.{ℤ, pos, negsuc}
+use Rattle.grid.specs.declared.GridPoint.{GridPoint}
+use Rattle.grid.specs.Point.{point}
+use Rattle.integers.specs.Rounding.{floorRoot, rootDigits}
+use Rattle.geometry.specs.declared.sphere.Position.the-variants.{Inside, Outside}
+use Rattle.geometry.specs.Faces.{normalOf, lengthOf, ratioOf, bendOf, bendBetween}
+use Rattle.geometry.specs.Spheres.{orientOf, centreOf, distanceOf, coplanar, onSphere, positionOf}
+
+abbrev p0 : GridPoint
+p0 = point (pos 0) (pos 0) (pos 0)
+
+abbrev p1 : GridPoint
+p1 = point (pos 8) (pos 0) (pos 0)
+
+abbrev p2 : GridPoint
+p2 = point (pos 8) (pos 8) (pos 6)
+
+abbrev p3 : GridPoint
+p3 = point (pos 0) (pos 8) (pos 0)
+
+length-012 : lengthOf (normalOf p0 p1 p2) ≡ 80
+unfolding lengthOf rootDigits
+length-012 = refl
+
+length-013 : lengthOf (normalOf p0 p1 p3) ≡ 64
+unfolding lengthOf rootDigits
+length-013 = refl
+
+length-023 : lengthOf (normalOf p0 p2 p3) ≡ 80
+unfolding lengthOf rootDigits
+length-023 = refl
+
+length-123 : lengthOf (normalOf p1 p2 p3) ≡ 93
+unfolding lengthOf rootDigits
+length-123 = refl
+
+bend-1-3 : bendBetween (normalOf p0 p1 p3) (normalOf p1 p2 p3) ≡ 312
+unfolding lengthOf rootDigits bendOf ratioOf
+bend-1-3 = refl
+
+bend-2-0 : bendBetween (normalOf p0 p2 p3) (normalOf p0 p1 p2) ≡ 360
+unfolding lengthOf rootDigits bendOf ratioOf
+bend-2-0 = refl
+
+proper : coplanar p0 p1 p2 p3 ≡ false
+unfolding orientOf
+proper = refl
+
+-- the largest whole root that is asked for
+root-of-all : floorRoot 192000000000000 ≡ 13856406
+unfolding rootDigits
+root-of-all = refl
+
+-- a fifth point on the sphere of the four, one inside and one outside
+fifth-on : onSphere p0 p1 p2 p3 (point (pos 8) (pos 8) (pos 0)) ≡ true
+unfolding orientOf centreOf distanceOf
+fifth-on = refl
+
+fifth-inside : positionOf p0 p1 p2 p3 (point (pos 4) (pos 4) (pos 3)) ≡ Inside
+unfolding orientOf centreOf distanceOf positionOf
+fifth-inside = refl
+
+fifth-outside : positionOf p0 p1 p2 p3 (point (pos 9) (pos 8) (pos 0)) ≡ Outside
+unfolding orientOf centreOf distanceOf positionOf
+fifth-outside = refl
