@@ -85,7 +85,7 @@ distanceE o c v = let w = minusE (scaledE (con (pos 2) :* o) v) c in dotE w w
 distance-opposite : (o : ℤ) (c v : Vector) → squareOf (minus (scaledBy (pos 2 *ℤ (pos 0 -ℤ o)) v) (opposite c)) ≡ squareOf (minus (scaledBy (pos 2 *ℤ o) v) c)
 distance-opposite o c v =
     ring (o ∷ c .x ∷ c .y ∷ c .z ∷ v .x ∷ v .y ∷ v .z ∷ [])
-      (distanceE (con (pos 0) :- var 0) (oppositeE (vec 1)) (vec 4)) (distanceE (var 0) (vec 1) (vec 4)) tt
+    (distanceE (con (pos 0) :- var 0) (oppositeE (vec 1)) (vec 4)) (distanceE (var 0) (vec 1) (vec 4)) tt
 
 abbrev centreAtE : VectorE → VectorE → VectorE → VectorE
 centreAtE u v t = plusE (plusE (scaledE (dotE u u) (crossE v t)) (scaledE (dotE v v) (crossE t u))) (scaledE (dotE t t) (crossE u v))
@@ -156,12 +156,12 @@ module _ (p q r s : GridPoint) where
       λ i. record { x = ring points (a .X) (b .X) tt i; y = ring points (a .Y) (b .Y) tt i; z = ring points (a .Z) (b .Z) tt i }
 
 distance-shift : (o : ℤ) (c : Vector) (p q w : GridPoint) →
-  squareOf (minus (scaledBy (pos 2 *ℤ (pos 0 -ℤ o)) (differenceOf w q)) (plus (opposite c) (scaledBy (pos 2 *ℤ o) (differenceOf q p))))
-  ≡ squareOf (minus (scaledBy (pos 2 *ℤ o) (differenceOf w p)) c)
+    squareOf (minus (scaledBy (pos 2 *ℤ (pos 0 -ℤ o)) (differenceOf w q)) (plus (opposite c) (scaledBy (pos 2 *ℤ o) (differenceOf q p))))
+    ≡ squareOf (minus (scaledBy (pos 2 *ℤ o) (differenceOf w p)) c)
 distance-shift o c p q w =
     ring (o ∷ c .x ∷ c .y ∷ c .z ∷ p .x ∷ p .y ∷ p .z ∷ q .x ∷ q .y ∷ q .z ∷ w .x ∷ w .y ∷ w .z ∷ [])
-      (distanceE (con (pos 0) :- var 0) (plusE (oppositeE (vec 1)) (scaledE (con (pos 2) :* var 0) (minusE (vec 7) (vec 4)))) (minusE (vec 10) (vec 7)))
-      (distanceE (var 0) (vec 1) (minusE (vec 10) (vec 4))) tt
+    (distanceE (con (pos 0) :- var 0) (plusE (oppositeE (vec 1)) (scaledE (con (pos 2) :* var 0) (minusE (vec 7) (vec 4)))) (minusE (vec 10) (vec 7)))
+    (distanceE (var 0) (vec 1) (minusE (vec 10) (vec 4))) tt
 
 module _ (p q r s : GridPoint) where
   pub distance-swap-pq : (w : GridPoint) → distanceOf q p r s w ≡ distanceOf p q r s w

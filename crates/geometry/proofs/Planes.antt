@@ -23,7 +23,7 @@ along n p = n .x *ℤ p .x +ℤ n .y *ℤ p .y +ℤ n .z *ℤ p .z
 along-difference : (n : Vector) (p q : GridPoint) → along n q ≡ along n p → dotOf n (differenceOf q p) ≡ pos 0
 along-difference n p q e =
     ring (n .x ∷ n .y ∷ n .z ∷ p .x ∷ p .y ∷ p .z ∷ q .x ∷ q .y ∷ q .z ∷ [])
-      (dotE (vec 0) (record { X = var 6 :- var 3; Y = var 7 :- var 4; Z = var 8 :- var 5 })) (dotE (vec 0) (vec 6) :- dotE (vec 0) (vec 3)) tt
+    (dotE (vec 0) (record { X = var 6 :- var 3; Y = var 7 :- var 4; Z = var 8 :- var 5 })) (dotE (vec 0) (vec 6) :- dotE (vec 0) (vec 3)) tt
     ∙ sub-self (along n q) (along n p) e
 
 -- Cramer's rule: o · n, by the three products of n
@@ -58,6 +58,7 @@ no-divisor a b e h = go a b (sym (natAbs-mul a b) ∙ ap natAbs e) h
   where
     product : (x y : ℕ) → suc x * suc y ≡ 0 → ⊥
     product x y e = omega arith
+
     go : (a b : ℤ) → natAbs a * natAbs b ≡ 0 → (a ≡ pos 0 → ⊥) → b ≡ pos 0
     go (pos zero) b e h = absurd (h refl)
     go (pos (suc x)) (pos zero) e h = refl
@@ -69,22 +70,25 @@ no-divisor a b e h = go a b (sym (natAbs-mul a b) ∙ ap natAbs e) h
 
 -- four points on one plane, whose normal has a coordinate that is not 0
 pub one-plane : (n : Vector) (k : ℤ) (p q r s : GridPoint) → (n .x ≡ pos 0 → n .y ≡ pos 0 → n .z ≡ pos 0 → ⊥) →
-  along n p ≡ k → along n q ≡ k → along n r ≡ k → along n s ≡ k → coplanar p q r s ≡ true
+    along n p ≡ k → along n q ≡ k → along n r ≡ k → along n s ≡ k → coplanar p q r s ≡ true
 unfolding orientOf
 one-plane n k p q r s h hp hq hr hs = go (coplanar p q r s) refl
   where
     hu : dotOf n (differenceOf q p) ≡ pos 0
     hu = along-difference n p q (hq ∙ sym hp)
+
     hv : dotOf n (differenceOf r p) ≡ pos 0
     hv = along-difference n p r (hr ∙ sym hp)
+
     ht : dotOf n (differenceOf s p) ≡ pos 0
     ht = along-difference n p s (hs ∙ sym hp)
+
     go : (b : Bool) → coplanar p q r s ≡ b → b ≡ true
     go true e = refl
     go false e =
         let o = dotOf (differenceOf q p) (crossOf (differenceOf r p) (differenceOf s p)) in
         let f : (o ≡ pos 0 → ⊥) = λ z. true≢false (sym (equal-is z) ∙ e) in
         absurd (h
-          (no-divisor o (n .x) (by-x n (differenceOf q p) (differenceOf r p) (differenceOf s p) hu hv ht) f)
-          (no-divisor o (n .y) (by-y n (differenceOf q p) (differenceOf r p) (differenceOf s p) hu hv ht) f)
-          (no-divisor o (n .z) (by-z n (differenceOf q p) (differenceOf r p) (differenceOf s p) hu hv ht) f))
+        (no-divisor o (n .x) (by-x n (differenceOf q p) (differenceOf r p) (differenceOf s p) hu hv ht) f)
+        (no-divisor o (n .y) (by-y n (differenceOf q p) (differenceOf r p) (differenceOf s p) hu hv ht) f)
+        (no-divisor o (n .z) (by-z n (differenceOf q p) (differenceOf r p) (differenceOf s p) hu hv ht) f))

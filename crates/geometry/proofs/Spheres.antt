@@ -34,7 +34,8 @@ lift-bounds h k = let d = within-difference k h in record { vector-in = d; squar
 pub pencil-bounds : {u v : Lifted} → LiftedBounds u → LiftedBounds v → PencilBounds (pencilOf u v)
 pencil-bounds h k = record {
   normal-in = within-cross (h .vector-in) (k .vector-in);
-  weighted-in = within-minus (within-scaled (h .square-in) (k .vector-in)) (within-scaled (k .square-in) (h .vector-in)) }
+  weighted-in = within-minus (within-scaled (h .square-in) (k .vector-in)) (within-scaled (k .square-in) (h .vector-in));
+}
 
 zero-in : AtMost 0 (pos 0)
 zero-in = record { size = lib.Dec.lit≤ tt }
@@ -49,8 +50,8 @@ turned-bounds o c h k = go (ltZ o (pos 0))
 pub sphere-bounds : {k : Pencil} {t : Lifted} → PencilBounds k → LiftedBounds t → SphereBounds (sphereOf k t)
 sphere-bounds {k} {t} h l =
     turned-bounds (dotOf (k .normal) (t .vector)) (plus (crossOf (k .weighted) (t .vector)) (scaledBy (t .square) (k .normal)))
-      (at-most-dot (h .normal-in) (l .vector-in))
-      (within-plus (within-cross (h .weighted-in) (l .vector-in)) (within-scaled (l .square-in) (h .normal-in)))
+    (at-most-dot (h .normal-in) (l .vector-in))
+    (within-plus (within-cross (h .weighted-in) (l .vector-in)) (within-scaled (l .square-in) (h .normal-in)))
 
 -- ---- the computed sphere is the one of the definitions
 
@@ -61,7 +62,7 @@ module _ (u v t : Vector) where
   abbrev pencilCentreE : VectorE
   pencilCentreE =
       plusE (crossE (minusE (scaledE (dotE (vec 0) (vec 0)) (vec 3)) (scaledE (dotE (vec 3) (vec 3)) (vec 0))) (vec 6))
-        (scaledE (dotE (vec 6) (vec 6)) (crossE (vec 0) (vec 3)))
+      (scaledE (dotE (vec 6) (vec 6)) (crossE (vec 0) (vec 3)))
 
   abbrev centreE : VectorE
   centreE = plusE (plusE (scaledE (dotE (vec 0) (vec 0)) (crossE (vec 3) (vec 6))) (scaledE (dotE (vec 3) (vec 3)) (crossE (vec 6) (vec 0)))) (scaledE (dotE (vec 6) (vec 6)) (crossE (vec 0) (vec 3)))
@@ -70,12 +71,13 @@ module _ (u v t : Vector) where
   triple-product = ring values (dotE (crossE (vec 0) (vec 3)) (vec 6)) (dotE (vec 0) (crossE (vec 3) (vec 6))) tt
 
   pencil-centre :
-    plus (crossOf (minus (scaledBy (squareOf u) v) (scaledBy (squareOf v) u)) t) (scaledBy (squareOf t) (crossOf u v))
-    ≡ plus (plus (scaledBy (squareOf u) (crossOf v t)) (scaledBy (squareOf v) (crossOf t u))) (scaledBy (squareOf t) (crossOf u v))
+      plus (crossOf (minus (scaledBy (squareOf u) v) (scaledBy (squareOf v) u)) t) (scaledBy (squareOf t) (crossOf u v))
+      ≡ plus (plus (scaledBy (squareOf u) (crossOf v t)) (scaledBy (squareOf v) (crossOf t u))) (scaledBy (squareOf t) (crossOf u v))
   pencil-centre = λ i. record {
     x = ring values (pencilCentreE .X) (centreE .X) tt i;
     y = ring values (pencilCentreE .Y) (centreE .Y) tt i;
-    z = ring values (pencilCentreE .Z) (centreE .Z) tt i }
+    z = ring values (pencilCentreE .Z) (centreE .Z) tt i;
+  }
 
 module _ (p q r s : GridPoint) where
   -- what the code computes of four corners
@@ -114,7 +116,7 @@ module _ (o : ℤ) (b v : Vector) (p : GridPoint) where
 
 -- the position by two distances, and by the power of which their difference is a positive multiple
 by-multiple : (n : ℕ) (a d c : ℤ) → a -ℤ d ≡ (pos 4 *ℤ pos (suc n)) *ℤ c →
-  cond (ltZ c (pos 0)) Inside (cond (equal c (pos 0)) On Outside) ≡ cond (ltZ a d) Inside (cond (equal a d) On Outside)
+    cond (ltZ c (pos 0)) Inside (cond (equal c (pos 0)) On Outside) ≡ cond (ltZ a d) Inside (cond (equal a d) On Outside)
 by-multiple n a d c e =
     let k = 3 * n + 3 + n in
     let f : a -ℤ d ≡ pos (suc k) *ℤ c = e ∙ ap (λ (x : ℕ). pos x *ℤ c) (product-suc 3 n) in

@@ -31,7 +31,8 @@ module _ {m n : ℕ} {u v : Vector} (h : Within m u) (k : Within n v) where
   within-cross = record {
     in-x = at-most-sub (at-most-mul (h .in-y) (k .in-z)) (at-most-mul (h .in-z) (k .in-y));
     in-y = at-most-sub (at-most-mul (h .in-z) (k .in-x)) (at-most-mul (h .in-x) (k .in-z));
-    in-z = at-most-sub (at-most-mul (h .in-x) (k .in-y)) (at-most-mul (h .in-y) (k .in-x)) }
+    in-z = at-most-sub (at-most-mul (h .in-x) (k .in-y)) (at-most-mul (h .in-y) (k .in-x));
+  }
 
 pub within-scaled : {m n : ℕ} {k : ℤ} {v : Vector} → AtMost m k → Within n v → Within (m * n) (scaledBy k v)
 within-scaled a h = record { in-x = at-most-mul a (h .in-x); in-y = at-most-mul a (h .in-y); in-z = at-most-mul a (h .in-z) }
@@ -45,8 +46,15 @@ within-as {n} e h = subst (λ (w : Vector). Within n w) (sym e) h
 -- the products of two bounded vectors can be computed: three comparisons of numbers
 pub products-fit : {m n : ℕ} {u v : Vector} → T (leb m largest) → T (leb n largest) → T (leb (m * n) third) → Within m u → Within n v → ProductsFit u v
 products-fit s t r h k = record {
-  left = within-le s h; right = within-le t k;
-  xx = at-most-le r (at-most-mul (h .in-x) (k .in-x)); yy = at-most-le r (at-most-mul (h .in-y) (k .in-y)); zz = at-most-le r (at-most-mul (h .in-z) (k .in-z));
-  yz = at-most-le r (at-most-mul (h .in-y) (k .in-z)); zy = at-most-le r (at-most-mul (h .in-z) (k .in-y));
-  zx = at-most-le r (at-most-mul (h .in-z) (k .in-x)); xz = at-most-le r (at-most-mul (h .in-x) (k .in-z));
-  xy = at-most-le r (at-most-mul (h .in-x) (k .in-y)); yx = at-most-le r (at-most-mul (h .in-y) (k .in-x)) }
+  left = within-le s h;
+  right = within-le t k;
+  xx = at-most-le r (at-most-mul (h .in-x) (k .in-x));
+  yy = at-most-le r (at-most-mul (h .in-y) (k .in-y));
+  zz = at-most-le r (at-most-mul (h .in-z) (k .in-z));
+  yz = at-most-le r (at-most-mul (h .in-y) (k .in-z));
+  zy = at-most-le r (at-most-mul (h .in-z) (k .in-y));
+  zx = at-most-le r (at-most-mul (h .in-z) (k .in-x));
+  xz = at-most-le r (at-most-mul (h .in-x) (k .in-z));
+  xy = at-most-le r (at-most-mul (h .in-x) (k .in-y));
+  yx = at-most-le r (at-most-mul (h .in-y) (k .in-x));
+}

@@ -36,7 +36,6 @@ pub record Within (n : ℕ) (v : Vector) : Type 0 where
   pub in-y : AtMost n (v .y)
   pub in-z : AtMost n (v .z)
 
-
 -- a third of the largest i64
 abbrev pub third : ℕ
 third = 3074457345618258602

@@ -4,7 +4,6 @@ use crate::cross;
 use crate::difference;
 use crate::dot;
 use grid::GridPoint;
-
 ghost use mathlib.Core.Path.{_≡_};
 ghost use Rattle.grid.specs.Point.{PointOnGrid};
 ghost use Prim.Native.Nat.{_≤_, _<_};

@@ -8,7 +8,11 @@ ghost use mathlib.Core.Path.{_≡_};
 ghost use Rattle.grid.specs.Point.{PointOnGrid};
 ghost use Rattle.geometry.specs.Vectors.{ProductsFit, differenceOf, dotOf, crossOf};
 
-pub struct Vector { pub x: i64, pub y: i64, pub z: i64 }
+pub struct Vector {
+    pub x: i64,
+    pub y: i64,
+    pub z: i64,
+}
 
 // From q to p.
 pub fn difference(p: GridPoint, q: GridPoint) -> Vector
@@ -21,7 +25,11 @@ pub fn difference(p: GridPoint, q: GridPoint) -> Vector
     let qx = q.x;
     let qy = q.y;
     let qz = q.z;
-    Vector { x: px - qx, y: py - qy, z: pz - qz }
+    Vector {
+        x: px - qx,
+        y: py - qy,
+        z: pz - qz,
+    }
 }
 
 pub fn dot(u: Vector, v: Vector) -> i64
@@ -47,5 +55,9 @@ pub fn cross(u: Vector, v: Vector) -> Vector
     let vx = v.x;
     let vy = v.y;
     let vz = v.z;
-    Vector { x: uy * vz - uz * vy, y: uz * vx - ux * vz, z: ux * vy - uy * vx }
+    Vector {
+        x: uy * vz - uz * vy,
+        y: uz * vx - ux * vz,
+        z: ux * vy - uy * vx,
+    }
 }

@@ -4,7 +4,6 @@ use crate::cross;
 use crate::difference;
 use crate::dot;
 use grid::GridPoint;
-
 ghost use mathlib.Core.Path.{_≡_};
 ghost use Rattle.grid.specs.Point.{PointOnGrid};
 ghost use Rattle.integers.specs.Bounds.{AtMost};
@@ -12,15 +11,28 @@ ghost use Rattle.geometry.specs.Vectors.{Within, scaledBy, plus, minus};
 ghost use Rattle.geometry.specs.Spheres.{LiftedBounds, PencilBounds, SphereBounds, liftOf, pencilOf, turned, sphereOf, positionBy};
 
 // A point as seen from the base, with its squared distance: the lifting map of Delaunay triangulation.
-pub struct Lifted { pub vector: Vector, pub square: i64 }
+pub struct Lifted {
+    pub vector: Vector,
+    pub square: i64,
+}
 
 // What all spheres through the base, u and v share: u × v, and |u|² v - |v|² u.
-pub struct Pencil { pub normal: Vector, pub weighted: Vector }
+pub struct Pencil {
+    pub normal: Vector,
+    pub weighted: Vector,
+}
 
 // A sphere through the base and three more points: their orientation, not negative, and the centre times twice that.
-pub struct Sphere { pub orient: i64, pub centre: Vector }
+pub struct Sphere {
+    pub orient: i64,
+    pub centre: Vector,
+}
 
-pub enum Position { Inside, On, Outside }
+pub enum Position {
+    Inside,
+    On,
+    Outside,
+}
 
 pub fn lift(base: GridPoint, p: GridPoint) -> Lifted
     requires { ⌜ (PointOnGrid base) × (PointOnGrid p) ⌝ }
@@ -42,7 +54,11 @@ fn scaled_difference(i: i64, a: Vector, j: i64, b: Vector) -> Vector
     let bx = b.x;
     let by = b.y;
     let bz = b.z;
-    Vector { x: i * ax - j * bx, y: i * ay - j * by, z: i * az - j * bz }
+    Vector {
+        x: i * ax - j * bx,
+        y: i * ay - j * by,
+        z: i * az - j * bz,
+    }
 }
 
 // a + k · b
@@ -56,7 +72,11 @@ fn scaled_sum(a: Vector, k: i64, b: Vector) -> Vector
     let bx = b.x;
     let by = b.y;
     let bz = b.z;
-    Vector { x: ax + k * bx, y: ay + k * by, z: az + k * bz }
+    Vector {
+        x: ax + k * bx,
+        y: ay + k * by,
+        z: az + k * bz,
+    }
 }
 
 // Where four corners turn the other way all signs are changed, so that one comparison places a point.
@@ -68,10 +88,17 @@ fn turn(o: i64, c: Vector) -> Sphere
         let x = c.x;
         let y = c.y;
         let z = c.z;
-        let centre = Vector { x: -x, y: -y, z: -z };
+        let centre = Vector {
+            x: -x,
+            y: -y,
+            z: -z,
+        };
         return Sphere { orient: -o, centre };
     }
-    Sphere { orient: o, centre: c }
+    Sphere {
+        orient: o,
+        centre: c,
+    }
 }
 
 // Once for three corners.

@@ -28,6 +28,7 @@ natAbs-sub a b = cond-case (ltb a b) (negsuc (b - suc a)) (pos (a - b)) (λ z. n
   where
     u : (a b : ℕ) → a < b → suc (b - suc a) ≤ a + b
     u a b h = omega arith
+
     v : (a b : ℕ) → a - b ≤ a + b
     v a b = omega arith
 

@@ -159,13 +159,13 @@ module _ (ρ : List ℤ) where
       (λ (x : Poly). evalP ρ x ≡ c *ℤ evalM ρ m +ℤ (d *ℤ evalM ρ k +ℤ evalP ρ p))
       (front-is ρ c m (mon d k p))
       (λ h. front-is ρ (c +ℤ d) k p
-        ∙ ap (λ (x : ℤ). x +ℤ evalP ρ p) (distrib-r c d (evalM ρ k))
-        ∙ +ℤ-assoc (c *ℤ evalM ρ k) (d *ℤ evalM ρ k) (evalP ρ p)
-        ∙ ap (λ (x : List ℕ). c *ℤ evalM ρ x +ℤ (d *ℤ evalM ρ k +ℤ evalP ρ p)) (sym (cmpM-eq m k h)))
+      ∙ ap (λ (x : ℤ). x +ℤ evalP ρ p) (distrib-r c d (evalM ρ k))
+      ∙ +ℤ-assoc (c *ℤ evalM ρ k) (d *ℤ evalM ρ k) (evalP ρ p)
+      ∙ ap (λ (x : List ℕ). c *ℤ evalM ρ x +ℤ (d *ℤ evalM ρ k +ℤ evalP ρ p)) (sym (cmpM-eq m k h)))
       (ap (λ (x : ℤ). d *ℤ evalM ρ k +ℤ x) (insP-is c m p)
-        ∙ sym (+ℤ-assoc (d *ℤ evalM ρ k) (c *ℤ evalM ρ m) (evalP ρ p))
-        ∙ ap (λ (x : ℤ). x +ℤ evalP ρ p) (+ℤ-comm (d *ℤ evalM ρ k) (c *ℤ evalM ρ m))
-        ∙ +ℤ-assoc (c *ℤ evalM ρ m) (d *ℤ evalM ρ k) (evalP ρ p))
+      ∙ sym (+ℤ-assoc (d *ℤ evalM ρ k) (c *ℤ evalM ρ m) (evalP ρ p))
+      ∙ ap (λ (x : ℤ). x +ℤ evalP ρ p) (+ℤ-comm (d *ℤ evalM ρ k) (c *ℤ evalM ρ m))
+      ∙ +ℤ-assoc (c *ℤ evalM ρ m) (d *ℤ evalM ρ k) (evalP ρ p))
 
   addP-is : (p q : Poly) → evalP ρ (addP p q) ≡ evalP ρ p +ℤ evalP ρ q
   addP-is nil q = sym (+ℤ-idl (evalP ρ q))

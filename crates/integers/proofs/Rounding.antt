@@ -91,6 +91,7 @@ root-unique x r s p q = le-antisymm (no-more r s p q) (no-more s r q p)
   where
     square : {a b : ℕ} → a ≤ b → a * a ≤ b * b
     square {a} {b} h = le-trans (mul-le-mul-right a h) (mul-le-mul-left b h)
+
     no-more : (r s : ℕ) → IsFloorRoot x r → IsFloorRoot x s → r ≤ s
     no-more r s p q = go (decLe r s)
       where
@@ -166,9 +167,11 @@ clamped-range x = low (ltZ x (negsuc 999)) refl
     middle (pos zero) s t = (1000, lit≤ tt, refl)
     middle (pos (suc a)) s t = (1000 - suc a, omega arith, ap (λ (b : Bool). cond b (negsuc (suc a - 1001)) (pos (1000 - suc a))) t)
     middle (negsuc a) s t = let h = ltb-false 999 a s in (1000 + suc a, omega arith, refl)
+
     high : (b : Bool) → ltZ x (negsuc 999) ≡ false → ltZ (pos 1000) x ≡ b → (j : ℕ) × (j ≤ 2000) × (pos 1000 -ℤ cond b (pos 1000) x ≡ pos j)
     high true s t = (0, lit≤ tt, refl)
     high false s t = middle x s t
+
     low : (b : Bool) → ltZ x (negsuc 999) ≡ b → (j : ℕ) × (j ≤ 2000) × (pos 1000 -ℤ cond b (negsuc 999) (cond (ltZ (pos 1000) x) (pos 1000) x) ≡ pos j)
     low true s = (2000, lit≤ tt, refl)
     low false s = high (ltZ (pos 1000) x) s refl
@@ -197,6 +200,7 @@ floor-div-high (negsuc a) k h = subst (λ (z : ℤ). negsuc a <ℤ (z *ℤ pos k
     one-more : (q : ℕ) → negsuc q +ℤ pos 1 ≡ negℤ (pos q)
     one-more zero = refl
     one-more (suc q) = ap (λ (b : Bool). cond b (negsuc (suc (suc q) - 2)) (pos (1 - suc (suc q)))) (lt-ltb 1 (suc (suc q)) (omega arith)) ∙ ap negsuc (omega arith)
+
     at : (q : ℕ) → q * k ≤ a → negsuc a <ℤ (negℤ (pos q) *ℤ pos k)
     at zero l = record { lt = tt }
     at (suc q) l = minus-lt (suc q * k) a l

@@ -30,11 +30,7 @@ pub fn floor_div(n: i64, k: i64) -> i64
     ensures { λ r. ⌜ r ≡ floorDiv n (natAbs k) ⌝ }
 {
     let q = n / k;
-    if n % k < 0 {
-        q - 1
-    } else {
-        q
-    }
+    if n % k < 0 { q - 1 } else { q }
 }
 
 // x, held within low to high.

@@ -39,14 +39,14 @@ returns c =
     let s = c .before in
     stored tt (stored tt (quot! (n! s) (k! s)) -! one!) .value
     ∙ down (s .args .n) (natAbs (s .args .k)) (over (s .args .k) (s .pre .1) .0)
-      (sym (ap (λ (z : ℤ). ltZ z (pos 0)) (stored tt (rem! (n! s) (k! s)) .value)) ∙ c .if1 .taken)
+    (sym (ap (λ (z : ℤ). ltZ z (pos 0)) (stored tt (rem! (n! s) (k! s)) .value)) ∙ c .if1 .taken)
 
 returns-2 : tie.Need-returns-2
 returns-2 c =
     let s = c .before in
     stored tt (quot! (n! s) (k! s)) .value
     ∙ kept (s .args .n) (natAbs (s .args .k)) (over (s .args .k) (s .pre .1) .0)
-      (sym (ap (λ (z : ℤ). ltZ z (pos 0)) (stored tt (rem! (n! s) (k! s)) .value)) ∙ c .if1 .left)
+    (sym (ap (λ (z : ℤ). ltZ z (pos 0)) (stored tt (rem! (n! s) (k! s)) .value)) ∙ c .if1 .left)
 
 pub floor-div-spec : {M : Type 1} → statement M
 floor-div-spec = tie.close (tie.spec div-q rem-if1 sub-result returns returns-2)

@@ -43,9 +43,10 @@ mul-w : tie.Need-mul-w
 mul-w c = fits tt (divisor c)
 
 floor-div-requires : tie.Need-floor-div-requires
-floor-div-requires c κs =
-    (at-most-le tt (at-most-held (stored tt (numerator c))),
-     subst (λ (z : ℤ). pos 0 <ℤ z) (sym (stored tt (divisor c) .value)) (record { lt = lt→ltb 0 _ (product-above-0 (c .args .m) (c .args .k) (c .pre .1) (c .pre .3)) }))
+floor-div-requires c κs = (
+  at-most-le tt (at-most-held (stored tt (numerator c))),
+  subst (λ (z : ℤ). pos 0 <ℤ z) (sym (stored tt (divisor c) .value)) (record { lt = lt→ltb 0 _ (product-above-0 (c .args .m) (c .args .k) (c .pre .1) (c .pre .3)) }),
+)
 
 clamp-requires : tie.Need-clamp-requires
 clamp-requires c κs = tt
@@ -63,7 +64,8 @@ bend! c =
     let s = c .before .before in
     record {
       value = ap (λ (z : ℤ). pos 1000 -ℤ z) (toZ-ofZ w64 (c .clamp .result) (record { sfits = c .clamp .ok }) ∙ ratio! c) ∙ sym (bend-is (s .args .d) (s .args .m) (s .args .k));
-      bound = natural (bend-bound (s .args .d) (s .args .m) (s .args .k)) }
+      bound = natural (bend-bound (s .args .d) (s .args .m) (s .args .k));
+    }
 
 sub-result : tie.Need-sub-result
 sub-result c = fits tt (bend! c)

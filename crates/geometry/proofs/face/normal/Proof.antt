@@ -15,8 +15,8 @@ cross-requires : tie.Need-cross-requires
 cross-requires c κs =
     let s = c .before .before in
     products-fit tt tt tt
-      (within-as (c .before .difference .ensures) (within-difference (s .pre .1) (s .pre .0)))
-      (within-as (c .difference2 .ensures) (within-difference (s .pre .2) (s .pre .0)))
+    (within-as (c .before .difference .ensures) (within-difference (s .pre .1) (s .pre .0)))
+    (within-as (c .difference2 .ensures) (within-difference (s .pre .2) (s .pre .0)))
 
 returns : tie.Need-returns
 returns c = c .cross .ensures ∙ (λ i. crossOf (c .before .before .difference .ensures i) (c .before .difference2 .ensures i))

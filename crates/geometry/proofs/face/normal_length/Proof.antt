@@ -21,9 +21,10 @@ square! : (c : tie.After-dot) → bits (c .dot .result) ≡ squareOf (c .before 
 square! c = returned tt (c .dot .ensures) (at-most-dot (c .before .pre) (c .before .pre)) .value
 
 cast-floor-root : tie.Need-cast-floor-root
-cast-floor-root c =
-    (subst (λ (z : ℤ). T (nonNeg z)) (sym (square! c)) (square-nonneg (c .before .args .n)),
-     record { fits = subst (λ (z : ℤ). natAbs z < 2 ^ 64) (sym (square! c)) (wider (square-below (c .before .pre))) })
+cast-floor-root c = (
+  subst (λ (z : ℤ). T (nonNeg z)) (sym (square! c)) (square-nonneg (c .before .args .n)),
+  record { fits = subst (λ (z : ℤ). natAbs z < 2 ^ 64) (sym (square! c)) (wider (square-below (c .before .pre))) },
+)
   where
     wider : {x : ℕ} → x < 2 ^ 52 → x < 2 ^ 64
     wider h = omega native.Mathlib.Omega.arith

@@ -26,9 +26,10 @@ scaled-sum-requires c κs =
 
 turn-requires : tie.Need-turn-requires
 turn-requires c κs =
-    let s = c .before .before .before .before .before .before .before in
-    (at-most-held (returned tt (c .before .before .dot .ensures) (at-most-dot (s .pre .0 .normal-in) (s .pre .1 .vector-in))),
-     within-as (c .scaled-sum .ensures) (within-plus (crossed (c .before)) (within-scaled (at-most-held (given tt (s .pre .1 .square-in))) (s .pre .0 .normal-in))))
+    let s = c .before .before .before .before .before .before .before in (
+      at-most-held (returned tt (c .before .before .dot .ensures) (at-most-dot (s .pre .0 .normal-in) (s .pre .1 .vector-in))),
+      within-as (c .scaled-sum .ensures) (within-plus (crossed (c .before)) (within-scaled (at-most-held (given tt (s .pre .1 .square-in))) (s .pre .0 .normal-in))),
+    )
 
 returns : tie.Need-returns
 returns c =

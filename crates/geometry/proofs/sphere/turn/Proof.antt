@@ -33,7 +33,9 @@ returns c =
       centre = record {
         x = stored tt (nothing -! given tt (s .pre .1 .in-x)) .value i;
         y = stored tt (nothing -! given tt (s .pre .1 .in-y)) .value i;
-        z = stored tt (nothing -! given tt (s .pre .1 .in-z)) .value i } })
+        z = stored tt (nothing -! given tt (s .pre .1 .in-z)) .value i;
+      };
+    })
     ∙ rw t
 
 returns-2 : tie.Need-returns-2
