@@ -1,6 +1,6 @@
 -- The bend: from 0 to 2000, and its values for equal, perpendicular and opposite normals. Assumes nothing.
 use mathlib.Core.Path.{_≡_, refl, sym, _∙_, ap, subst}
-use mathlib.Core.List.{List, [], _∷_}
+use mathlib.Core.List.{[], _∷_}
 use mathlib.Core.Bool.{Bool, true, false, cond}
 use Prim.Native.Nat.{ℕ, zero, suc, _+_, _*_, _/_, _≤_, _<_}
 use native.Mathlib.Nat.{le-antisymm, le-div-iff-mul-le, zero-div}
@@ -10,7 +10,7 @@ use lib.IntN.{ℤ, pos, negsuc, negℤ, natAbs, _-ℤ_, _*ℤ_, +ℤ-idl}
 use borrow.Author.Tests.{ltb-false}
 use Rattle.geometry.specs.declared.Vector.{Vector}
 use Rattle.integers.specs.Rounding.{floorRoot, floorDiv, clamped}
-use Rattle.integers.proofs.Ring.{E, var, con, _:+_, _:-_, _:*_, ring}
+use Rattle.integers.proofs.Ring.{var, con, _:-_, ring}
 use Rattle.integers.proofs.Rounding.{clamped-range, product-above-0}
 use Rattle.geometry.specs.Vectors.{dotOf, squareOf, Within}
 use Rattle.geometry.specs.Faces.{lengthOf, ratioOf, bendOf, bendBetween}

@@ -1,7 +1,7 @@
 -- Document 01's rim P over the definitions: its lengths, bends and positions. Assumes nothing.
 use mathlib.Core.Path.{_≡_, refl}
-use mathlib.Core.Bool.{Bool, true, false}
-use lib.IntN.{ℤ, pos, negsuc}
+use mathlib.Core.Bool.{true, false}
+use lib.IntN.{pos}
 use Rattle.grid.specs.declared.GridPoint.{GridPoint}
 use Rattle.grid.specs.Point.{point}
 use Rattle.integers.specs.Rounding.{floorRoot, rootDigits}

@@ -1,20 +1,18 @@
 -- The four corners are at one distance from the centre, and the sphere does not depend on the order in which they are named. Assumes nothing.
-use mathlib.Core.Path.{_≡_, refl, sym, _∙_, ap, subst}
+use mathlib.Core.Path.{_≡_, _∙_, ap}
 use mathlib.Core.List.{List, [], _∷_}
-use mathlib.Core.Bool.{Bool, true, false, cond}
-use Prim.Native.Nat.{ℕ, _+_}
-use lib.IntN.{ℤ, pos, _+ℤ_, _-ℤ_, _*ℤ_, *ℤ-zero}
+use mathlib.Core.Bool.{true, cond}
+use lib.IntN.{ℤ, pos, _-ℤ_, _*ℤ_, *ℤ-zero}
 use lib.Signed.{ltZ}
 use Rattle.grid.specs.declared.GridPoint.{GridPoint}
 use Rattle.geometry.specs.declared.Vector.{Vector}
-use Rattle.geometry.specs.declared.sphere.Position.{Position}
 use Rattle.geometry.specs.declared.sphere.Position.the-variants.{Inside, On, Outside}
 use Rattle.integers.specs.Order.{equal}
 use Rattle.integers.proofs.Laws.{sub-zero}
 use Rattle.integers.proofs.Order.{equal-is}
-use Rattle.integers.proofs.Ring.{E, var, con, _:+_, _:-_, _:*_, ring}
+use Rattle.integers.proofs.Ring.{E, var, con, _:-_, _:*_, ring}
 use Rattle.geometry.specs.Vectors.{differenceOf, dotOf, crossOf, squareOf, scaledBy, plus, minus}
-use Rattle.geometry.specs.Spheres.{orientOf, coplanar, centreOf, distanceOf, strictlyInside, onSphere, positionOf}
+use Rattle.geometry.specs.Spheres.{orientOf, centreOf, distanceOf, onSphere, positionOf}
 use Rattle.geometry.proofs.Terms.{VectorE, vec, dotE, crossE, scaledE, plusE, minusE}
 use Rattle.geometry.proofs.Spheres.{distances-power}
 

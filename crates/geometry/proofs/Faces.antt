@@ -1,19 +1,19 @@
 -- Lengths of normals and weights: their bounds, and that each face of four points that are not in one plane has a length. Assumes nothing.
 use mathlib.Core.Path.{_≡_, refl, sym, _∙_, ap, subst}
 use mathlib.Core.List.{List, [], _∷_}
-use mathlib.Core.Bool.{Bool, true, false, cond}
+use mathlib.Core.Bool.{false}
 use Prim.Native.Nat.{ℕ, zero, suc, _+_, _*_, _^_, _≤_, _<_}
-use native.Mathlib.Nat.{le-trans, lt-of-le-of-lt}
+use native.Mathlib.Nat.{lt-of-le-of-lt}
 use native.Mathlib.Omega.{arith}
-use lib.Dec.{T, lit<, lit≤}
-use lib.IntN.{ℤ, pos, negsuc, natAbs, _+ℤ_, _-ℤ_, _*ℤ_, *ℤ-zero}
+use lib.Dec.{T, lit<}
+use lib.IntN.{ℤ, pos, negsuc, natAbs, _+ℤ_, _*ℤ_, *ℤ-zero}
 use lib.Signed.{nonNeg}
 use Rattle.grid.specs.declared.GridPoint.{GridPoint}
 use Rattle.grid.specs.Point.{PointOnGrid}
 use Rattle.geometry.specs.declared.Vector.{Vector}
 use Rattle.integers.specs.Bounds.{AtMost}
 use Rattle.integers.proofs.Laws.{square-is}
-use Rattle.integers.proofs.Ring.{E, var, con, _:+_, _:-_, _:*_, ring}
+use Rattle.integers.proofs.Ring.{E, ring}
 use Rattle.integers.proofs.Bounds.{mul-le}
 use Rattle.integers.proofs.Order.{equal-is, true≢false}
 use Rattle.integers.proofs.Rounding.{floor-root-le, floor-root-above-0, floor-root-square}

@@ -2,11 +2,10 @@
 use mathlib.Core.Path.{_≡_, refl, sym, _∙_, ap, subst}
 use mathlib.Core.List.{List, [], _∷_}
 use mathlib.Core.Bool.{Bool, true, false, cond}
-use Prim.Native.Nat.{ℕ, zero, suc, _+_, _*_, _≤_}
+use Prim.Native.Nat.{ℕ, zero, suc, _+_, _*_}
 use native.Mathlib.Omega.{arith}
-use lib.Dec.{T, leb}
 use borrow.Author.Tests.{ne-eqb}
-use lib.IntN.{ℤ, pos, negsuc, _+ℤ_, _-ℤ_, _*ℤ_, +ℤ-idl}
+use lib.IntN.{ℤ, pos, negsuc, _-ℤ_, _*ℤ_, +ℤ-idl}
 use lib.Signed.{ltZ}
 use Rattle.integers.specs.Order.{equal}
 use Rattle.grid.specs.declared.GridPoint.{GridPoint}
@@ -18,12 +17,12 @@ use Rattle.geometry.specs.declared.sphere.Sphere.{Sphere}
 use Rattle.geometry.specs.declared.sphere.Position.{Position}
 use Rattle.geometry.specs.declared.sphere.Position.the-variants.{Inside, On, Outside}
 use Rattle.integers.specs.Bounds.{AtMost}
-use Rattle.integers.proofs.Ring.{E, var, con, _:+_, _:-_, _:*_, ring}
+use Rattle.integers.proofs.Ring.{E, var, con, _:-_, _:*_, ring}
 use Rattle.geometry.proofs.Terms.{VectorE, vec, dotE, crossE, scaledE, plusE, minusE}
 use Rattle.integers.proofs.Bounds.{at-most-sub}
 use Rattle.integers.proofs.Order.{equal-is, less-by-multiple, equal-by-multiple, product-suc, not-below, true≢false}
 use Rattle.geometry.specs.Vectors.{differenceOf, dotOf, crossOf, squareOf, scaledBy, plus, minus, Within}
-use Rattle.geometry.specs.Spheres.{orientOf, coplanar, centreOf, distanceOf, strictlyInside, onSphere, positionOf, liftOf, pencilOf, turned, sphereOf, powerOf, positionBy, LiftedBounds, PencilBounds, SphereBounds}
+use Rattle.geometry.specs.Spheres.{orientOf, coplanar, centreOf, distanceOf, strictlyInside, onSphere, positionOf, liftOf, pencilOf, turned, sphereOf, positionBy, LiftedBounds, PencilBounds, SphereBounds}
 use Rattle.geometry.proofs.Vectors.{within-difference, within-plus, within-minus, within-scaled, within-cross, at-most-dot}
 
 -- ---- bounds

@@ -1,6 +1,6 @@
 -- Vectors of terms, for the ring solver: each operation as that of `specs/Vectors.antt`. Assumes nothing.
 use Prim.Native.Nat.{ℕ, _+_}
-use Rattle.integers.proofs.Ring.{E, var, con, _:+_, _:-_, _:*_}
+use Rattle.integers.proofs.Ring.{E, var, _:+_, _:-_, _:*_}
 
 pub record VectorE : Type 0 where
   pub X : E

@@ -2,13 +2,13 @@
 use mathlib.Core.Path.{_≡_, sym, subst}
 use Prim.Native.Nat.{ℕ, _+_, _*_}
 use lib.Dec.{T, leb}
-use lib.IntN.{ℤ, _*ℤ_}
+use lib.IntN.{ℤ}
 use Rattle.grid.specs.declared.GridPoint.{GridPoint}
 use Rattle.grid.specs.Point.{OnGrid, PointOnGrid}
 use Rattle.geometry.specs.declared.Vector.{Vector}
 use Rattle.integers.specs.Bounds.{AtMost, largest}
 use Rattle.integers.proofs.Bounds.{at-most-add, at-most-sub, at-most-mul, at-most-le}
-use Rattle.geometry.specs.Vectors.{differenceOf, dotOf, crossOf, squareOf, scaledBy, plus, minus, Within, ProductsFit, third}
+use Rattle.geometry.specs.Vectors.{differenceOf, dotOf, crossOf, scaledBy, plus, minus, Within, ProductsFit, third}
 
 -- a grid coordinate
 pub coordinate : {c : ℤ} → OnGrid c → AtMost 1000 c

@@ -1,12 +1,12 @@
 -- Equations of polynomials over ℤ, by computation: `ring ρ a b tt : eval ρ a ≡ eval ρ b`, where ρ lists the values of `var 0`, `var 1`, ..
 -- A false equation is refused, since `tt` then has the wrong type. Assumes nothing.
-use mathlib.Core.Path.{_≡_, refl, sym, _∙_, ap, subst}
+use mathlib.Core.Path.{_≡_, refl, sym, _∙_, ap}
 use mathlib.Core.List.{List, [], _∷_}
 use mathlib.Core.Bool.{Bool, true, false}
 use Prim.Native.Nat.{ℕ, zero, suc, compare, Ordering, Ordering·lt, Ordering·eq, Ordering·gt}
-use lib.Dec.{T, eqb, eqb→eq, isEq}
-use lib.IntN.{ℤ, pos, negsuc, negℤ, _+ℤ_, _-ℤ_, _*ℤ_, +ℤ-idl, +ℤ-idr, +ℤ-assoc, +ℤ-comm, +ℤ-invr, zero-*ℤ, *ℤ-zero, *ℤ-comm}
-use Rattle.integers.proofs.Laws.{swap-mid, swap-r, neg-mul, distrib-r, distrib-l, mul-assoc, mul-left-comm, mul-swap-mid, mul-one, one-mul, sub-zero}
+use lib.Dec.{T, eqb→eq, isEq}
+use lib.IntN.{ℤ, pos, negsuc, negℤ, _+ℤ_, _-ℤ_, _*ℤ_, +ℤ-idl, +ℤ-idr, +ℤ-assoc, +ℤ-comm, zero-*ℤ, *ℤ-zero}
+use Rattle.integers.proofs.Laws.{neg-mul, distrib-r, distrib-l, mul-assoc, mul-left-comm, mul-swap-mid, mul-one, one-mul, sub-zero}
 
 infixl 6 _:+_ _:-_
 infixl 7 _:*_

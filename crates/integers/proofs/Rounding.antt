@@ -1,4 +1,4 @@
--- What the machine's quotient and remainder say of the quotient that is rounded down; a signed test carried from bits to numbers. Assumes nothing.
+-- Laws of floor division, the whole root and the clamp. Assumes nothing.
 use mathlib.Core.Path.{_≡_, refl, sym, _∙_, ap, subst}
 use mathlib.Core.Bool.{Bool, true, false, not, cond}
 use Prim.Native.Nat.{ℕ, zero, suc, _+_, _*_, _-_, _/_, _%_, _^_, _≤_, _<_}
@@ -9,21 +9,20 @@ use lib.Dec.{T, ltb, leb, lt→ltb, le→leb, leb→le, nleb→lt, lit≤}
 use lib.IntN.{ℤ, pos, negsuc, negℤ, natAbs, _-ℤ_, _+ℤ_, _*ℤ_}
 use lib.Signed.{ltZ, quotZ, remZ, _<ℤ_, _≤ℤ_}
 use borrow.Author.Tests.{ltb-true, ltb-false, lt-ltb}
-use mir.Syntax.{w64}
-use mir.Val.{SFits, toZ, ofZ}
-use mir.ValLaws.{toZ-ofZ}
 use Rattle.integers.proofs.Bounds.{Holds, natAbs-neg}
 use Rattle.integers.proofs.Order.{true≢false}
 use Rattle.integers.specs.Rounding.{floorDiv, clamped, IsFloorRoot, lastDigit, rootDigits, floorRoot}
 use Rattle.integers.specs.Bounds.{AtMost}
+
+-- ---- the machine's quotient, rounded toward zero, and its remainder
 
 one-less : (q : ℕ) → negℤ (pos q) -ℤ pos 1 ≡ negsuc q
 one-less zero = refl
 one-less (suc m) = ap (λ (n : ℕ). negsuc (suc n)) (add-zero m)
 
 -- the quotient of a + 1, where b leaves nothing and where it leaves something
-whole : (a b : ℕ) → 0 < b → suc a % b ≡ 0 → suc a / b ≡ suc (a / b)
-whole a b h e = go (suc a / b) refl
+quotient-exact : (a b : ℕ) → 0 < b → suc a % b ≡ 0 → suc a / b ≡ suc (a / b)
+quotient-exact a b h e = go (suc a / b) refl
   where
     go : (q : ℕ) → suc a / b ≡ q → q ≡ suc (a / b)
     go zero p =
@@ -33,61 +32,92 @@ whole a b h e = go (suc a / b) refl
         let k : suc q * b + 0 ≡ suc a = sym (λ i. p i * b + e i) ∙ div-add-mod' (suc a) b in
         ap suc (sym (div-eq-of-lt-le b (omega arith) (omega arith)))
 
-part : (a b r : ℕ) → 0 < b → suc a % b ≡ suc r → suc a / b ≡ a / b
-part a b r h e =
+quotient-inexact : (a b r : ℕ) → 0 < b → suc a % b ≡ suc r → suc a / b ≡ a / b
+quotient-inexact a b r h e =
     let k : suc a / b * b + suc r ≡ suc a = sym (λ i. suc a / b * b + e i) ∙ div-add-mod' (suc a) b in
     let l : suc r < b = subst (λ (n : ℕ). n < b) e (mod-lt (suc a) h) in
     sym (div-eq-of-lt-le b (omega arith) (omega arith))
 
 -- one below where the remainder is negative, and the quotient itself where it is not
-pub down : (n : ℤ) (b : ℕ) → 0 < b → ltZ (remZ n (pos b)) (pos 0) ≡ true → quotZ n (pos b) -ℤ pos 1 ≡ floorDiv n b
-down (pos a) b h t = let z : a % b < 0 = ltb-true (a % b) 0 t in absurd (omega arith)
-down (negsuc a) b h t = go (suc a % b) refl t
+pub quotient-less-one : (n : ℤ) (b : ℕ) → 0 < b → ltZ (remZ n (pos b)) (pos 0) ≡ true → quotZ n (pos b) -ℤ pos 1 ≡ floorDiv n b
+quotient-less-one (pos a) b h t = let z : a % b < 0 = ltb-true (a % b) 0 t in absurd (omega arith)
+quotient-less-one (negsuc a) b h t = go (suc a % b) refl t
   where
     go : (r : ℕ) → suc a % b ≡ r → ltZ (negℤ (pos r)) (pos 0) ≡ true → negℤ (pos (suc a / b)) -ℤ pos 1 ≡ negsuc (a / b)
     go zero e t = true≢false (sym t)
-    go (suc r) e t = one-less (suc a / b) ∙ ap negsuc (part a b r h e)
+    go (suc r) e t = one-less (suc a / b) ∙ ap negsuc (quotient-inexact a b r h e)
 
-pub kept : (n : ℤ) (b : ℕ) → 0 < b → ltZ (remZ n (pos b)) (pos 0) ≡ false → quotZ n (pos b) ≡ floorDiv n b
-kept (pos a) b h t = refl
-kept (negsuc a) b h t = go (suc a % b) refl t
+pub quotient-kept : (n : ℤ) (b : ℕ) → 0 < b → ltZ (remZ n (pos b)) (pos 0) ≡ false → quotZ n (pos b) ≡ floorDiv n b
+quotient-kept (pos a) b h t = refl
+quotient-kept (negsuc a) b h t = go (suc a % b) refl t
   where
     go : (r : ℕ) → suc a % b ≡ r → ltZ (negℤ (pos r)) (pos 0) ≡ false → negℤ (pos (suc a / b)) ≡ negsuc (a / b)
-    go zero e t = ap (λ (q : ℕ). negℤ (pos q)) (whole a b h e)
+    go zero e t = ap (λ (q : ℕ). negℤ (pos q)) (quotient-exact a b h e)
     go (suc r) e t = true≢false t
 
 -- a divisor above 0 is a natural number above 0
-pub over : (k : ℤ) → pos 0 <ℤ k → (0 < natAbs k) × (k ≡ pos (natAbs k))
-over (pos b) h = (ltb-true 0 b (go (ltb 0 b) (h .lt)), refl)
+pub positive-divisor : (k : ℤ) → pos 0 <ℤ k → (0 < natAbs k) × (k ≡ pos (natAbs k))
+positive-divisor (pos b) h = (ltb-true 0 b (go (ltb 0 b) (h .lt)), refl)
   where
     go : (t : Bool) → T t → t ≡ true
     go true p = refl
     go false p = absurd p
-over (negsuc b) h = absurd (h .lt)
+positive-divisor (negsuc b) h = absurd (h .lt)
 
-pub quot-small : (n : ℤ) (b : ℕ) {m : ℕ} → AtMost m n → AtMost m (quotZ n (pos b))
-quot-small (pos a) b h = record { size = le-trans (div-le-self a b) (h .size) }
-quot-small (negsuc a) b {m} h = record { size = subst (λ (x : ℕ). x ≤ m) (sym (natAbs-neg (pos (suc a / b)))) (le-trans (div-le-self (suc a) b) (h .size)) }
+pub quotient-at-most : (n : ℤ) (b : ℕ) {m : ℕ} → AtMost m n → AtMost m (quotZ n (pos b))
+quotient-at-most (pos a) b h = record { size = le-trans (div-le-self a b) (h .size) }
+quotient-at-most (negsuc a) b {m} h = record { size = subst (λ (x : ℕ). x ≤ m) (sym (natAbs-neg (pos (suc a / b)))) (le-trans (div-le-self (suc a) b) (h .size)) }
 
-pub rem-small : (n : ℤ) (b : ℕ) {m : ℕ} → AtMost m n → AtMost m (remZ n (pos b))
-rem-small (pos a) b h = record { size = le-trans (mod-le a b) (h .size) }
-rem-small (negsuc a) b {m} h = record { size = subst (λ (x : ℕ). x ≤ m) (sym (natAbs-neg (pos (suc a % b)))) (le-trans (mod-le (suc a) b) (h .size)) }
+pub remainder-at-most : (n : ℤ) (b : ℕ) {m : ℕ} → AtMost m n → AtMost m (remZ n (pos b))
+remainder-at-most (pos a) b h = record { size = le-trans (mod-le a b) (h .size) }
+remainder-at-most (negsuc a) b {m} h = record { size = subst (λ (x : ℕ). x ≤ m) (sym (natAbs-neg (pos (suc a % b)))) (le-trans (mod-le (suc a) b) (h .size)) }
 
 -- what the machine holds after a division of x by y
-pub quot! : {m b : ℕ} {n x y : ℤ} → Holds m n x → y ≡ pos b → Holds m (quotZ n (pos b)) (quotZ x y)
-quot! {b = b} {n = n} h e = record { value = (λ i. quotZ (h .value i) (e i)); bound = quot-small n b (h .bound) }
+pub quotient-held : {m b : ℕ} {n x y : ℤ} → Holds m n x → y ≡ pos b → Holds m (quotZ n (pos b)) (quotZ x y)
+quotient-held {b = b} {n = n} h e = record { value = (λ i. quotZ (h .value i) (e i)); bound = quotient-at-most n b (h .bound) }
 
-pub rem! : {m b : ℕ} {n x y : ℤ} → Holds m n x → y ≡ pos b → Holds m (remZ n (pos b)) (remZ x y)
-rem! {b = b} {n = n} h e = record { value = (λ i. remZ (h .value i) (e i)); bound = rem-small n b (h .bound) }
+pub remainder-held : {m b : ℕ} {n x y : ℤ} → Holds m n x → y ≡ pos b → Holds m (remZ n (pos b)) (remZ x y)
+remainder-held {b = b} {n = n} h e = record { value = (λ i. remZ (h .value i) (e i)); bound = remainder-at-most n b (h .bound) }
 
 pub product-above-0 : (m k : ℕ) → 0 < m → 0 < k → 0 < m * k
 product-above-0 zero k h l = absurd (omega arith)
 product-above-0 (suc m) zero h l = absurd (omega arith)
 product-above-0 (suc m) (suc k) h l = omega arith
 
+-- ---- floor division is the whole number below: q · k ≤ n < (q + 1) · k
+
+minus-le : (x a : ℕ) → suc a ≤ x → negℤ (pos x) ≤ℤ negsuc a
+minus-le zero a h = absurd (omega arith)
+minus-le (suc x) a h = record { le = le→leb a x (omega arith) }
+
+minus-lt : (x a : ℕ) → x ≤ a → negsuc a <ℤ negℤ (pos x)
+minus-lt zero a h = record { lt = tt }
+minus-lt (suc x) a h = record { lt = lt→ltb x a (omega arith) }
+
+pub floor-div-low : (n : ℤ) (k : ℕ) → 0 < k → (floorDiv n k *ℤ pos k) ≤ℤ n
+floor-div-low (pos a) k h = record { le = le→leb _ _ (div-mul-le-self a k) }
+floor-div-low (negsuc a) k h = minus-le (suc (a / k) * k) a (let l : a < a / k * k + k = lt-div-mul-add h in omega arith)
+
+pub floor-div-high : (n : ℤ) (k : ℕ) → 0 < k → n <ℤ ((floorDiv n k +ℤ pos 1) *ℤ pos k)
+floor-div-high (pos a) k h = record { lt = lt→ltb _ _ (let l : a < a / k * k + k = lt-div-mul-add h in above (a / k) l) }
+  where
+    above : (q : ℕ) → a < q * k + k → a < (q + 1) * k
+    above q l = omega arith
+floor-div-high (negsuc a) k h = subst (λ (z : ℤ). negsuc a <ℤ (z *ℤ pos k)) (sym (one-more (a / k))) (at (a / k) (div-mul-le-self a k))
+  where
+    one-more : (q : ℕ) → negsuc q +ℤ pos 1 ≡ negℤ (pos q)
+    one-more zero = refl
+    one-more (suc q) = ap (λ (b : Bool). cond b (negsuc (suc (suc q) - 2)) (pos (1 - suc (suc q)))) (lt-ltb 1 (suc (suc q)) (omega arith)) ∙ ap negsuc (omega arith)
+
+    at : (q : ℕ) → q * k ≤ a → negsuc a <ℤ (negℤ (pos q) *ℤ pos k)
+    at zero l = record { lt = tt }
+    at (suc q) l = minus-lt (suc q * k) a l
+
+-- ---- the whole root
+
 -- there is one whole root
-pub root-unique : (x r s : ℕ) → IsFloorRoot x r → IsFloorRoot x s → r ≡ s
-root-unique x r s p q = le-antisymm (no-more r s p q) (no-more s r q p)
+pub floor-root-unique : (x r s : ℕ) → IsFloorRoot x r → IsFloorRoot x s → r ≡ s
+floor-root-unique x r s p q = le-antisymm (no-more r s p q) (no-more s r q p)
   where
     square : {a b : ℕ} → a ≤ b → a * a ≤ b * b
     square {a} {b} h = le-trans (mul-le-mul-right a h) (mul-le-mul-left b h)
@@ -132,7 +162,7 @@ pub floor-root-is : (x : ℕ) → x < 2 ^ 64 → IsFloorRoot x (floorRoot x)
 floor-root-is x h = root-digits 32 x h
 
 pub is-floor-root : (x r : ℕ) → x < 2 ^ 64 → IsFloorRoot x r → r ≡ floorRoot x
-is-floor-root x r h p = root-unique x r (floorRoot x) p (floor-root-is x h)
+is-floor-root x r h p = floor-root-unique x r (floorRoot x) p (floor-root-is x h)
 
 -- bounds of the whole root
 pub floor-root-le : (x b : ℕ) → x < 2 ^ 64 → x < (b + 1) * (b + 1) → floorRoot x ≤ b
@@ -175,32 +205,3 @@ clamped-range x = low (ltZ x (negsuc 999)) refl
     low : (b : Bool) → ltZ x (negsuc 999) ≡ b → (j : ℕ) × (j ≤ 2000) × (pos 1000 -ℤ cond b (negsuc 999) (cond (ltZ (pos 1000) x) (pos 1000) x) ≡ pos j)
     low true s = (2000, lit≤ tt, refl)
     low false s = high (ltZ (pos 1000) x) s refl
-
--- ---- floor division is the whole number below: q · k ≤ n < (q + 1) · k
-
-minus-le : (x a : ℕ) → suc a ≤ x → negℤ (pos x) ≤ℤ negsuc a
-minus-le zero a h = absurd (omega arith)
-minus-le (suc x) a h = record { le = le→leb a x (omega arith) }
-
-minus-lt : (x a : ℕ) → x ≤ a → negsuc a <ℤ negℤ (pos x)
-minus-lt zero a h = record { lt = tt }
-minus-lt (suc x) a h = record { lt = lt→ltb x a (omega arith) }
-
-pub floor-div-low : (n : ℤ) (k : ℕ) → 0 < k → (floorDiv n k *ℤ pos k) ≤ℤ n
-floor-div-low (pos a) k h = record { le = le→leb _ _ (div-mul-le-self a k) }
-floor-div-low (negsuc a) k h = minus-le (suc (a / k) * k) a (let l : a < a / k * k + k = lt-div-mul-add h in omega arith)
-
-pub floor-div-high : (n : ℤ) (k : ℕ) → 0 < k → n <ℤ ((floorDiv n k +ℤ pos 1) *ℤ pos k)
-floor-div-high (pos a) k h = record { lt = lt→ltb _ _ (let l : a < a / k * k + k = lt-div-mul-add h in above (a / k) l) }
-  where
-    above : (q : ℕ) → a < q * k + k → a < (q + 1) * k
-    above q l = omega arith
-floor-div-high (negsuc a) k h = subst (λ (z : ℤ). negsuc a <ℤ (z *ℤ pos k)) (sym (one-more (a / k))) (at (a / k) (div-mul-le-self a k))
-  where
-    one-more : (q : ℕ) → negsuc q +ℤ pos 1 ≡ negℤ (pos q)
-    one-more zero = refl
-    one-more (suc q) = ap (λ (b : Bool). cond b (negsuc (suc (suc q) - 2)) (pos (1 - suc (suc q)))) (lt-ltb 1 (suc (suc q)) (omega arith)) ∙ ap negsuc (omega arith)
-
-    at : (q : ℕ) → q * k ≤ a → negsuc a <ℤ (negℤ (pos q) *ℤ pos k)
-    at zero l = record { lt = tt }
-    at (suc q) l = minus-lt (suc q * k) a l

@@ -1,5 +1,5 @@
 -- `geometry::difference` meets its contract: each coordinate is a difference of two grid coordinates.
-use lib.IntN.{ℤ, _-ℤ_}
+use lib.IntN.{_-ℤ_}
 use Rattle.integers.proofs.Bounds.{Holds, bits, given, stored, fits, _-!_}
 use Rattle.geometry.proofs.Vectors.{coordinate}
 use Rattle.geometry.proofs.difference.Statement.{statement}

@@ -1,6 +1,5 @@
 -- `integers::clamp` meets its contract: each test is of the numbers, read back from their bits.
 use mathlib.Core.Path.{_≡_, sym, _∙_}
-use lib.IntN.{ℤ}
 use lib.Signed.{ltZ}
 use mir.Syntax.{w64}
 use mir.Val.{toZ, ofZ}

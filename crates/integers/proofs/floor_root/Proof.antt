@@ -1,10 +1,9 @@
 -- `integers::floor_root` meets its contract. The loop's invariant: the root lies in low to high.
-use mathlib.Core.Path.{_≡_, sym, subst}
+use mathlib.Core.Path.{_≡_, subst}
 use Prim.Native.Nat.{ℕ, _+_, _*_, _-_, _/_, _^_, _≤_, _<_}
 use native.Mathlib.Nat.{le-trans, lt-of-le-of-lt, mul-le-mul-left, mul-le-mul-right}
 use native.Mathlib.Omega.{arith}
-use lib.Dec.{lit<, lit≤}
-use Rattle.integers.specs.Rounding.{IsFloorRoot}
+use lib.Dec.{lit<}
 use Rattle.integers.proofs.Rounding.{is-floor-root}
 use Rattle.integers.proofs.floor_root.Statement.{statement}
 use Rattle.integers.proofs.floor_root.Tie as tie

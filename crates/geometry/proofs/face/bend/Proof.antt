@@ -1,18 +1,17 @@
 -- `geometry::face::bend` meets its contract.
 use mathlib.Core.Path.{_≡_, refl, sym, _∙_, ap, subst}
-use Prim.Native.Nat.{ℕ, _*_, _^_, _≤_, _<_}
+use Prim.Native.Nat.{ℕ, _*_, _≤_}
 use native.Mathlib.Nat.{lt-of-le-of-lt}
-use lib.Dec.{T, lit<, lit≤, ltb, lt→ltb}
+use lib.Dec.{T, lit<, lit≤, lt→ltb}
 use lib.IntN.{ℤ, pos, negsuc, natAbs, _-ℤ_, _*ℤ_}
 use lib.Signed.{nonNeg, _<ℤ_}
 use mir.Syntax.{w64}
-use mir.Val.{SFits}
 use mir.ValLaws.{toZ-ofZ}
 use Rattle.integers.specs.Bounds.{AtMost}
 use Rattle.integers.specs.Rounding.{floorDiv, clamped}
 use Rattle.geometry.specs.Faces.{ratioOf, bendOf}
 use Rattle.integers.proofs.Rounding.{product-above-0}
-use Rattle.integers.proofs.Bounds.{Holds, bits, given, stored, fits, signed-fits, at-most-held, at-most-le, _*!_, _-!_}
+use Rattle.integers.proofs.Bounds.{Holds, bits, given, stored, fits, signed-fits, at-most-held, at-most-le, _*!_}
 use Rattle.geometry.proofs.Bends.{bend-is, bend-bound}
 use Rattle.geometry.proofs.face.bend.Statement.{statement}
 use Rattle.geometry.proofs.face.bend.Tie as tie

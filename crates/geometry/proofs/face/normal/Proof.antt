@@ -1,6 +1,6 @@
 -- `geometry::face::normal` meets its contract.
-use mathlib.Core.Path.{_≡_, _∙_}
-use Rattle.geometry.specs.Vectors.{crossOf, Within}
+use mathlib.Core.Path.{_∙_}
+use Rattle.geometry.specs.Vectors.{crossOf}
 use Rattle.geometry.proofs.Vectors.{within-difference, within-as, products-fit}
 use Rattle.geometry.proofs.face.normal.Statement.{statement}
 use Rattle.geometry.proofs.face.normal.Tie as tie

@@ -1,6 +1,6 @@
 -- `geometry::face::normal_length` meets its contract: the squared length is a natural number below 2 ^ 52.
 use mathlib.Core.Path.{_≡_, sym, _∙_, ap, subst}
-use Prim.Native.Nat.{ℕ, _^_, _≤_, _<_}
+use Prim.Native.Nat.{ℕ, _^_, _<_}
 use native.Mathlib.Nat.{lt-of-le-of-lt}
 use lib.Dec.{T, lit<}
 use lib.IntN.{ℤ, natAbs}

@@ -1,6 +1,5 @@
 -- `geometry::sphere::circumsphere` meets its contract.
-use mathlib.Core.Path.{_≡_, _∙_}
-use lib.IntN.{ℤ}
+use mathlib.Core.Path.{_∙_}
 use Rattle.geometry.specs.Vectors.{scaledBy, plus, Within}
 use Rattle.geometry.specs.Spheres.{turned}
 use Rattle.integers.proofs.Bounds.{given, returned, at-most-held}

@@ -1,8 +1,6 @@
 -- `geometry::sphere::lift` meets its contract.
-use mathlib.Core.Path.{_≡_, sym, _∙_, ap}
-use lib.IntN.{ℤ}
-use Rattle.geometry.specs.declared.Vector.{Vector}
-use Rattle.geometry.specs.Vectors.{differenceOf, squareOf, Within}
+use mathlib.Core.Path.{_∙_, ap}
+use Rattle.geometry.specs.Vectors.{squareOf, Within}
 use Rattle.integers.proofs.Bounds.{returned}
 use Rattle.geometry.proofs.Vectors.{within-difference, within-as, at-most-dot, products-fit}
 use Rattle.geometry.proofs.sphere.lift.Statement.{statement}

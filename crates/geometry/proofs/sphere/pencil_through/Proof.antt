@@ -1,6 +1,5 @@
 -- `geometry::sphere::pencil_through` meets its contract.
-use mathlib.Core.Path.{_≡_, _∙_}
-use lib.IntN.{ℤ}
+use mathlib.Core.Path.{_∙_}
 use Rattle.geometry.specs.Vectors.{scaledBy, minus}
 use Rattle.integers.proofs.Bounds.{given, at-most-held}
 use Rattle.geometry.proofs.Vectors.{products-fit}

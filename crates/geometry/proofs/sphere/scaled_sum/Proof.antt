@@ -1,5 +1,5 @@
 -- `geometry::sphere::scaled_sum` meets its contract.
-use lib.IntN.{ℤ, _+ℤ_, _*ℤ_}
+use lib.IntN.{_+ℤ_, _*ℤ_}
 use Rattle.integers.proofs.Bounds.{Holds, bits, given, stored, fits, _*!_, _+!_}
 use Rattle.geometry.proofs.sphere.scaled_sum.Statement.{statement}
 use Rattle.geometry.proofs.sphere.scaled_sum.Tie as tie

@@ -1,11 +1,8 @@
 -- `geometry::sphere::turn` meets its contract.
-use mathlib.Core.Path.{_≡_, refl, sym, _∙_, ap}
-use lib.IntN.{ℤ, pos, _-ℤ_}
+use mathlib.Core.Path.{refl, sym, _∙_, ap}
+use lib.IntN.{ℤ, pos}
 use lib.Signed.{ltZ}
-use mir.Syntax.{w64}
-use mir.ValLaws.{toZ-ofZ}
-use Rattle.integers.specs.Bounds.{AtMost}
-use Rattle.integers.proofs.Bounds.{Holds, bits, given, stored, fits, _-!_}
+use Rattle.integers.proofs.Bounds.{Holds, given, stored, fits, _-!_}
 use Rattle.geometry.proofs.sphere.turn.Statement.{statement}
 use Rattle.geometry.proofs.sphere.turn.Tie as tie
 
