@@ -10,11 +10,11 @@ use lib.IntN.{ℤ, pos, negsuc, negℤ, natAbs, _-ℤ_, _*ℤ_, +ℤ-idl}
 use borrow.Author.Tests.{ltb-false}
 use Rattle.geometry.specs.declared.Vector.{Vector}
 use Rattle.integers.specs.Rounding.{floorRoot, floorDiv, clamped}
-use Rattle.integers.proofs.Ring.{var, con, _:-_, ring}
+use Rattle.integers.proofs.Ring.{con, _:-_, ring}
 use Rattle.integers.proofs.Rounding.{clamped-range, product-above-0}
-use Rattle.geometry.specs.Vectors.{dotOf, squareOf, Within}
+use Rattle.geometry.specs.Vectors.{dotOf, squareOf, opposite, Within}
 use Rattle.geometry.specs.Faces.{lengthOf, ratioOf, bendOf, bendBetween}
-use Rattle.geometry.proofs.Terms.{VectorE, vec, dotE}
+use Rattle.geometry.proofs.Terms.{vec, dotE, oppositeE}
 use Rattle.geometry.proofs.Faces.{square-size, length-squared}
 
 module _ (d : ℤ) (m k : ℕ) where
@@ -77,18 +77,12 @@ equal-normals {n} h l =
 pub perpendicular-normals : (n k : Vector) → dotOf n k ≡ pos 0 → bendBetween n k ≡ 1000
 perpendicular-normals n k e = ap (λ (d : ℤ). bendOf d (lengthOf n) (lengthOf k)) e ∙ bend-perpendicular (lengthOf n) (lengthOf k)
 
-abbrev pub opposite : Vector → Vector
-opposite v = record { x = pos 0 -ℤ v .x; y = pos 0 -ℤ v .y; z = pos 0 -ℤ v .z }
-
 module _ (n : Vector) where
-  abbrev oppositeE : VectorE
-  oppositeE = record { X = con (pos 0) :- var 0; Y = con (pos 0) :- var 1; Z = con (pos 0) :- var 2 }
-
   opposite-dot : dotOf n (opposite n) ≡ pos 0 -ℤ squareOf n
-  opposite-dot = ring (n .x ∷ n .y ∷ n .z ∷ []) (dotE (vec 0) oppositeE) (con (pos 0) :- dotE (vec 0) (vec 0)) tt
+  opposite-dot = ring (n .x ∷ n .y ∷ n .z ∷ []) (dotE (vec 0) (oppositeE (vec 0))) (con (pos 0) :- dotE (vec 0) (vec 0)) tt
 
   opposite-square : squareOf (opposite n) ≡ squareOf n
-  opposite-square = ring (n .x ∷ n .y ∷ n .z ∷ []) (dotE oppositeE oppositeE) (dotE (vec 0) (vec 0)) tt
+  opposite-square = ring (n .x ∷ n .y ∷ n .z ∷ []) (dotE (oppositeE (vec 0)) (oppositeE (vec 0))) (dotE (vec 0) (vec 0)) tt
 
   opposite-length : lengthOf (opposite n) ≡ lengthOf n
   unfolding lengthOf

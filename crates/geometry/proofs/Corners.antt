@@ -1,6 +1,6 @@
 -- The four corners are at one distance from the centre, and the sphere does not depend on the order in which they are named. Assumes nothing.
 use mathlib.Core.Path.{_≡_, _∙_, ap}
-use mathlib.Core.List.{List, [], _∷_}
+use mathlib.Core.List.{[], _∷_}
 use mathlib.Core.Bool.{true, cond}
 use lib.IntN.{ℤ, pos, _-ℤ_, _*ℤ_, *ℤ-zero}
 use lib.Signed.{ltZ}
@@ -11,38 +11,29 @@ use Rattle.integers.specs.Order.{equal}
 use Rattle.integers.proofs.Laws.{sub-zero}
 use Rattle.integers.proofs.Order.{equal-is}
 use Rattle.integers.proofs.Ring.{E, var, con, _:-_, _:*_, ring}
-use Rattle.geometry.specs.Vectors.{differenceOf, dotOf, crossOf, squareOf, scaledBy, plus, minus}
+use Rattle.geometry.specs.Vectors.{differenceOf, dotOf, crossOf, squareOf, scaledBy, plus, minus, opposite}
 use Rattle.geometry.specs.Spheres.{orientOf, centreOf, distanceOf, onSphere, positionOf}
-use Rattle.geometry.proofs.Terms.{VectorE, vec, dotE, crossE, scaledE, plusE, minusE}
+use Rattle.geometry.proofs.Terms.{VectorE, vec, dotE, scaledE, plusE, minusE, oppositeE, orientE, centreE, distanceE, ofVectors, ofPoints}
 use Rattle.geometry.proofs.Spheres.{distances-power}
 
 -- ---- corners
 
 -- the power of each corner, seen from the first, is 0
 module _ (u v t : Vector) where
-  abbrev values : List ℤ
-  values = u .x ∷ u .y ∷ u .z ∷ v .x ∷ v .y ∷ v .z ∷ t .x ∷ t .y ∷ t .z ∷ []
-
   abbrev centre : Vector
   centre = plus (plus (scaledBy (squareOf u) (crossOf v t)) (scaledBy (squareOf v) (crossOf t u))) (scaledBy (squareOf t) (crossOf u v))
 
-  abbrev orientE : E
-  orientE = dotE (vec 0) (crossE (vec 3) (vec 6))
-
-  abbrev centreE : VectorE
-  centreE = plusE (plusE (scaledE (dotE (vec 0) (vec 0)) (crossE (vec 3) (vec 6))) (scaledE (dotE (vec 3) (vec 3)) (crossE (vec 6) (vec 0)))) (scaledE (dotE (vec 6) (vec 6)) (crossE (vec 0) (vec 3)))
-
   abbrev powerE : VectorE → E
-  powerE w = orientE :* dotE w w :- dotE centreE w
+  powerE w = orientE (vec 0) (vec 3) (vec 6) :* dotE w w :- dotE (centreE (vec 0) (vec 3) (vec 6)) w
 
   power-u : dotOf u (crossOf v t) *ℤ squareOf u -ℤ dotOf centre u ≡ pos 0
-  power-u = ring values (powerE (vec 0)) (con (pos 0)) tt
+  power-u = ring (ofVectors u v t) (powerE (vec 0)) (con (pos 0)) tt
 
   power-v : dotOf u (crossOf v t) *ℤ squareOf v -ℤ dotOf centre v ≡ pos 0
-  power-v = ring values (powerE (vec 3)) (con (pos 0)) tt
+  power-v = ring (ofVectors u v t) (powerE (vec 3)) (con (pos 0)) tt
 
   power-t : dotOf u (crossOf v t) *ℤ squareOf t -ℤ dotOf centre t ≡ pos 0
-  power-t = ring values (powerE (vec 6)) (con (pos 0)) tt
+  power-t = ring (ofVectors u v t) (powerE (vec 6)) (con (pos 0)) tt
 
 -- "the sphere through them": the corners q, r, s are as far from the centre as p
 module _ (p q r s : GridPoint) where
@@ -70,42 +61,30 @@ module _ (p q r s : GridPoint) where
 
 -- ---- the order of the corners
 
-abbrev opposite : Vector → Vector
-opposite v = record { x = pos 0 -ℤ v .x; y = pos 0 -ℤ v .y; z = pos 0 -ℤ v .z }
-
-abbrev oppositeE : VectorE → VectorE
-oppositeE v = record { X = con (pos 0) :- v .X; Y = con (pos 0) :- v .Y; Z = con (pos 0) :- v .Z }
-
-abbrev distanceE : E → VectorE → VectorE → E
-distanceE o c v = let w = minusE (scaledE (con (pos 2) :* o) v) c in dotE w w
-
 -- the opposite orientation and the opposite centre give the same distances
 distance-opposite : (o : ℤ) (c v : Vector) → squareOf (minus (scaledBy (pos 2 *ℤ (pos 0 -ℤ o)) v) (opposite c)) ≡ squareOf (minus (scaledBy (pos 2 *ℤ o) v) c)
 distance-opposite o c v =
     ring (o ∷ c .x ∷ c .y ∷ c .z ∷ v .x ∷ v .y ∷ v .z ∷ [])
     (distanceE (con (pos 0) :- var 0) (oppositeE (vec 1)) (vec 4)) (distanceE (var 0) (vec 1) (vec 4)) tt
 
-abbrev centreAtE : VectorE → VectorE → VectorE → VectorE
-centreAtE u v t = plusE (plusE (scaledE (dotE u u) (crossE v t)) (scaledE (dotE v v) (crossE t u))) (scaledE (dotE t t) (crossE u v))
-
 module _ (u v t : Vector) where
   orient-swap-uv : dotOf v (crossOf u t) ≡ pos 0 -ℤ dotOf u (crossOf v t)
-  orient-swap-uv = ring (values u v t) (dotE (vec 3) (crossE (vec 0) (vec 6))) (con (pos 0) :- dotE (vec 0) (crossE (vec 3) (vec 6))) tt
+  orient-swap-uv = ring (ofVectors u v t) (orientE (vec 3) (vec 0) (vec 6)) (con (pos 0) :- orientE (vec 0) (vec 3) (vec 6)) tt
 
   orient-swap-vt : dotOf u (crossOf t v) ≡ pos 0 -ℤ dotOf u (crossOf v t)
-  orient-swap-vt = ring (values u v t) (dotE (vec 0) (crossE (vec 6) (vec 3))) (con (pos 0) :- dotE (vec 0) (crossE (vec 3) (vec 6))) tt
+  orient-swap-vt = ring (ofVectors u v t) (orientE (vec 0) (vec 6) (vec 3)) (con (pos 0) :- orientE (vec 0) (vec 3) (vec 6)) tt
 
   centre-swap-uv : centre v u t ≡ opposite (centre u v t)
   centre-swap-uv =
-      let a = centreAtE (vec 3) (vec 0) (vec 6) in
-      let b = oppositeE (centreAtE (vec 0) (vec 3) (vec 6)) in
-      λ i. record { x = ring (values u v t) (a .X) (b .X) tt i; y = ring (values u v t) (a .Y) (b .Y) tt i; z = ring (values u v t) (a .Z) (b .Z) tt i }
+      let a = centreE (vec 3) (vec 0) (vec 6) in
+      let b = oppositeE (centreE (vec 0) (vec 3) (vec 6)) in
+      λ i. record { x = ring (ofVectors u v t) (a .X) (b .X) tt i; y = ring (ofVectors u v t) (a .Y) (b .Y) tt i; z = ring (ofVectors u v t) (a .Z) (b .Z) tt i }
 
   centre-swap-vt : centre u t v ≡ opposite (centre u v t)
   centre-swap-vt =
-      let a = centreAtE (vec 0) (vec 6) (vec 3) in
-      let b = oppositeE (centreAtE (vec 0) (vec 3) (vec 6)) in
-      λ i. record { x = ring (values u v t) (a .X) (b .X) tt i; y = ring (values u v t) (a .Y) (b .Y) tt i; z = ring (values u v t) (a .Z) (b .Z) tt i }
+      let a = centreE (vec 0) (vec 6) (vec 3) in
+      let b = oppositeE (centreE (vec 0) (vec 3) (vec 6)) in
+      λ i. record { x = ring (ofVectors u v t) (a .X) (b .X) tt i; y = ring (ofVectors u v t) (a .Y) (b .Y) tt i; z = ring (ofVectors u v t) (a .Z) (b .Z) tt i }
 
 module _ (p q r s : GridPoint) where
   pub orient-swap-qr : orientOf p r q s ≡ pos 0 -ℤ orientOf p q r s
@@ -129,14 +108,11 @@ module _ (p q r s : GridPoint) where
       ∙ distance-opposite (orientOf p q r s) (centreOf p q r s) (differenceOf w p)
 
   -- the first two corners
-  abbrev points : List ℤ
-  points = p .x ∷ p .y ∷ p .z ∷ q .x ∷ q .y ∷ q .z ∷ r .x ∷ r .y ∷ r .z ∷ s .x ∷ s .y ∷ s .z ∷ []
-
   abbrev orientAtE : VectorE → VectorE → VectorE → VectorE → E
-  orientAtE a b c d = dotE (minusE b a) (crossE (minusE c a) (minusE d a))
+  orientAtE a b c d = orientE (minusE b a) (minusE c a) (minusE d a)
 
-  abbrev centrePointsE : VectorE → VectorE → VectorE → VectorE → VectorE
-  centrePointsE a b c d = centreAtE (minusE b a) (minusE c a) (minusE d a)
+  abbrev centreAtE : VectorE → VectorE → VectorE → VectorE → VectorE
+  centreAtE a b c d = centreE (minusE b a) (minusE c a) (minusE d a)
 
   -- the centre seen from q, not from p
   abbrev shifted : Vector
@@ -144,14 +120,14 @@ module _ (p q r s : GridPoint) where
 
   pub orient-swap-pq : orientOf q p r s ≡ pos 0 -ℤ orientOf p q r s
   unfolding orientOf
-  orient-swap-pq = ring points (orientAtE (vec 3) (vec 0) (vec 6) (vec 9)) (con (pos 0) :- orientAtE (vec 0) (vec 3) (vec 6) (vec 9)) tt
+  orient-swap-pq = ring (ofPoints p q r s) (orientAtE (vec 3) (vec 0) (vec 6) (vec 9)) (con (pos 0) :- orientAtE (vec 0) (vec 3) (vec 6) (vec 9)) tt
 
   centre-swap-pq : centreOf q p r s ≡ shifted
   unfolding centreOf orientOf
   centre-swap-pq =
-      let a = centrePointsE (vec 3) (vec 0) (vec 6) (vec 9) in
-      let b = plusE (oppositeE (centrePointsE (vec 0) (vec 3) (vec 6) (vec 9))) (scaledE (con (pos 2) :* orientAtE (vec 0) (vec 3) (vec 6) (vec 9)) (minusE (vec 3) (vec 0))) in
-      λ i. record { x = ring points (a .X) (b .X) tt i; y = ring points (a .Y) (b .Y) tt i; z = ring points (a .Z) (b .Z) tt i }
+      let a = centreAtE (vec 3) (vec 0) (vec 6) (vec 9) in
+      let b = plusE (oppositeE (centreAtE (vec 0) (vec 3) (vec 6) (vec 9))) (scaledE (con (pos 2) :* orientAtE (vec 0) (vec 3) (vec 6) (vec 9)) (minusE (vec 3) (vec 0))) in
+      λ i. record { x = ring (ofPoints p q r s) (a .X) (b .X) tt i; y = ring (ofPoints p q r s) (a .Y) (b .Y) tt i; z = ring (ofPoints p q r s) (a .Z) (b .Z) tt i }
 
 distance-shift : (o : ℤ) (c : Vector) (p q w : GridPoint) →
     squareOf (minus (scaledBy (pos 2 *ℤ (pos 0 -ℤ o)) (differenceOf w q)) (plus (opposite c) (scaledBy (pos 2 *ℤ o) (differenceOf q p))))

@@ -1,6 +1,5 @@
 -- Lengths of normals and weights: their bounds, and that each face of four points that are not in one plane has a length. Assumes nothing.
 use mathlib.Core.Path.{_≡_, refl, sym, _∙_, ap, subst}
-use mathlib.Core.List.{List, [], _∷_}
 use mathlib.Core.Bool.{false}
 use Prim.Native.Nat.{ℕ, zero, suc, _+_, _*_, _^_, _≤_, _<_}
 use native.Mathlib.Nat.{lt-of-le-of-lt}
@@ -20,7 +19,7 @@ use Rattle.integers.proofs.Rounding.{floor-root-le, floor-root-above-0, floor-r
 use Rattle.geometry.specs.Vectors.{differenceOf, dotOf, squareOf, Within}
 use Rattle.geometry.specs.Spheres.{orientOf, coplanar}
 use Rattle.geometry.specs.Faces.{normalOf, lengthOf, areaWeightOf, bendWeightOf}
-use Rattle.geometry.proofs.Terms.{VectorE, vec, dotE, crossE, minusE}
+use Rattle.geometry.proofs.Terms.{VectorE, vec, dotE, crossE, minusE, orientE, ofPoints}
 use Rattle.geometry.proofs.Vectors.{within-difference, within-cross, at-most-dot}
 
 -- a squared length is not negative
@@ -93,30 +92,27 @@ dot-zero e n h =
     ∙ (λ i. *ℤ-zero (e .x) i +ℤ *ℤ-zero (e .y) i +ℤ *ℤ-zero (e .z) i)
 
 module _ (p q r s : GridPoint) where
-  abbrev points : List ℤ
-  points = p .x ∷ p .y ∷ p .z ∷ q .x ∷ q .y ∷ q .z ∷ r .x ∷ r .y ∷ r .z ∷ s .x ∷ s .y ∷ s .z ∷ []
-
-  abbrev orientE : E
-  orientE = dotE (minusE (vec 3) (vec 0)) (crossE (minusE (vec 6) (vec 0)) (minusE (vec 9) (vec 0)))
+  abbrev fourE : E
+  fourE = orientE (minusE (vec 3) (vec 0)) (minusE (vec 6) (vec 0)) (minusE (vec 9) (vec 0))
 
   abbrev normalE : VectorE → VectorE → VectorE → VectorE
   normalE a b c = crossE (minusE b a) (minusE c a)
 
   orient-pqr : orientOf p q r s ≡ dotOf (differenceOf s p) (normalOf p q r)
   unfolding orientOf
-  orient-pqr = ring points orientE (dotE (minusE (vec 9) (vec 0)) (normalE (vec 0) (vec 3) (vec 6))) tt
+  orient-pqr = ring (ofPoints p q r s) fourE (dotE (minusE (vec 9) (vec 0)) (normalE (vec 0) (vec 3) (vec 6))) tt
 
   orient-pqs : orientOf p q r s ≡ dotOf (differenceOf p r) (normalOf p q s)
   unfolding orientOf
-  orient-pqs = ring points orientE (dotE (minusE (vec 0) (vec 6)) (normalE (vec 0) (vec 3) (vec 9))) tt
+  orient-pqs = ring (ofPoints p q r s) fourE (dotE (minusE (vec 0) (vec 6)) (normalE (vec 0) (vec 3) (vec 9))) tt
 
   orient-prs : orientOf p q r s ≡ dotOf (differenceOf q p) (normalOf p r s)
   unfolding orientOf
-  orient-prs = ring points orientE (dotE (minusE (vec 3) (vec 0)) (normalE (vec 0) (vec 6) (vec 9))) tt
+  orient-prs = ring (ofPoints p q r s) fourE (dotE (minusE (vec 3) (vec 0)) (normalE (vec 0) (vec 6) (vec 9))) tt
 
   orient-qrs : orientOf p q r s ≡ dotOf (differenceOf q p) (normalOf q r s)
   unfolding orientOf
-  orient-qrs = ring points orientE (dotE (minusE (vec 3) (vec 0)) (normalE (vec 3) (vec 6) (vec 9))) tt
+  orient-qrs = ring (ofPoints p q r s) fourE (dotE (minusE (vec 3) (vec 0)) (normalE (vec 3) (vec 6) (vec 9))) tt
 
   -- m is at least 1 for each face of a four that is not in one plane
   module _ (hp : PointOnGrid p) (hq : PointOnGrid q) (hr : PointOnGrid r) (hs : PointOnGrid s) (h : coplanar p q r s ≡ false) where

@@ -14,7 +14,7 @@ use Rattle.integers.proofs.Order.{equal-is, true≢false}
 use Rattle.integers.proofs.Ring.{E, var, _:-_, _:*_, ring}
 use Rattle.geometry.specs.Vectors.{differenceOf, dotOf, crossOf}
 use Rattle.geometry.specs.Spheres.{orientOf, coplanar}
-use Rattle.geometry.proofs.Terms.{VectorE, vec, dotE, crossE, scaledE, plusE}
+use Rattle.geometry.proofs.Terms.{VectorE, vec, dotE, crossE, scaledE, plusE, orientE}
 
 -- how far p lies along n: the equation of a plane is `along n p ≡ k`
 abbrev pub along : Vector → GridPoint → ℤ
@@ -31,8 +31,8 @@ module _ (n u v t : Vector) where
   abbrev values : List ℤ
   values = n .x ∷ n .y ∷ n .z ∷ u .x ∷ u .y ∷ u .z ∷ v .x ∷ v .y ∷ v .z ∷ t .x ∷ t .y ∷ t .z ∷ []
 
-  abbrev orientE : E
-  orientE = dotE (vec 3) (crossE (vec 6) (vec 9))
+  abbrev fourE : E
+  fourE = orientE (vec 3) (vec 6) (vec 9)
 
   abbrev sumE : VectorE
   sumE = plusE (plusE (scaledE (dotE (vec 0) (vec 3)) (crossE (vec 6) (vec 9))) (scaledE (dotE (vec 0) (vec 6)) (crossE (vec 9) (vec 3)))) (scaledE (dotE (vec 0) (vec 9)) (crossE (vec 3) (vec 6)))
@@ -44,13 +44,13 @@ module _ (n u v t : Vector) where
 
   module _ (hu : dotOf n u ≡ pos 0) (hv : dotOf n v ≡ pos 0) (ht : dotOf n t ≡ pos 0) where
     by-x : dotOf u (crossOf v t) *ℤ n .x ≡ pos 0
-    by-x = ring values (orientE :* var 0) (sumE .X) tt ∙ none (crossOf v t .x) (crossOf t u .x) (crossOf u v .x) hu hv ht
+    by-x = ring values (fourE :* var 0) (sumE .X) tt ∙ none (crossOf v t .x) (crossOf t u .x) (crossOf u v .x) hu hv ht
 
     by-y : dotOf u (crossOf v t) *ℤ n .y ≡ pos 0
-    by-y = ring values (orientE :* var 1) (sumE .Y) tt ∙ none (crossOf v t .y) (crossOf t u .y) (crossOf u v .y) hu hv ht
+    by-y = ring values (fourE :* var 1) (sumE .Y) tt ∙ none (crossOf v t .y) (crossOf t u .y) (crossOf u v .y) hu hv ht
 
     by-z : dotOf u (crossOf v t) *ℤ n .z ≡ pos 0
-    by-z = ring values (orientE :* var 2) (sumE .Z) tt ∙ none (crossOf v t .z) (crossOf t u .z) (crossOf u v .z) hu hv ht
+    by-z = ring values (fourE :* var 2) (sumE .Z) tt ∙ none (crossOf v t .z) (crossOf t u .z) (crossOf u v .z) hu hv ht
 
 -- a product that is 0, with a factor that is not
 no-divisor : (a b : ℤ) → a *ℤ b ≡ pos 0 → (a ≡ pos 0 → ⊥) → b ≡ pos 0

@@ -18,10 +18,10 @@ use Rattle.geometry.specs.declared.sphere.Position.{Position}
 use Rattle.geometry.specs.declared.sphere.Position.the-variants.{Inside, On, Outside}
 use Rattle.integers.specs.Bounds.{AtMost}
 use Rattle.integers.proofs.Ring.{E, var, con, _:-_, _:*_, ring}
-use Rattle.geometry.proofs.Terms.{VectorE, vec, dotE, crossE, scaledE, plusE, minusE}
+use Rattle.geometry.proofs.Terms.{VectorE, vec, dotE, crossE, scaledE, plusE, minusE, oppositeE, orientE, centreE, distanceE, ofVectors}
 use Rattle.integers.proofs.Bounds.{at-most-sub}
 use Rattle.integers.proofs.Order.{equal-is, less-by-multiple, equal-by-multiple, product-suc, not-below, true≢false}
-use Rattle.geometry.specs.Vectors.{differenceOf, dotOf, crossOf, squareOf, scaledBy, plus, minus, Within}
+use Rattle.geometry.specs.Vectors.{differenceOf, dotOf, crossOf, squareOf, scaledBy, plus, minus, opposite, Within}
 use Rattle.geometry.specs.Spheres.{orientOf, coplanar, centreOf, distanceOf, strictlyInside, onSphere, positionOf, liftOf, pencilOf, turned, sphereOf, positionBy, LiftedBounds, PencilBounds, SphereBounds}
 use Rattle.geometry.proofs.Vectors.{within-difference, within-plus, within-minus, within-scaled, within-cross, at-most-dot}
 
@@ -42,7 +42,7 @@ zero-in = record { size = lib.Dec.lit≤ tt }
 turned-bounds : (o : ℤ) (c : Vector) → AtMost 48000000000 o → Within 288000000000000 c → SphereBounds (turned o c)
 turned-bounds o c h k = go (ltZ o (pos 0))
   where
-    go : (b : Bool) → SphereBounds (cond b (record { orient = pos 0 -ℤ o; centre = record { x = pos 0 -ℤ c .x; y = pos 0 -ℤ c .y; z = pos 0 -ℤ c .z } }) (record { orient = o; centre = c }))
+    go : (b : Bool) → SphereBounds (cond b (record { orient = pos 0 -ℤ o; centre = opposite c }) (record { orient = o; centre = c }))
     go true = record { orient-in = at-most-sub zero-in h; centre-in = record { in-x = at-most-sub zero-in (k .in-x); in-y = at-most-sub zero-in (k .in-y); in-z = at-most-sub zero-in (k .in-z) } }
     go false = record { orient-in = h; centre-in = k }
 
@@ -55,28 +55,24 @@ sphere-bounds {k} {t} h l =
 -- ---- the computed sphere is the one of the definitions
 
 module _ (u v t : Vector) where
-  abbrev values : List ℤ
-  values = u .x ∷ u .y ∷ u .z ∷ v .x ∷ v .y ∷ v .z ∷ t .x ∷ t .y ∷ t .z ∷ []
-
   abbrev pencilCentreE : VectorE
   pencilCentreE =
       plusE (crossE (minusE (scaledE (dotE (vec 0) (vec 0)) (vec 3)) (scaledE (dotE (vec 3) (vec 3)) (vec 0))) (vec 6))
       (scaledE (dotE (vec 6) (vec 6)) (crossE (vec 0) (vec 3)))
 
-  abbrev centreE : VectorE
-  centreE = plusE (plusE (scaledE (dotE (vec 0) (vec 0)) (crossE (vec 3) (vec 6))) (scaledE (dotE (vec 3) (vec 3)) (crossE (vec 6) (vec 0)))) (scaledE (dotE (vec 6) (vec 6)) (crossE (vec 0) (vec 3)))
-
   triple-product : dotOf (crossOf u v) t ≡ dotOf u (crossOf v t)
-  triple-product = ring values (dotE (crossE (vec 0) (vec 3)) (vec 6)) (dotE (vec 0) (crossE (vec 3) (vec 6))) tt
+  triple-product = ring (ofVectors u v t) (dotE (crossE (vec 0) (vec 3)) (vec 6)) (orientE (vec 0) (vec 3) (vec 6)) tt
 
   pencil-centre :
       plus (crossOf (minus (scaledBy (squareOf u) v) (scaledBy (squareOf v) u)) t) (scaledBy (squareOf t) (crossOf u v))
       ≡ plus (plus (scaledBy (squareOf u) (crossOf v t)) (scaledBy (squareOf v) (crossOf t u))) (scaledBy (squareOf t) (crossOf u v))
-  pencil-centre = λ i. record {
-    x = ring values (pencilCentreE .X) (centreE .X) tt i;
-    y = ring values (pencilCentreE .Y) (centreE .Y) tt i;
-    z = ring values (pencilCentreE .Z) (centreE .Z) tt i;
-  }
+  pencil-centre =
+      let c = centreE (vec 0) (vec 3) (vec 6) in
+      λ i. record {
+        x = ring (ofVectors u v t) (pencilCentreE .X) (c .X) tt i;
+        y = ring (ofVectors u v t) (pencilCentreE .Y) (c .Y) tt i;
+        z = ring (ofVectors u v t) (pencilCentreE .Z) (c .Z) tt i;
+      }
 
 module _ (p q r s : GridPoint) where
   -- what the code computes of four corners
@@ -89,29 +85,20 @@ module _ (p q r s : GridPoint) where
 
 -- the difference of two squared distances from a centre is a multiple of the power
 module _ (o : ℤ) (b v : Vector) (p : GridPoint) where
-  abbrev atE : E → VectorE → VectorE → E
-  atE k c d = let w = minusE (scaledE (con (pos 2) :* k) d) c in dotE w w
-
-  abbrev distancesE : E
-  distancesE = atE (var 0) (vec 1) (vec 4) :- atE (var 0) (vec 1) (minusE (vec 7) (vec 7))
-
   abbrev distances : ℤ
   distances = squareOf (minus (scaledBy (pos 2 *ℤ o) v) b) -ℤ squareOf (minus (scaledBy (pos 2 *ℤ o) (differenceOf p p)) b)
 
   abbrev known : List ℤ
   known = o ∷ b .x ∷ b .y ∷ b .z ∷ v .x ∷ v .y ∷ v .z ∷ p .x ∷ p .y ∷ p .z ∷ []
 
-  abbrev opposite : Vector
-  opposite = record { x = pos 0 -ℤ b .x; y = pos 0 -ℤ b .y; z = pos 0 -ℤ b .z }
-
-  abbrev oppositeE : VectorE
-  oppositeE = record { X = con (pos 0) :- var 1; Y = con (pos 0) :- var 2; Z = con (pos 0) :- var 3 }
+  abbrev distancesE : E
+  distancesE = distanceE (var 0) (vec 1) (vec 4) :- distanceE (var 0) (vec 1) (minusE (vec 7) (vec 7))
 
   pub distances-power : distances ≡ (pos 4 *ℤ o) *ℤ (o *ℤ squareOf v -ℤ dotOf b v)
   distances-power = ring known distancesE ((con (pos 4) :* var 0) :* (var 0 :* dotE (vec 4) (vec 4) :- dotE (vec 1) (vec 4))) tt
 
-  distances-opposite : distances ≡ (pos 4 *ℤ (pos 0 -ℤ o)) *ℤ ((pos 0 -ℤ o) *ℤ squareOf v -ℤ dotOf opposite v)
-  distances-opposite = ring known distancesE ((con (pos 4) :* (con (pos 0) :- var 0)) :* ((con (pos 0) :- var 0) :* dotE (vec 4) (vec 4) :- dotE oppositeE (vec 4))) tt
+  distances-opposite : distances ≡ (pos 4 *ℤ (pos 0 -ℤ o)) *ℤ ((pos 0 -ℤ o) *ℤ squareOf v -ℤ dotOf (opposite b) v)
+  distances-opposite = ring known distancesE ((con (pos 4) :* (con (pos 0) :- var 0)) :* ((con (pos 0) :- var 0) :* dotE (vec 4) (vec 4) :- dotE (oppositeE (vec 1)) (vec 4))) tt
 
 -- the position by two distances, and by the power of which their difference is a positive multiple
 by-multiple : (n : ℕ) (a d c : ℤ) → a -ℤ d ≡ (pos 4 *ℤ pos (suc n)) *ℤ c →
@@ -129,13 +116,13 @@ module _ (p q r s w : GridPoint) where
       let b = centreOf p q r s in
       let v = differenceOf w p in
       let power = pos (suc n) *ℤ squareOf v -ℤ dotOf b v in
-      ap (λ (t : Bool). positionBy (cond t (record { orient = pos 0 -ℤ pos (suc n); centre = opposite (pos (suc n)) b v p }) (record { orient = pos (suc n); centre = b })) (liftOf p w)) (not-below (suc n))
+      ap (λ (t : Bool). positionBy (cond t (record { orient = pos 0 -ℤ pos (suc n); centre = opposite b }) (record { orient = pos (suc n); centre = b })) (liftOf p w)) (not-below (suc n))
       ∙ by-multiple n (distanceOf p q r s w) (distanceOf p q r s p) power (ap (λ (o : ℤ). distances o b v p) e ∙ distances-power (pos (suc n)) b v p)
   placed (negsuc n) e h =
       let b = centreOf p q r s in
       let v = differenceOf w p in
       let o = pos 0 -ℤ negsuc n in
-      let power = o *ℤ squareOf v -ℤ dotOf (opposite (negsuc n) b v p) v in
+      let power = o *ℤ squareOf v -ℤ dotOf (opposite b) v in
       by-multiple n (distanceOf p q r s w) (distanceOf p q r s p) power (ap (λ (z : ℤ). distances z b v p) e ∙ distances-opposite (negsuc n) b v p ∙ ap (λ (z : ℤ). (pos 4 *ℤ z) *ℤ power) (+ℤ-idl (pos (suc n))))
 
   -- where the code puts a vertex, and where it lies by the distance from the centre
@@ -146,7 +133,7 @@ module _ (p q r s w : GridPoint) where
 
 -- the code's orientation is 0 where the four are in one plane
 turned-orient : (o : ℤ) (c : Vector) → equal (turned o c .orient) (pos 0) ≡ equal o (pos 0)
-turned-orient (pos n) c = ap (λ (t : Bool). equal (cond {A = Sphere} t (record { orient = pos 0 -ℤ pos n; centre = record { x = pos 0 -ℤ c .x; y = pos 0 -ℤ c .y; z = pos 0 -ℤ c .z } }) (record { orient = pos n; centre = c }) .orient) (pos 0)) (not-below n)
+turned-orient (pos n) c = ap (λ (t : Bool). equal (cond {A = Sphere} t (record { orient = pos 0 -ℤ pos n; centre = opposite c }) (record { orient = pos n; centre = c }) .orient) (pos 0)) (not-below n)
 turned-orient (negsuc n) c = ap (λ (z : ℤ). equal z (pos 0)) (+ℤ-idl (pos (suc n))) ∙ ne-eqb (suc n) 0 (λ e. omega arith)
 
 pub coplanar-is : (p q r s : GridPoint) → equal (computedSphere p q r s .orient) (pos 0) ≡ coplanar p q r s

@@ -11,7 +11,7 @@ use Rattle.geometry.specs.declared.sphere.Position.{Position}
 use Rattle.geometry.specs.declared.sphere.Position.the-variants.{Inside, On, Outside}
 use Rattle.integers.specs.Bounds.{AtMost}
 use Rattle.integers.specs.Order.{equal}
-use Rattle.geometry.specs.Vectors.{differenceOf, dotOf, crossOf, squareOf, scaledBy, plus, minus, Within}
+use Rattle.geometry.specs.Vectors.{differenceOf, dotOf, crossOf, squareOf, scaledBy, plus, minus, opposite, Within}
 
 -- six times the volume of the four, negative where they turn the other way: u·(v×t)
 unfoldable pub orientOf : GridPoint → GridPoint → GridPoint → GridPoint → ℤ
@@ -56,7 +56,7 @@ pencilOf u v = record { normal = crossOf (u .vector) (v .vector); weighted = min
 
 -- turned so that the orientation is not negative
 abbrev pub turned : ℤ → Vector → Sphere
-turned o c = cond (ltZ o (pos 0)) (record { orient = pos 0 -ℤ o; centre = record { x = pos 0 -ℤ c .x; y = pos 0 -ℤ c .y; z = pos 0 -ℤ c .z } }) (record { orient = o; centre = c })
+turned o c = cond (ltZ o (pos 0)) (record { orient = pos 0 -ℤ o; centre = opposite c }) (record { orient = o; centre = c })
 
 -- the sphere of a pencil that goes through t
 abbrev pub sphereOf : Pencil → Lifted → Sphere

@@ -1,6 +1,6 @@
 -- Vectors over ℤ, their products and their bounds. Definitions only.
 use Prim.Native.Nat.{ℕ}
-use lib.IntN.{ℤ, _+ℤ_, _-ℤ_, _*ℤ_}
+use lib.IntN.{ℤ, pos, _+ℤ_, _-ℤ_, _*ℤ_}
 use Rattle.grid.specs.declared.GridPoint.{GridPoint}
 use Rattle.geometry.specs.declared.Vector.{Vector}
 use Rattle.integers.specs.Bounds.{AtMost, largest}
@@ -29,6 +29,9 @@ plus u v = record { x = u .x +ℤ v .x; y = u .y +ℤ v .y; z = u .z +ℤ v .z }
 
 abbrev pub minus : Vector → Vector → Vector
 minus u v = record { x = u .x -ℤ v .x; y = u .y -ℤ v .y; z = u .z -ℤ v .z }
+
+abbrev pub opposite : Vector → Vector
+opposite v = record { x = pos 0 -ℤ v .x; y = pos 0 -ℤ v .y; z = pos 0 -ℤ v .z }
 
 -- each coordinate is at most n away from 0
 pub record Within (n : ℕ) (v : Vector) : Type 0 where
