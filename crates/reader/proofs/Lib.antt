@@ -2,3 +2,4 @@ pub mod Numbers
 pub mod Vertices
 pub mod Lengths
 pub mod Walking
+pub mod Answers

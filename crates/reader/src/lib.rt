@@ -5,7 +5,6 @@ mod walk;
 
 ghost use mathlib.Core.Path.{_≡_};
 ghost use Rattle.reader.specs.Reading.{refusal, readingOf};
-
 use grid::GridPoint;
 use polygon::Polygon;
 
@@ -39,7 +38,7 @@ pub enum Vertex {
 pub struct Chain {
     pub code: u32,
     pub n: usize,
-    pub vertices: [GridPoint; 64],
+    pub vertices: [GridPoint; polygon::MAX_VERTICES],
 }
 
 pub enum Status {
@@ -70,7 +69,7 @@ pub fn read_polygon(file: &[u8]) -> Reading
         return refused(codes::LENGTH);
     }
     let area_factor = bytes::u16_at(file, 4);
-    if 16 < area_factor {
+    if polygon::MAX_AREA_FACTOR < area_factor {
         return refused(codes::AREA_FACTOR);
     }
     let chain = walk::follow_chain(file);
@@ -79,7 +78,7 @@ pub fn read_polygon(file: &[u8]) -> Reading
         return refused(code);
     }
     let n = chain.n;
-    if n < 3 {
+    if n < polygon::MIN_VERTICES {
         return refused(codes::TOO_FEW_VERTICES);
     }
     let vertices = chain.vertices;

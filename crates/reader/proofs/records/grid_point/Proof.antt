@@ -25,11 +25,11 @@ grid-number-requires-3 c κs = search needs
 
 -- src/records.rt:94:5
 place-requires : tie.Need-place-requires
-place-requires c κs =
-    ( subst (λ g. OnGrid (valueOf g)) (sym (c .before .before .grid-number .ensures)) (number-on-grid _)
-    , subst (λ g. OnGrid (valueOf g)) (sym (c .before .grid-number2 .ensures)) (number-on-grid _)
-    , subst (λ g. OnGrid (valueOf g)) (sym (c .grid-number3 .ensures)) (number-on-grid _)
-    )
+place-requires c κs = (
+  subst (λ g. OnGrid (valueOf g)) (sym (c .before .before .grid-number .ensures)) (number-on-grid _),
+  subst (λ g. OnGrid (valueOf g)) (sym (c .before .grid-number2 .ensures)) (number-on-grid _),
+  subst (λ g. OnGrid (valueOf g)) (sym (c .grid-number3 .ensures)) (number-on-grid _),
+)
 
 -- src/records.rt:91:1
 returns : tie.Need-returns

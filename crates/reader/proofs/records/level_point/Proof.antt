@@ -22,11 +22,11 @@ grid-number-requires-2 c κs = search needs
 
 -- src/records.rt:102:5
 place-requires : tie.Need-place-requires
-place-requires c κs =
-    ( subst (λ g. OnGrid (valueOf g)) (sym (c .before .grid-number .ensures)) (number-on-grid _)
-    , subst (λ g. OnGrid (valueOf g)) (sym (c .grid-number2 .ensures)) (number-on-grid _)
-    , subst OnGrid (sym (toZ-ofZ (c .before .before .fits .height))) (c .before .before .pre)
-    )
+place-requires c κs = (
+  subst (λ g. OnGrid (valueOf g)) (sym (c .before .grid-number .ensures)) (number-on-grid _),
+  subst (λ g. OnGrid (valueOf g)) (sym (c .grid-number2 .ensures)) (number-on-grid _),
+  subst OnGrid (sym (toZ-ofZ (c .before .before .fits .height))) (c .before .before .pre),
+)
 
 -- src/records.rt:98:1
 returns : tie.Need-returns

@@ -112,11 +112,11 @@ value-of-requires-3 c κs = search needs
 
 -- src/records.rt:107:16
 new-requires : tie.Need-new-requires
-new-requires c κs =
-    ( subst OnGrid (sym (machine-holds (c .before .before .value-of .ok) (c .before .before .value-of .ensures))) (c .before .before .before .before .before .before .before .before .before .before .before .before .before .before .before .pre .0)
-    , subst OnGrid (sym (machine-holds (c .before .value-of2 .ok) (c .before .value-of2 .ensures))) (c .before .before .before .before .before .before .before .before .before .before .before .before .before .before .before .pre .1)
-    , subst OnGrid (sym (machine-holds (c .value-of3 .ok) (c .value-of3 .ensures))) (c .before .before .before .before .before .before .before .before .before .before .before .before .before .before .before .pre .2)
-    )
+new-requires c κs = (
+  subst OnGrid (sym (machine-holds (c .before .before .value-of .ok) (c .before .before .value-of .ensures))) (c .before .before .before .before .before .before .before .before .before .before .before .before .before .before .before .pre .0),
+  subst OnGrid (sym (machine-holds (c .before .value-of2 .ok) (c .before .value-of2 .ensures))) (c .before .before .before .before .before .before .before .before .before .before .before .before .before .before .before .pre .1),
+  subst OnGrid (sym (machine-holds (c .value-of3 .ok) (c .value-of3 .ensures))) (c .before .before .before .before .before .before .before .before .before .before .before .before .before .before .before .pre .2),
+)
 
 -- src/records.rt:85:1
 returns-7 : tie.Need-returns-7
