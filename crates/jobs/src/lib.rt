@@ -57,11 +57,9 @@ pub fn job_code(
 ) -> u32
     ensures { λ r. ⌜ r ≡ jobCode n (now (candidates .entry)) (now (weights .entry)) (now (rows .entry)) «triangle_places» «work_places» ⌝ }
 {
-    if n < MIN_VERTICES {
-        return codes::VERTEX_COUNT;
-    }
-    if MAX_VERTICES < n {
-        return codes::VERTEX_COUNT;
+    let code = count_code(n);
+    if code != 0 {
+        return code;
     }
     if triangle_places < n - 2 {
         return codes::TABLE_TOO_SHORT;
