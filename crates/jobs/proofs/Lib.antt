@@ -1,1 +1,4 @@
 pub mod First
+pub mod Order
+pub mod Lists
+pub mod Failing

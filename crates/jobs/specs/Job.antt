@@ -54,13 +54,16 @@ enough needed lent = leb needed lent
 unfoldable pub ascends : ℕ → ℕ → ℕ → ℕ → Bool
 ascends n a b c = both (ltb a b) (both (ltb b c) (ltb c n))
 
+-- the smaller number comes first, and of equal numbers the rest decides
+abbrev pub lexicographic : ℕ → ℕ → Bool → Bool
+lexicographic x y rest = either (ltb x y) (both (eqb x y) rest)
+
 -- "ascending order of a, then b, then c": candidate s is strictly before candidate t
 unfoldable pub before : List ℕ → List ℕ → Bool
 before s t =
-    either (ltb (vertexA s) (vertexA t))
-    (both (eqb (vertexA s) (vertexA t))
-    (either (ltb (vertexB s) (vertexB t))
-    (both (eqb (vertexB s) (vertexB t)) (ltb (vertexC s) (vertexC t)))))
+    lexicographic (vertexA s) (vertexA t)
+    (lexicographic (vertexB s) (vertexB t)
+    (ltb (vertexC s) (vertexC t)))
 
 -- 15: candidate i is a < b < c < n, "or isn't strictly after the one before it"
 unfoldable pub candidateFits : ℕ → List (List ℕ) → ℕ → Bool
@@ -89,7 +92,7 @@ namesPair candidates o i =
 
 -- "Rows .. ascend by outer, then inner": row r is strictly before row s
 unfoldable pub rowBefore : List ℕ → List ℕ → Bool
-rowBefore r s = either (ltb (outer r) (outer s)) (both (eqb (outer r) (outer s)) (ltb (inner r) (inner s)))
+rowBefore r s = lexicographic (outer r) (outer s) (ltb (inner r) (inner s))
 
 -- 16: row i names a hanging pair, "or the row isn't strictly after the one before it"
 unfoldable pub rowFits : List (List ℕ) → List (List ℕ) → ℕ → Bool
