@@ -35,11 +35,11 @@ every-fails : (m : ℕ) (P : ℕ → Bool) → every 0 m P ≡ false → Some m 
 every-fails m P e = let s = every-from-fails P 0 (m - 0) e in record { at = s .at; below = omega (arith, s .below); is = s .is }
 
 -- 15 is due: a candidate that isn't a < b < c < n, or isn't after the one before it
-pub BadCandidate : ℕ → List (List ℕ) → ℕ → Type 0
+abbrev pub BadCandidate : ℕ → List (List ℕ) → ℕ → Type 0
 BadCandidate n candidates i = (Ordered n (entryAt candidates i) → ⊥) ⊎ ((0 < i) × (Before (entryAt candidates (i - 1)) (entryAt candidates i) → ⊥))
 
 -- 16 is due: a row that names no pair of candidates, inner hanging on outer, or isn't after the one before it
-pub BadRow : List (List ℕ) → List (List ℕ) → ℕ → Type 0
+abbrev pub BadRow : List (List ℕ) → List (List ℕ) → ℕ → Type 0
 BadRow candidates rows i = (Named candidates (entryAt rows i) → ⊥) ⊎ ((0 < i) × (RowBefore (entryAt rows (i - 1)) (entryAt rows i) → ⊥))
 
 -- an entry's own test fails, or it is not the first and its order test fails
@@ -51,7 +51,7 @@ split (suc i) true false e = inr (omega arith, refl)
 
 module _ (n : ℕ) (candidates : List (List ℕ)) where
   pub candidates-false : candidatesFit n candidates ≡ false → Some (length candidates) (BadCandidate n candidates)
-  unfolding BadCandidate candidateFits
+  unfolding candidateFits
   candidates-false e =
       let s = every-fails (length candidates) (candidateFits n candidates) e in
       let i = s .at in
@@ -62,12 +62,11 @@ module _ (n : ℕ) (candidates : List (List ℕ)) where
         (split i (ascends n (vertexA t) (vertexB t) (vertexC t)) (before (entryAt candidates (i - 1)) t) (s .is)) }
 
   pub bad-candidate : Candidates n candidates → Some (length candidates) (BadCandidate n candidates) → ⊥
-  unfolding BadCandidate
   bad-candidate c s = ⊎-elim (λ f. f (c .ordered (s .at) (s .below))) (λ f. f .1 (c .ascending (s .at - 1) (s .at) (omega (arith, f .0)) (s .below))) (s .is)
 
 module _ (candidates rows : List (List ℕ)) where
   pub rows-false : rowsFit candidates rows ≡ false → Some (length rows) (BadRow candidates rows)
-  unfolding BadRow rowFits
+  unfolding rowFits
   rows-false e =
       let s = every-fails (length rows) (rowFits candidates rows) e in
       let i = s .at in
@@ -78,11 +77,10 @@ module _ (candidates rows : List (List ℕ)) where
         (split i (namesPair candidates (outer r) (inner r)) (rowBefore (entryAt rows (i - 1)) r) (s .is)) }
 
   pub bad-row : Rows candidates rows → Some (length rows) (BadRow candidates rows) → ⊥
-  unfolding BadRow
   bad-row r s = ⊎-elim (λ f. f (r .named (s .at) (s .below))) (λ f. f .1 (r .ascending (s .at - 1) (s .at) (omega (arith, f .0)) (s .below))) (s .is)
 
 -- 17 is due: a weight of a candidate or of a row over 2,000,000,000
-pub BadWeight : List (List ℕ) → List ℕ → List (List ℕ) → Type 0
+abbrev pub BadWeight : List (List ℕ) → List ℕ → List (List ℕ) → Type 0
 BadWeight candidates weights rows = Some (length candidates) (λ i. maxWeight < getD weights i 0) ⊎ Some (length rows) (λ i. maxWeight < rowWeight (entryAt rows i))
 
 both-fails : (a b : Bool) → both a b ≡ false → (a ≡ false) ⊎ (b ≡ false)
@@ -91,14 +89,12 @@ both-fails true b e = inr e
 
 module _ (candidates : List (List ℕ)) (weights : List ℕ) (rows : List (List ℕ)) where
   pub weights-false : both (weightsFit weights (length candidates)) (rowWeightsFit rows) ≡ false → BadWeight candidates weights rows
-  unfolding BadWeight
   weights-false e =
       ⊎-elim (λ f. inl (let s = every-fails (length candidates) (λ i. leb (getD weights i 0) maxWeight) f in record { at = s .at; below = s .below; is = leb-false _ _ (s .is) }))
       (λ f. inr (let s = every-fails (length rows) (λ i. leb (rowWeight (entryAt rows i)) maxWeight) f in record { at = s .at; below = s .below; is = leb-false _ _ (s .is) }))
       (both-fails (weightsFit weights (length candidates)) (rowWeightsFit rows) e)
 
   pub bad-weight : Weights candidates weights rows → BadWeight candidates weights rows → ⊥
-  unfolding BadWeight
   bad-weight w b =
       ⊎-elim (λ s. let a = w .own (s .at) (s .below) in let o = s .is in omega arith)
       (λ s. let a = w .of-row (s .at) (s .below) in let o = s .is in omega arith) b

@@ -14,3 +14,8 @@ unless-zero false number next h e = absurd (omega arith)
 pub unless-fails : (test : Bool) (number : ℕ) → (unless test number 0 ≡ 0 → ⊥) → test ≡ false
 unless-fails true number h = absurd (h refl)
 unless-fails false number h = refl
+
+-- the same number whichever way
+pub unless-same : (test : Bool) {number next : ℕ} → next ≡ number → unless test number next ≡ number
+unless-same true e = e
+unless-same false e = refl

@@ -2,3 +2,5 @@ pub mod First
 pub mod Order
 pub mod Lists
 pub mod Failing
+pub mod Acceptance
+pub mod Count
