@@ -93,7 +93,8 @@ module _ (n : ℕ) (candidates : List (List ℕ)) (weights : List ℕ) (rows : L
         weight-places = leb-true _ _ (w .0);
         candidates-are = candidates-true n candidates (c .0);
         rows-are = rows-true candidates rows (r .0);
-        weights-are = weights-true candidates weights rows (t .0) }
+        weights-are = weights-true candidates weights rows (t .0);
+      }
 
   pub zero-lists-code : ListsAccepted n candidates weights rows → listsCode n candidates weights rows ≡ 0
   unfolding listsCode
@@ -156,13 +157,18 @@ module _ (n : ℕ) (candidates : List (List ℕ)) (weights : List ℕ) (rows : L
       where
         room : {needed lent : ℕ} → (lent < needed → ⊥) → needed ≤ lent
         room h = leb-true _ _ (enough-true h)
+
         all : candidatesFit n candidates ≡ true → rowsFit candidates rows ≡ true → weightsTest ≡ true → Accepted n candidates weights rows tp wp
         all c r w =
             let t = count-true n (true-count n a) in
             record {
-              at-least-3 = t .0; at-most-64 = t .1;
-              triangle-room = room (λ l. b (few-triangles l)); work-room = room (λ l. b (little-work l));
-              lists = record { weight-places = room (λ l. b (few-weights l)); candidates-are = candidates-true n candidates c; rows-are = rows-true candidates rows r; weights-are = weights-true candidates weights rows w } }
+              at-least-3 = t .0;
+              at-most-64 = t .1;
+              triangle-room = room (λ l. b (few-triangles l));
+              work-room = room (λ l. b (little-work l));
+              lists = record { weight-places = room (λ l. b (few-weights l)); candidates-are = candidates-true n candidates c; rows-are = rows-true candidates rows r; weights-are = weights-true candidates weights rows w };
+            }
+
         go : Truth (candidatesFit n candidates) → Truth (rowsFit candidates rows) → Truth weightsTest → First from15
         go (fails c) r w = subst First (sym (no _ _ c)) (due-15 a b (candidates-false n candidates c))
         go (holds c) (fails r) w = subst First (sym (yes _ _ c ∙ no _ _ r)) (due-16 a b (candidates-true n candidates c) (rows-false candidates rows r))
@@ -174,6 +180,7 @@ module _ (n : ℕ) (candidates : List (List ℕ)) (weights : List ℕ) (rows : L
       where
         short : Due13 n candidates weights tp wp → First from13
         short d = subst First (sym (at-13 d)) (due-13 a d)
+
         go : Truth (enough (n - 2) tp) → Truth (enough (length candidates) wp) → Truth (enough (length candidates) (length weights)) → First from13
         go (fails t) k w = short (few-triangles (leb-false _ _ t))
         go (holds t) (fails k) w = short (little-work (leb-false _ _ k))

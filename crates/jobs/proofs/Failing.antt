@@ -56,10 +56,14 @@ module _ (n : ℕ) (candidates : List (List ℕ)) where
       let s = every-fails (length candidates) (candidateFits n candidates) e in
       let i = s .at in
       let t = entryAt candidates i in
-      record { at = i; below = s .below; is =
-        ⊎-elim (λ f. inl (λ o. true-not-false (true-ascends n t o) f))
-        (λ f. inr (f .0, λ o. true-not-false (true-before _ _ o) (f .1)))
-        (split i (ascends n (vertexA t) (vertexB t) (vertexC t)) (before (entryAt candidates (i - 1)) t) (s .is)) }
+      record {
+        at = i;
+        below = s .below;
+        is =
+            ⊎-elim (λ f. inl (λ o. true-not-false (true-ascends n t o) f))
+            (λ f. inr (f .0, λ o. true-not-false (true-before _ _ o) (f .1)))
+            (split i (ascends n (vertexA t) (vertexB t) (vertexC t)) (before (entryAt candidates (i - 1)) t) (s .is));
+      }
 
   pub bad-candidate : Candidates n candidates → Some (length candidates) (BadCandidate n candidates) → ⊥
   bad-candidate c s = ⊎-elim (λ f. f (c .ordered (s .at) (s .below))) (λ f. f .1 (c .ascending (s .at - 1) (s .at) (omega (arith, f .0)) (s .below))) (s .is)
@@ -71,10 +75,14 @@ module _ (candidates rows : List (List ℕ)) where
       let s = every-fails (length rows) (rowFits candidates rows) e in
       let i = s .at in
       let r = entryAt rows i in
-      record { at = i; below = s .below; is =
-        ⊎-elim (λ f. inl (λ o. true-not-false (true-names candidates r o) f))
-        (λ f. inr (f .0, λ o. true-not-false (true-row-before _ _ o) (f .1)))
-        (split i (namesPair candidates (outer r) (inner r)) (rowBefore (entryAt rows (i - 1)) r) (s .is)) }
+      record {
+        at = i;
+        below = s .below;
+        is =
+            ⊎-elim (λ f. inl (λ o. true-not-false (true-names candidates r o) f))
+            (λ f. inr (f .0, λ o. true-not-false (true-row-before _ _ o) (f .1)))
+            (split i (namesPair candidates (outer r) (inner r)) (rowBefore (entryAt rows (i - 1)) r) (s .is));
+      }
 
   pub bad-row : Rows candidates rows → Some (length rows) (BadRow candidates rows) → ⊥
   bad-row r s = ⊎-elim (λ f. f (r .named (s .at) (s .below))) (λ f. f .1 (r .ascending (s .at - 1) (s .at) (omega (arith, f .0)) (s .below))) (s .is)

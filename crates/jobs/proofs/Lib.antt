@@ -4,3 +4,4 @@ pub mod Lists
 pub mod Failing
 pub mod Acceptance
 pub mod Count
+pub mod Cases

@@ -57,7 +57,8 @@ module _ (n : ℕ) (t : List ℕ) where
       record {
         a-b = ltb-true (vertexA t) (vertexB t) (both-left (ltb (vertexA t) (vertexB t)) (both (ltb (vertexB t) (vertexC t)) (ltb (vertexC t) n)) e);
         b-c = ltb-true (vertexB t) (vertexC t) (both-left (ltb (vertexB t) (vertexC t)) (ltb (vertexC t) n) r);
-        c-n = ltb-true (vertexC t) n (both-right (ltb (vertexB t) (vertexC t)) (ltb (vertexC t) n) r) }
+        c-n = ltb-true (vertexC t) n (both-right (ltb (vertexB t) (vertexC t)) (ltb (vertexC t) n) r);
+      }
 
   pub true-ascends : Ordered n t → ascends n (vertexA t) (vertexB t) (vertexC t) ≡ true
   unfolding ascends
@@ -74,7 +75,8 @@ module _ (candidates : List (List ℕ)) (row : List ℕ) where
       record {
         outer-is = ltb-true _ _ (both-left o (both i h) e);
         inner-is = ltb-true _ _ (both-left i h r);
-        hanging = hangs-true _ _ (both-right i h r) }
+        hanging = hangs-true _ _ (both-right i h r);
+      }
 
   pub true-names : Named candidates row → namesPair candidates (outer row) (inner row) ≡ true
   unfolding namesPair
@@ -95,7 +97,8 @@ module _ (n : ℕ) (candidates : List (List ℕ)) where
       record {
         ordered = λ i h. ascends-true n _ (both-left (own i) (either (eqb i 0) (after i)) (at i (omega arith) h));
         ascending = in-order (λ i j. Before (entryAt candidates i) (entryAt candidates j)) (λ i j k. before-trans) (length candidates)
-          (λ i p h. before-true _ _ (neighbour i (after i) (both-right (own i) (either (eqb i 0) (after i)) (at i (omega arith) h)) p)) }
+            (λ i p h. before-true _ _ (neighbour i (after i) (both-right (own i) (either (eqb i 0) (after i)) (at i (omega arith) h)) p));
+      }
 
   pub true-candidates : Candidates n candidates → candidatesFit n candidates ≡ true
   unfolding candidateFits
@@ -117,7 +120,8 @@ module _ (candidates rows : List (List ℕ)) where
       record {
         named = λ i h. names-true candidates _ (both-left (pair i) (either (eqb i 0) (row-after i)) (at i (omega arith) h));
         ascending = in-order (λ i j. RowBefore (entryAt rows i) (entryAt rows j)) (λ i j k. row-before-trans) (length rows)
-          (λ i p h. row-before-true _ _ (neighbour i (row-after i) (both-right (pair i) (either (eqb i 0) (row-after i)) (at i (omega arith) h)) p)) }
+            (λ i p h. row-before-true _ _ (neighbour i (row-after i) (both-right (pair i) (either (eqb i 0) (row-after i)) (at i (omega arith) h)) p));
+      }
 
   pub true-rows : Rows candidates rows → rowsFit candidates rows ≡ true
   unfolding rowFits
@@ -129,7 +133,8 @@ module _ (candidates : List (List ℕ)) (weights : List ℕ) (rows : List (List 
   pub weights-true : both (weightsFit weights (length candidates)) (rowWeightsFit rows) ≡ true → Weights candidates weights rows
   weights-true e = record {
     own = λ i h. leb-true _ _ (every-at 0 (length candidates) (λ i. leb (getD weights i 0) maxWeight) (both-left (weightsFit weights (length candidates)) (rowWeightsFit rows) e) i (omega arith) h);
-    of-row = λ i h. leb-true _ _ (every-at 0 (length rows) (λ i. leb (rowWeight (entryAt rows i)) maxWeight) (both-right (weightsFit weights (length candidates)) (rowWeightsFit rows) e) i (omega arith) h) }
+    of-row = λ i h. leb-true _ _ (every-at 0 (length rows) (λ i. leb (rowWeight (entryAt rows i)) maxWeight) (both-right (weightsFit weights (length candidates)) (rowWeightsFit rows) e) i (omega arith) h);
+  }
 
   pub true-weights : Weights candidates weights rows → both (weightsFit weights (length candidates)) (rowWeightsFit rows) ≡ true
   true-weights w =

@@ -8,6 +8,7 @@ ghost use Rattle.jobs.specs.Job.{countCode, listsCode, jobCode};
 
 // The fewest and the most vertices of a direct job.
 pub const MIN_VERTICES: usize = 3;
+
 pub const MAX_VERTICES: usize = 64;
 
 // 14, or 0 where it is not due.
