@@ -1,9 +1,9 @@
 -- A direct job is accepted exactly when no number is due on it, and the number returned is exactly the first that is due in the order 14, 13, 15, 16, 17. Assumes nothing.
-use mathlib.Core.Path.{_≡_, refl, sym, _∙_, ap, subst}
+use mathlib.Core.Path.{_≡_, sym, _∙_, subst}
 use mathlib.Core.Bool.{Bool, true, false}
 use mathlib.Core.List.{List}
 use mathlib.Core.Logic.{_⊎_, inl, inr, ⊎-elim}
-use Prim.Native.Nat.{ℕ, zero, suc, _-_, _≤_, _<_}
+use Prim.Native.Nat.{ℕ, _-_, _≤_, _<_}
 use native.Mathlib.Omega.{arith}
 use lib.ListN.{length}
 use lib.Dec.{leb, ltb}
@@ -33,15 +33,15 @@ pub record ListsAccepted (n : ℕ) (candidates : List (List ℕ)) (weights : Lis
 
 -- "A direct job is accepted when no number is due on it or on the tables lent with it"
 pub record Accepted (n : ℕ) (candidates : List (List ℕ)) (weights : List ℕ) (rows : List (List ℕ)) (triangle-places work-places : ℕ) : Type 0 where
-  pub at-least-3 : 3 ≤ n
-  pub at-most-64 : n ≤ 64
+  pub at-least : minVertices ≤ n
+  pub at-most : n ≤ maxVertices
   pub triangle-room : n - 2 ≤ triangle-places
   pub work-room : length candidates ≤ work-places
   pub lists : ListsAccepted n candidates weights rows
 
 -- "14 n isn't 3 to 64"
 abbrev pub Due14 : ℕ → Type 0
-Due14 n = (n < 3) ⊎ (64 < n)
+Due14 n = (n < minVertices) ⊎ (maxVertices < n)
 
 -- "13 a lent table has fewer places than needed": triangles n − 2, work and weights one per candidate
 pub data Due13 (n : ℕ) (candidates : List (List ℕ)) (weights : List ℕ) (triangle-places work-places : ℕ) : Type 0 where
@@ -58,21 +58,21 @@ pub data FirstDue (n : ℕ) (candidates : List (List ℕ)) (weights : List ℕ) 
   due-17 : (Due14 n → ⊥) → (Due13 n candidates weights tp wp → ⊥) → Candidates n candidates → Rows candidates rows → BadWeight candidates weights rows → FirstDue n candidates weights rows tp wp 17
   none-due : Accepted n candidates weights rows tp wp → FirstDue n candidates weights rows tp wp 0
 
-count-true : (n : ℕ) → countFits n ≡ true → (3 ≤ n) × (n ≤ 64)
-count-true n e = (leb-true 3 n (both-left (leb 3 n) (leb n 64) e), leb-true n 64 (both-right (leb 3 n) (leb n 64) e))
+count-true : (n : ℕ) → countFits n ≡ true → (minVertices ≤ n) × (n ≤ maxVertices)
+count-true n e = (leb-true minVertices n (both-left (leb minVertices n) (leb n maxVertices) e), leb-true n maxVertices (both-right (leb minVertices n) (leb n maxVertices) e))
 
 true-count : (n : ℕ) → (Due14 n → ⊥) → countFits n ≡ true
-true-count n h = both-true (not-false-true _ (λ f. h (inl (leb-false 3 n f)))) (not-false-true _ (λ f. h (inr (leb-false n 64 f))))
+true-count n h = both-true (not-false-true _ (λ f. h (inl (leb-false minVertices n f)))) (not-false-true _ (λ f. h (inr (leb-false n maxVertices f))))
 
 false-count : (n : ℕ) → Due14 n → countFits n ≡ false
 false-count n d = not-true-false _ (λ e. let r = count-true n e in ⊎-elim (λ h. omega arith) (λ h. omega arith) d)
 
 count-false : (n : ℕ) → countFits n ≡ false → Due14 n
-count-false n e = go (truth (leb 3 n))
+count-false n e = go (truth (leb minVertices n))
   where
-    go : Truth (leb 3 n) → Due14 n
-    go (holds h) = inr (leb-false n 64 (sym (yes (leb n 64) false h) ∙ e))
-    go (fails h) = inl (leb-false 3 n h)
+    go : Truth (leb minVertices n) → Due14 n
+    go (holds h) = inr (leb-false n maxVertices (sym (yes (leb n maxVertices) false h) ∙ e))
+    go (fails h) = inl (leb-false minVertices n h)
 
 enough-true : {needed lent : ℕ} → (lent < needed → ⊥) → enough needed lent ≡ true
 enough-true {needed} {lent} h = not-false-true _ (λ f. h (leb-false needed lent f))
@@ -110,12 +110,12 @@ module _ (n : ℕ) (candidates : List (List ℕ)) (weights : List ℕ) (rows : L
         let t = unless-zero (enough (n - 2) tp) 13 _ (omega arith) (c .1) in
         let w = unless-zero (enough (length candidates) wp) 13 _ (omega arith) (t .1) in
         let b = count-true n (c .0) in
-        record { at-least-3 = b .0; at-most-64 = b .1; triangle-room = leb-true _ _ (t .0); work-room = leb-true _ _ (w .0); lists = lists-code-zero (w .1) }
+        record { at-least = b .0; at-most = b .1; triangle-room = leb-true _ _ (t .0); work-room = leb-true _ _ (w .0); lists = lists-code-zero (w .1) }
 
     pub accepted-zero : Accepted n candidates weights rows tp wp → jobCode n candidates weights rows tp wp ≡ 0
     unfolding jobCode
     accepted-zero a =
-        yes _ _ (both-true (le-leb 3 n (a .at-least-3)) (le-leb n 64 (a .at-most-64))) ∙ yes _ _ (le-leb _ _ (a .triangle-room)) ∙ yes _ _ (le-leb _ _ (a .work-room)) ∙ zero-lists-code (a .lists)
+        yes _ _ (both-true (le-leb minVertices n (a .at-least)) (le-leb n maxVertices (a .at-most))) ∙ yes _ _ (le-leb _ _ (a .triangle-room)) ∙ yes _ _ (le-leb _ _ (a .work-room)) ∙ zero-lists-code (a .lists)
 
     -- what is left of the tests after 14, and after 13
     abbrev from13 : ℕ
@@ -162,8 +162,8 @@ module _ (n : ℕ) (candidates : List (List ℕ)) (weights : List ℕ) (rows : L
         all c r w =
             let t = count-true n (true-count n a) in
             record {
-              at-least-3 = t .0;
-              at-most-64 = t .1;
+              at-least = t .0;
+              at-most = t .1;
               triangle-room = room (λ l. b (few-triangles l));
               work-room = room (λ l. b (little-work l));
               lists = record { weight-places = room (λ l. b (few-weights l)); candidates-are = candidates-true n candidates c; rows-are = rows-true candidates rows r; weights-are = weights-true candidates weights rows w };

@@ -30,3 +30,24 @@ numbers =
 pub starred : numbers ≡ 16 ∷ 0 ∷ 0 ∷ 0 ∷ 0 ∷ 0 ∷ []
 unfolding everyFrom ascends before candidateFits hangs namesPair rowBefore rowFits listsCode jobCode
 starred = refl
+
+-- other edges: n of 2 and 65; each table one place short, before a candidate out of order; a candidate twice; c = n; a row twice; weights at and over the limit, and past the candidates
+abbrev edges : List ℕ
+edges =
+    numberOf 2 [] []
+    ∷ numberOf 65 [] []
+    ∷ jobCode 3 (triple 1 0 2 ∷ []) (1 ∷ []) [] 0 1
+    ∷ jobCode 3 (triple 1 0 2 ∷ []) (1 ∷ []) [] 1 0
+    ∷ jobCode 3 (triple 1 0 2 ∷ []) [] [] 1 1
+    ∷ numberOf 3 (triple 0 1 2 ∷ triple 0 1 2 ∷ []) []
+    ∷ numberOf 3 (triple 0 1 3 ∷ []) []
+    ∷ numberOf 4 triplesOfP (triple 1 3 1 ∷ triple 1 3 1 ∷ [])
+    ∷ numberOf 4 triplesOfP (triple 1 4 1 ∷ [])
+    ∷ jobCode 3 (triple 0 1 2 ∷ []) (2000000000 ∷ 4000000000 ∷ []) [] 1 1
+    ∷ jobCode 3 (triple 0 1 2 ∷ []) (2000000001 ∷ []) [] 1 1
+    ∷ numberOf 4 triplesOfP (triple 1 3 2000000001 ∷ [])
+    ∷ []
+
+at-the-edges : edges ≡ 14 ∷ 14 ∷ 13 ∷ 13 ∷ 13 ∷ 15 ∷ 15 ∷ 16 ∷ 16 ∷ 0 ∷ 17 ∷ 17 ∷ []
+unfolding everyFrom ascends before candidateFits hangs namesPair rowBefore rowFits listsCode jobCode
+at-the-edges = refl

@@ -1,14 +1,13 @@
 -- How many candidates there can be: strictly ascending triples below n are at most n (n − 1) (n − 2) / 6, so below 64 at most 41,664. Assumes nothing.
 use mathlib.Core.Path.{_≡_, refl, ap}
-use mathlib.Core.Bool.{true}
 use mathlib.Core.List.{List}
 use Prim.Native.Nat.{ℕ, zero, suc, _+_, _-_, _≤_, _<_}
 use native.Mathlib.Omega.{arith}
 use native.Mathlib.Nat.{le-trans}
 use lib.ListN.{length}
-use Rattle.jobs.specs.Job.{entryAt, vertexA, vertexB, vertexC, candidatesFit}
+use Rattle.jobs.specs.Job.{entryAt, vertexA, vertexB, vertexC}
 use Rattle.jobs.proofs.Order.{Before, by-a, by-b, by-c}
-use Rattle.jobs.proofs.Lists.{Ordered, Candidates, candidates-true}
+use Rattle.jobs.proofs.Lists.{Ordered, Candidates}
 
 -- k over 2, and k over 3
 unfoldable pub choose2 : ℕ → ℕ

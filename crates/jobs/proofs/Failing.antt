@@ -3,17 +3,16 @@ use mathlib.Core.Path.{_≡_, refl, sym, _∙_}
 use mathlib.Core.Bool.{Bool, true, false}
 use mathlib.Core.List.{List}
 use mathlib.Core.Logic.{_⊎_, inl, inr, ⊎-elim}
-use Prim.Native.Nat.{ℕ, zero, suc, _+_, _-_, _≤_, _<_}
+use Prim.Native.Nat.{ℕ, zero, suc, _+_, _-_, _<_}
 use native.Mathlib.Omega.{arith}
 use lib.ListN.{length, getD}
 use lib.Dec.{eqb, leb}
-use borrow.Author.Tests.{leb-false, lt-leb, eq-eqb}
+use borrow.Author.Tests.{leb-false}
 use Rattle.lists.specs.Lists.{every, everyFrom, both, either}
-use Rattle.lists.proofs.Choice.{Truth, truth, holds, fails, yes, true-not-false, either-left, either-right}
-use Rattle.lists.proofs.Ranges.{every-at}
+use Rattle.lists.proofs.Choice.{Truth, truth, holds, fails, yes, true-not-false, either-right}
 use Rattle.jobs.specs.Job.{maxWeight, entryAt, outer, inner, vertexA, vertexB, vertexC, rowWeight, ascends, before, candidateFits, candidatesFit, namesPair, rowBefore, rowFits, rowsFit, weightsFit, rowWeightsFit}
 use Rattle.jobs.proofs.Order.{Before, RowBefore, true-before, true-row-before}
-use Rattle.jobs.proofs.Lists.{Ordered, Named, Candidates, Rows, Weights, true-ascends, true-names, candidates-true, rows-true, weights-true}
+use Rattle.jobs.proofs.Lists.{Ordered, Named, Candidates, Rows, Weights, true-ascends, true-names}
 
 -- a number below a bound at which something is so
 pub record Some (bound : ℕ) (P : ℕ → Type 0) : Type 0 where

@@ -1,15 +1,15 @@
 -- What each test of a direct job says of its lists: where it holds, a fact of every entry; where it fails, an entry that breaks it. Assumes nothing.
-use mathlib.Core.Path.{_≡_, refl, sym, _∙_}
-use mathlib.Core.Bool.{Bool, true, false}
+use mathlib.Core.Path.{_≡_, refl}
+use mathlib.Core.Bool.{Bool, true}
 use mathlib.Core.List.{List}
-use mathlib.Core.Logic.{_⊎_, inl, inr, ⊎-elim}
-use Prim.Native.Nat.{ℕ, zero, suc, _+_, _-_, _≤_, _<_}
+use mathlib.Core.Logic.{⊎-elim}
+use Prim.Native.Nat.{ℕ, zero, suc, _-_, _≤_, _<_}
 use native.Mathlib.Omega.{arith}
 use lib.ListN.{length, getD}
 use lib.Dec.{eqb, ltb, leb}
-use borrow.Author.Tests.{ltb-true, lt-ltb, leb-true, leb-false, le-leb, eqb-true, eqb-false, eq-eqb, ne-eqb}
-use Rattle.lists.specs.Lists.{every, everyFrom, both, either}
-use Rattle.lists.proofs.Choice.{Truth, truth, holds, fails, yes, true-not-false, both-left, both-right, both-true, either-left, either-right, either-cases, not-false-true, not-true-false}
+use borrow.Author.Tests.{ltb-true, lt-ltb, leb-true, le-leb, eqb-true}
+use Rattle.lists.specs.Lists.{both, either}
+use Rattle.lists.proofs.Choice.{both-left, both-right, both-true, either-right, either-cases}
 use Rattle.lists.proofs.Ranges.{every-at, every-all}
 use Rattle.jobs.specs.Job.{maxWeight, entryAt, vertexA, vertexB, vertexC, outer, inner, rowWeight, ascends, before, candidateFits, candidatesFit, hangs, namesPair, rowBefore, rowFits, rowsFit, weightsFit, rowWeightsFit}
 use Rattle.jobs.proofs.Order.{Before, RowBefore, Hangs, before-true, true-before, before-trans, row-before-true, true-row-before, row-before-trans, hangs-true, true-hangs, in-order}

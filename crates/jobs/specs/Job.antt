@@ -1,6 +1,6 @@
 -- The tests of a direct job: document 01, "Tilings" and "Who causes which number". Definitions only.
 -- A job is n, its candidates [a, b, c], a table of weights that begins with theirs, and its rows [outer, inner, weight].
-use mathlib.Core.Bool.{Bool, true, false, cond}
+use mathlib.Core.Bool.{Bool, cond}
 use mathlib.Core.List.{List, []}
 use Prim.Native.Nat.{ℕ, _-_}
 use lib.ListN.{length, getD}

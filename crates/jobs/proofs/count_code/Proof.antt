@@ -1,4 +1,4 @@
-use mathlib.Core.Path.{_≡_, refl, sym, _∙_, ap}
+use mathlib.Core.Path.{sym, _∙_}
 use borrow.Author.Tests.{le-leb, lt-leb}
 use Rattle.lists.proofs.Choice.{yes, no}
 use Rattle.jobs.proofs.count_code.Statement.{statement}
