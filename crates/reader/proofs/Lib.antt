@@ -3,3 +3,5 @@ pub mod Vertices
 pub mod Lengths
 pub mod Walking
 pub mod Answers
+pub mod Positions
+pub mod Demand1

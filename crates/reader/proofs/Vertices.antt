@@ -80,12 +80,12 @@ known-is Unknown e = absurd (let z : _≡_ {A = ℕ} 1 0 = ap (λ (b : Bool). co
 known-is (Known z) e = refl
 
 -- the record by its tests
-shape : (one two known tail : Bool) (x y z : Float) (h : ℤ) → Vertex
+unfoldable pub shape : (one two known tail : Bool) (x y z : Float) (h : ℤ) → Vertex
 shape one two known tail x y z h =
     cond one (vertexUnless (numbersCode (x ∷ y ∷ z ∷ [])) (point (roundEighths x) (roundEighths y) (roundEighths z)))
     (cond two (cond known (cond tail (vertexUnless (numbersCode (x ∷ y ∷ [])) (point (roundEighths x) (roundEighths y) h)) (Refused 8)) (Refused 7)) (Refused 6))
 
-shape-is : (one two known tail : Bool) (s : List ℕ) (i : ℕ) (h : ℤ) → eqb (kind s i) 1 ≡ one → eqb (kind s i) 2 ≡ two → tailZero s i ≡ tail →
+pub shape-is : (one two known tail : Bool) (s : List ℕ) (i : ℕ) (h : ℤ) → eqb (kind s i) 1 ≡ one → eqb (kind s i) 2 ≡ two → tailZero s i ≡ tail →
     vertexOf (recordAt s i known) h ≡ shape one two known tail (firstNumber s i) (secondNumber s i) (thirdNumber s i) h
 unfolding vertexOf recordAt shape
 shape-is true two known tail s i h a b c = rw a

@@ -5,7 +5,7 @@ use mathlib.Core.List.{List, [], _∷_, _++_}
 use Prim.Native.Nat.{ℕ, zero, suc, _+_, _-_, _*_, _≤_, _<_}
 use native.Mathlib.Numerals.{add-one}
 use native.Mathlib.Omega.{arith}
-use borrow.Author.Tests.{le-ltb, lt-ltb, lt-leb, le-leb, eq-eqb, ne-eqb, eqb-true, eqb-false, ltb-true, ltb-false}
+use borrow.Author.Tests.{le-ltb, lt-ltb, lt-leb, le-leb, eq-eqb, ne-eqb, eqb-true, eqb-false}
 use lib.IntN.{ℤ, pos, negsuc}
 use mir.Syntax.{w64}
 use mir.Val.{SFits, toZ, ofZ}
@@ -14,7 +14,8 @@ use lib.ListN.{length, getD, set, replicate, length-set, length-replicate}
 use lib.Seq.{getD-set-same, getD-set-other}
 use lib.Dec.{ltb, leb, eqb}
 use Rattle.lists.specs.Lists.{either, upFrom, over, filled}
-use Rattle.lists.proofs.Choice.{yes, no, Truth, holds, fails, truth}
+use mathlib.Core.Logic.{⊎-elim}
+use Rattle.lists.proofs.Choice.{yes, no, below-or-same}
 use Rattle.lists.proofs.Ranges.{over-last, over-length}
 use Rattle.lists.proofs.Writing.{filled-next}
 use Rattle.grid.specs.declared.GridPoint.{GridPoint}
@@ -37,11 +38,7 @@ positive zero h = absurd (h refl)
 positive (suc k) h = omega arith
 
 pub below-limit : {n : ℕ} → n ≤ 64 → (n ≡ 64 → ⊥) → n < 64
-below-limit {n} h d = by (ltb n 64) refl
-  where
-    by : (b : Bool) → ltb n 64 ≡ b → n < 64
-    by true e = ltb-true n 64 e
-    by false e = absurd (d (omega (arith, ltb-false n 64 e)))
+below-limit {n} h d = ⊎-elim (λ l. l) (λ e. absurd (d e)) (below-or-same n 64 h)
 
 -- before position n of the chain no number is due, and the locals are those of the positions before n
 pub record Walking (s : List ℕ) (met : List Bool) (vertices : List GridPoint) (height : Height) (n link : ℕ) : Type 0 where
