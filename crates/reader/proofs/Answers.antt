@@ -10,11 +10,12 @@ use lib.Dec.{ltb, leb, eqb}
 use Rattle.lists.proofs.Choice.{yes, no, Truth, holds, fails, truth}
 use Rattle.grid.specs.declared.GridPoint.{GridPoint}
 use Rattle.polygon.specs.Polygon.{emptyPolygon, repeatedVertex, maxVertices}
+use Rattle.polygon.specs.declared.Polygon.{Polygon}
 use Rattle.reader.specs.File.{areaFactor, bendFactor, recordCount, lengthWrong}
 use Rattle.reader.specs.Chain.{metBefore, vertexAt, numberOf, positionCode, codeFrom, endFrom, chainCode, vertexCount, verticesOf}
 use Rattle.reader.specs.Chain as chain
 use Rattle.reader.specs.Steps.{stoppedAt, walked, chainOf}
-use Rattle.reader.specs.Reading.{firstDue, numberDue, polygonOf, refusal, answer, readingOf}
+use Rattle.reader.specs.Reading.{firstDue, numberDue, polygonOf, refusal, answer, readingOf, statusNumber}
 use Rattle.reader.specs.declared.Chain.{Chain}
 use Rattle.reader.specs.declared.Reading.{Reading}
 use Rattle.reader.specs.declared.Status.the-variants.{Complete}
@@ -150,3 +151,11 @@ answer-complete s {n} {area} {bend} {vertices} e a b c d = same ∙ sym (ap (λ 
   where
     same : _≡_ {A = Reading} (record { status = Complete; polygon = record { n = n; «area_factor» = area; «bend_factor» = bend; vertices = vertices } }) (answer 0 (polygonOf s))
     same = λ i. record { status = Complete; polygon = record { n = a i; «area_factor» = b i; «bend_factor» = c i; vertices = d i } }
+
+answer-number : (k : ℕ) (p : Polygon) → statusNumber (answer k p .status) ≡ k
+answer-number zero p = refl
+answer-number (suc k) p = refl
+
+-- the whole promise from the answer
+pub promised : (s : List ℕ) {r : Reading} → r ≡ readingOf s → (r ≡ readingOf s) × (statusNumber (r .status) ≡ numberDue s)
+promised s e = (e, ap (λ (r : Reading). statusNumber (r .status)) e ∙ answer-number (numberDue s) (polygonOf s))

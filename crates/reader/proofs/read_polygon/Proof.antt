@@ -2,7 +2,7 @@ use mathlib.Core.Path.{sym, _∙_}
 use native.Mathlib.Omega.{arith}
 use Rattle.reader.proofs.Lengths.{whole}
 use Rattle.reader.proofs.Walking.{positive}
-use Rattle.reader.proofs.Answers.{answer-refused, answer-complete, length-due, area-due, chain-due, few-due, repeated-due, none-due, followed-code, followed-count, followed-vertices, followed-within, repeated-as-found}
+use Rattle.reader.proofs.Answers.{answer-refused, answer-complete, length-due, area-due, chain-due, few-due, repeated-due, none-due, followed-code, followed-count, followed-vertices, followed-within, repeated-as-found, promised}
 use borrow.Author.Needs.{needs}
 use Rattle.reader.proofs.read_polygon.Statement.{statement}
 use Rattle.reader.proofs.read_polygon.Tie as tie
@@ -24,7 +24,7 @@ refused-requires c κs = search needs
 
 -- src/lib.rt:70:9
 returns : tie.Need-returns
-returns c = c .refused .ensures ∙ answer-refused _ 1 (omega arith) (length-due _ (sym (c .before .before .length-wrong .ensures) ∙ c .before .if1 .taken))
+returns c = promised _ (c .refused .ensures ∙ answer-refused _ 1 (omega arith) (length-due _ (sym (c .before .before .length-wrong .ensures) ∙ c .before .if1 .taken)))
 
 -- src/lib.rt:72:9
 u16-at-requires : tie.Need-u16-at-requires
@@ -36,7 +36,7 @@ refused-requires-2 c κs = search needs
 
 -- src/lib.rt:74:9
 returns-2 : tie.Need-returns-2
-returns-2 c = c .refused2 .ensures ∙ answer-refused _ 2 (omega arith) (area-due _ (sym (c .before .before .before .before .length-wrong .ensures) ∙ c .before .before .before .if1 .left) (omega (arith, c .before .before .u16-at .ensures .0, c .before .if2 .taken)))
+returns-2 c = promised _ (c .refused2 .ensures ∙ answer-refused _ 2 (omega arith) (area-due _ (sym (c .before .before .before .before .length-wrong .ensures) ∙ c .before .before .before .if1 .left) (omega (arith, c .before .before .u16-at .ensures .0, c .before .if2 .taken))))
 
 -- src/lib.rt:76:9
 follow-chain-requires : tie.Need-follow-chain-requires
@@ -48,10 +48,9 @@ refused-requires-3 c κs = search needs
 
 -- src/lib.rt:79:9
 returns-3 : tie.Need-returns-3
-returns-3 c =
-    c .refused3 .ensures
+returns-3 c = promised _ (c .refused3 .ensures
     ∙ answer-refused _ _ (positive _ (c .before .if3 .taken))
-    (chain-due _ (sym (c .before .before .before .before .before .before .length-wrong .ensures) ∙ c .before .before .before .before .before .if1 .left) (omega (arith, c .before .before .before .before .u16-at .ensures .0, c .before .before .before .if2 .left)) _ (positive _ (c .before .if3 .taken)) (sym (followed-code _ (c .before .before .follow-chain .ensures))))
+    (chain-due _ (sym (c .before .before .before .before .before .before .length-wrong .ensures) ∙ c .before .before .before .before .before .if1 .left) (omega (arith, c .before .before .before .before .u16-at .ensures .0, c .before .before .before .if2 .left)) _ (positive _ (c .before .if3 .taken)) (sym (followed-code _ (c .before .before .follow-chain .ensures)))))
 
 -- src/lib.rt:83:9
 refused-requires-4 : tie.Need-refused-requires-4
@@ -59,10 +58,9 @@ refused-requires-4 c κs = search needs
 
 -- src/lib.rt:83:9
 returns-4 : tie.Need-returns-4
-returns-4 c =
-    c .refused4 .ensures
+returns-4 c = promised _ (c .refused4 .ensures
     ∙ answer-refused _ 10 (omega arith)
-    (few-due _ (sym (c .before .before .before .before .before .before .before .length-wrong .ensures) ∙ c .before .before .before .before .before .before .if1 .left) (omega (arith, c .before .before .before .before .before .u16-at .ensures .0, c .before .before .before .before .if2 .left)) (sym (followed-code _ (c .before .before .before .follow-chain .ensures)) ∙ c .before .before .if3 .left) (omega (arith, followed-count _ (c .before .before .before .follow-chain .ensures) (c .before .before .if3 .left), c .before .if4 .taken)))
+    (few-due _ (sym (c .before .before .before .before .before .before .before .length-wrong .ensures) ∙ c .before .before .before .before .before .before .if1 .left) (omega (arith, c .before .before .before .before .before .u16-at .ensures .0, c .before .before .before .before .if2 .left)) (sym (followed-code _ (c .before .before .before .follow-chain .ensures)) ∙ c .before .before .if3 .left) (omega (arith, followed-count _ (c .before .before .before .follow-chain .ensures) (c .before .before .if3 .left), c .before .if4 .taken))))
 
 -- src/lib.rt:86:8
 has-repeated-vertex-requires : tie.Need-has-repeated-vertex-requires
@@ -74,11 +72,10 @@ refused-requires-5 c κs = search needs
 
 -- src/lib.rt:87:9
 returns-5 : tie.Need-returns-5
-returns-5 c =
-    c .refused5 .ensures
+returns-5 c = promised _ (c .refused5 .ensures
     ∙ answer-refused _ 11 (omega arith)
     (repeated-due _ (sym (c .before .before .before .before .before .before .before .before .before .before .length-wrong .ensures) ∙ c .before .before .before .before .before .before .before .before .before .if1 .left) (omega (arith, c .before .before .before .before .before .before .before .before .u16-at .ensures .0, c .before .before .before .before .before .before .before .if2 .left)) (sym (followed-code _ (c .before .before .before .before .before .before .follow-chain .ensures)) ∙ c .before .before .before .before .before .if3 .left) (omega (arith, followed-count _ (c .before .before .before .before .before .before .follow-chain .ensures) (c .before .before .before .before .before .if3 .left), c .before .before .before .before .if4 .left))
-    (repeated-as-found _ (c .before .before .before .before .before .before .follow-chain .ensures) (c .before .before .before .before .before .if3 .left) (c .before .before .has-repeated-vertex .ensures) ∙ c .before .if5 .taken))
+    (repeated-as-found _ (c .before .before .before .before .before .before .follow-chain .ensures) (c .before .before .before .before .before .if3 .left) (c .before .before .has-repeated-vertex .ensures) ∙ c .before .if5 .taken)))
 
 -- src/lib.rt:89:9
 u16-at-requires-2 : tie.Need-u16-at-requires-2
@@ -86,11 +83,10 @@ u16-at-requires-2 c κs = let w = whole _ (sym (c .before .before .before .befor
 
 -- src/lib.rt:66:1
 returns-6 : tie.Need-returns-6
-returns-6 c =
-    answer-complete _
+returns-6 c = promised _ (answer-complete _
     (none-due _ (sym (c .before .before .before .before .before .before .before .before .before .before .length-wrong .ensures) ∙ c .before .before .before .before .before .before .before .before .before .if1 .left) (omega (arith, c .before .before .before .before .before .before .before .before .u16-at .ensures .0, c .before .before .before .before .before .before .before .if2 .left)) (sym (followed-code _ (c .before .before .before .before .before .before .follow-chain .ensures)) ∙ c .before .before .before .before .before .if3 .left) (omega (arith, followed-count _ (c .before .before .before .before .before .before .follow-chain .ensures) (c .before .before .before .before .before .if3 .left), c .before .before .before .before .if4 .left))
     (repeated-as-found _ (c .before .before .before .before .before .before .follow-chain .ensures) (c .before .before .before .before .before .if3 .left) (c .before .before .has-repeated-vertex .ensures) ∙ c .before .if5 .left))
-    (followed-count _ (c .before .before .before .before .before .before .follow-chain .ensures) (c .before .before .before .before .before .if3 .left)) (c .before .before .before .before .before .before .before .before .u16-at .ensures .0) (c .u16-at2 .ensures .0) (followed-vertices _ (c .before .before .before .before .before .before .follow-chain .ensures) (c .before .before .before .before .before .if3 .left))
+    (followed-count _ (c .before .before .before .before .before .before .follow-chain .ensures) (c .before .before .before .before .before .if3 .left)) (c .before .before .before .before .before .before .before .before .u16-at .ensures .0) (c .u16-at2 .ensures .0) (followed-vertices _ (c .before .before .before .before .before .before .follow-chain .ensures) (c .before .before .before .before .before .if3 .left)))
 
 pub read-polygon-spec : {M : Type 1} → statement M
 read-polygon-spec =
