@@ -1,6 +1,6 @@
 -- A case picked by its test, and tests as facts. Assumes nothing.
 use lib.Dec.{ltb, eqb}
-use borrow.Author.Tests.{le-ltb, lt-ltb, eq-eqb, ne-eqb, not-true, not-false}
+use borrow.Author.Tests.{le-ltb, lt-ltb, eq-eqb, ne-eqb, not-true, not-false, ltb-true, ltb-false}
 use mathlib.Core.Path.{_≡_, refl, sym, ap, _∙_}
 use mathlib.Core.Bool.{Bool, true, false, cond, not}
 use mathlib.Core.Logic.{_⊎_, inl, inr}
@@ -63,6 +63,14 @@ not-false-true false h = absurd (h refl)
 pub not-true-false : (b : Bool) → (b ≡ true → ⊥) → b ≡ false
 not-true-false false h = refl
 not-true-false true h = absurd (h refl)
+
+-- a number at most another is below it or the same
+pub below-or-same : (j i : ℕ) → j ≤ i → (j < i) ⊎ (j ≡ i)
+below-or-same j i h = by (ltb j i) refl
+  where
+    by : (b : Bool) → ltb j i ≡ b → (j < i) ⊎ (j ≡ i)
+    by true e = inl (ltb-true j i e)
+    by false e = inr (omega (arith, ltb-false j i e))
 
 -- a test of a number that a call handed on
 pub le-via : {x y n : ℕ} → x ≡ y → n ≤ x → ltb y n ≡ false

@@ -7,7 +7,7 @@ use Prim.Native.Nat.{ℕ, zero, suc, _+_, _*_, _-_, _≤_, _<_}
 use native.Mathlib.Nat.{sub-eq-zero-of-le}
 use native.Mathlib.Numerals.{add-one}
 use native.Mathlib.Omega.{arith}
-use lib.ListN.{length, length-append}
+use lib.ListN.{length, getD, length-append}
 use Rattle.lists.specs.Lists.{upFrom, over, when, both, either, everyFrom, every, someFrom, some}
 use Rattle.lists.proofs.Choice.{true-not-false, both-left, both-right, both-true, either-left, either-right, either-cases, either-neither, not-false-true, not-true-false}
 
@@ -49,6 +49,15 @@ module _ {A : Type 0} where
   -- one element for each number
   pub over-length : (lo hi : ℕ) (g : ℕ → A) → length (over lo hi (λ i. g i ∷ [])) ≡ hi - lo
   over-length lo hi g = up-length g lo (hi - lo)
+
+  up-at : (g : ℕ → A) (d : A) (lo k i : ℕ) → i < k → getD (upFrom (λ i. g i ∷ []) lo k) i d ≡ g (lo + i)
+  unfolding upFrom
+  up-at g d lo zero i h = absurd (omega arith)
+  up-at g d lo (suc k) zero h = ap g (omega arith)
+  up-at g d lo (suc k) (suc i) h = up-at g d (suc lo) k i (omega arith) ∙ ap g (omega arith)
+
+  pub over-at : (lo hi : ℕ) (g : ℕ → A) (d : A) (i : ℕ) → i < hi - lo → getD (over lo hi (λ i. g i ∷ [])) i d ≡ g (lo + i)
+  over-at lo hi g d i h = up-at g d lo (hi - lo) i h
 
   -- how long such a list can be
   pub up-bound : (f : ℕ → List A) (B lo k : ℕ) → ((i : ℕ) → length (f i) ≤ B) → length (upFrom f lo k) ≤ k * B

@@ -5,7 +5,7 @@ use Prim.Native.Nat.{ℕ, zero, suc, _+_, _*_, _-_, _≤_, _<_}
 use native.Mathlib.Nat.{le-trans, le-refl}
 use native.Mathlib.Numerals.{add-one}
 use native.Mathlib.Omega.{arith}
-use lib.ListN.{length, take, drop, set, getD, drop-of-length-le, length-append, length-set, take-append-drop, length-drop}
+use lib.ListN.{List·getD-append, length, take, drop, set, getD, drop-of-length-le, length-append, length-set, take-append-drop, length-drop}
 use lib.Seq.{length-take-le, drop-cons, take-suc-set, drop-set-lt, drop-drop, take-at, set-append-seam}
 use Rattle.lists.specs.Lists.{filled}
 
@@ -80,6 +80,9 @@ module _ {A : Type 0} where
   -- a filled table's length, and its first places
   pub filled-length : (l t : List A) → length l ≤ length t → length (filled l t) ≡ length t
   filled-length l t h = length-append l (drop (length l) t) ∙ omega (arith, length-drop (length l) t)
+
+  pub filled-at : (l t : List A) (i : ℕ) (d : A) → i < length l → getD (filled l t) i d ≡ getD l i d
+  filled-at l t i d h = List·getD-append l (drop (length l) t) d i h
 
   -- one place more is filled
   pub filled-next : (l t : List A) (x : A) (n : ℕ) → n ≡ length l → n < length t → set (filled l t) n x ≡ filled (l ++ (x ∷ [])) t

@@ -90,7 +90,7 @@ pub number-on-grid : (v : Float) → OnGrid (valueOf (gridNumberOf v))
 unfolding gridNumberOf
 number-on-grid v = go (finite v) (inRange v) refl
   where
-  go : (f r : Bool) → inRange v ≡ r → OnGrid (valueOf (cond f (cond r (Value (roundEighths v)) OutOfRange) NotFinite))
-  go false r e = record { size = omega arith }
-  go true false e = record { size = omega arith }
-  go true true e = in-range-on-grid v e
+    go : (f r : Bool) → inRange v ≡ r → OnGrid (valueOf (cond f (cond r (Value (roundEighths v)) OutOfRange) NotFinite))
+    go false r e = record { size = omega arith }
+    go true false e = record { size = omega arith }
+    go true true e = in-range-on-grid v e

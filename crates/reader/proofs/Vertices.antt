@@ -52,38 +52,40 @@ point-vertexed x y z p e =
     let d = vertex-unless (numbersCode (x ∷ y ∷ z ∷ [])) (point (roundEighths x) (roundEighths y) (roundEighths z)) p e in
     let r = numbers-fine (x ∷ y ∷ z ∷ []) (d .0) .1 in
     let yz = both-right (inRange x) (both (inRange y) (both (inRange z) true)) r in
-    let zt = both-right (inRange y) (both (inRange z) true) yz in
-    ( subst PointOnGrid (d .1) (record {
+    let zt = both-right (inRange y) (both (inRange z) true) yz in (
+      subst PointOnGrid (d .1) (record {
         x = in-range-on-grid x (both-left (inRange x) (both (inRange y) (both (inRange z) true)) r);
         y = in-range-on-grid y (both-left (inRange y) (both (inRange z) true) yz);
         z = in-range-on-grid z (both-left (inRange z) true zt);
-      })
-    , ap (λ (q : GridPoint). q .z) (d .1) )
+      }),
+      ap (λ (q : GridPoint). q .z) (d .1),
+    )
 
 level-vertexed : (x y : Float) (h : ℤ) (p : GridPoint) → OnGrid h → vertexUnless (numbersCode (x ∷ y ∷ [])) (point (roundEighths x) (roundEighths y) h) ≡ At p →
     PointOnGrid p × (h ≡ p .z)
 level-vertexed x y h p g e =
     let d = vertex-unless (numbersCode (x ∷ y ∷ [])) (point (roundEighths x) (roundEighths y) h) p e in
     let r = numbers-fine (x ∷ y ∷ []) (d .0) .1 in
-    let yt = both-right (inRange x) (both (inRange y) true) r in
-    ( subst PointOnGrid (d .1) (record {
+    let yt = both-right (inRange x) (both (inRange y) true) r in (
+      subst PointOnGrid (d .1) (record {
         x = in-range-on-grid x (both-left (inRange x) (both (inRange y) true) r);
         y = in-range-on-grid y (both-left (inRange y) true yt);
         z = g;
-      })
-    , ap (λ (q : GridPoint). q .z) (d .1) )
+      }),
+      ap (λ (q : GridPoint). q .z) (d .1),
+    )
 
 known-is : (h : Height) → known h ≡ true → h ≡ Known (heightOf h)
 known-is Unknown e = absurd (let z : _≡_ {A = ℕ} 1 0 = ap (λ (b : Bool). cond b 0 1) e in omega arith)
 known-is (Known z) e = refl
 
 -- the record by its tests
-shape : (one two known tail : Bool) (x y z : Float) (h : ℤ) → Vertex
+unfoldable pub shape : (one two known tail : Bool) (x y z : Float) (h : ℤ) → Vertex
 shape one two known tail x y z h =
     cond one (vertexUnless (numbersCode (x ∷ y ∷ z ∷ [])) (point (roundEighths x) (roundEighths y) (roundEighths z)))
     (cond two (cond known (cond tail (vertexUnless (numbersCode (x ∷ y ∷ [])) (point (roundEighths x) (roundEighths y) h)) (Refused 8)) (Refused 7)) (Refused 6))
 
-shape-is : (one two known tail : Bool) (s : List ℕ) (i : ℕ) (h : ℤ) → eqb (kind s i) 1 ≡ one → eqb (kind s i) 2 ≡ two → tailZero s i ≡ tail →
+pub shape-is : (one two known tail : Bool) (s : List ℕ) (i : ℕ) (h : ℤ) → eqb (kind s i) 1 ≡ one → eqb (kind s i) 2 ≡ two → tailZero s i ≡ tail →
     vertexOf (recordAt s i known) h ≡ shape one two known tail (firstNumber s i) (secondNumber s i) (thirdNumber s i) h
 unfolding vertexOf recordAt shape
 shape-is true two known tail s i h a b c = rw a

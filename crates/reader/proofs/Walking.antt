@@ -5,7 +5,7 @@ use mathlib.Core.List.{List, [], _∷_, _++_}
 use Prim.Native.Nat.{ℕ, zero, suc, _+_, _-_, _*_, _≤_, _<_}
 use native.Mathlib.Numerals.{add-one}
 use native.Mathlib.Omega.{arith}
-use borrow.Author.Tests.{le-ltb, lt-ltb, lt-leb, le-leb, eq-eqb, ne-eqb, eqb-true, eqb-false, ltb-true, ltb-false}
+use borrow.Author.Tests.{le-ltb, lt-ltb, lt-leb, le-leb, eq-eqb, ne-eqb, eqb-true, eqb-false}
 use lib.IntN.{ℤ, pos, negsuc}
 use mir.Syntax.{w64}
 use mir.Val.{SFits, toZ, ofZ}
@@ -14,7 +14,8 @@ use lib.ListN.{length, getD, set, replicate, length-set, length-replicate}
 use lib.Seq.{getD-set-same, getD-set-other}
 use lib.Dec.{ltb, leb, eqb}
 use Rattle.lists.specs.Lists.{either, upFrom, over, filled}
-use Rattle.lists.proofs.Choice.{yes, no, Truth, holds, fails, truth}
+use mathlib.Core.Logic.{⊎-elim}
+use Rattle.lists.proofs.Choice.{yes, no, below-or-same}
 use Rattle.lists.proofs.Ranges.{over-last, over-length}
 use Rattle.lists.proofs.Writing.{filled-next}
 use Rattle.grid.specs.declared.GridPoint.{GridPoint}
@@ -37,11 +38,7 @@ positive zero h = absurd (h refl)
 positive (suc k) h = omega arith
 
 pub below-limit : {n : ℕ} → n ≤ 64 → (n ≡ 64 → ⊥) → n < 64
-below-limit {n} h d = by (ltb n 64) refl
-  where
-  by : (b : Bool) → ltb n 64 ≡ b → n < 64
-  by true e = ltb-true n 64 e
-  by false e = absurd (d (omega (arith, ltb-false n 64 e)))
+below-limit {n} h d = ⊎-elim (λ l. l) (λ e. absurd (d e)) (below-or-same n 64 h)
 
 -- before position n of the chain no number is due, and the locals are those of the positions before n
 pub record Walking (s : List ℕ) (met : List Bool) (vertices : List GridPoint) (height : Height) (n link : ℕ) : Type 0 where
@@ -69,10 +66,10 @@ walking-start s link e = record {
   end-left = refl;
 }
   where
-  getD-replicate : (m k : ℕ) → getD (replicate m false) k false ≡ false
-  getD-replicate zero k = refl
-  getD-replicate (suc m) zero = refl
-  getD-replicate (suc m) (suc k) = getD-replicate m k
+    getD-replicate : (m k : ℕ) → getD (replicate m false) k false ≡ false
+    getD-replicate zero k = refl
+    getD-replicate (suc m) zero = refl
+    getD-replicate (suc m) (suc k) = getD-replicate m k
 
 module _ {s : List ℕ} {met : List Bool} {vertices : List GridPoint} {height : Height} {n link : ℕ} (w : Walking s met vertices height n link) where
   -- one position of the chain, taken from what is left
@@ -150,12 +147,12 @@ module _ {s : List ℕ} {met : List Bool} {vertices : List GridPoint} {height : 
             unfolding metBefore
             marked-next k h = by (eqb (chain.link s n) k) refl
               where
-              by : (b : Bool) → eqb (chain.link s n) k ≡ b → getD (set met link true) k false ≡ either b (metBefore s n k)
-              by true e =
-                  let same : k ≡ link = sym (w .here ∙ eqb-true (chain.link s n) k e) in
-                  ap (λ (j : ℕ). getD (set met link true) j false) same ∙ getD-set-same met link true false (omega (arith, w .marks))
-              by false e =
-                  getD-set-other met link k true false (λ d. eqb-false (chain.link s n) k e (sym (w .here) ∙ sym d)) ∙ w .marked k h
+                by : (b : Bool) → eqb (chain.link s n) k ≡ b → getD (set met link true) k false ≡ either b (metBefore s n k)
+                by true e =
+                    let same : k ≡ link = sym (w .here ∙ eqb-true (chain.link s n) k e) in
+                    ap (λ (j : ℕ). getD (set met link true) j false) same ∙ getD-set-same met link true false (omega (arith, w .marks))
+                by false e =
+                    getD-set-other met link k true false (λ d. eqb-false (chain.link s n) k e (sym (w .here) ∙ sym d)) ∙ w .marked k h
 
             points : ℕ → List GridPoint
             points i = pointOf (vertexAt s i) ∷ []

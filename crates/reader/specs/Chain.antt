@@ -2,12 +2,11 @@
 use Prim.Native.Nat.{ℕ, zero, suc}
 use mathlib.Core.Bool.{Bool, true, false, cond}
 use mathlib.Core.List.{List, [], _∷_}
-use lib.IntN.{pos}
 use lib.ListN.{replicate}
 use lib.Dec.{ltb, leb, eqb}
 use Rattle.lists.specs.Lists.{either, over, filled}
 use Rattle.grid.specs.Number.{roundEighths}
-use Rattle.grid.specs.Point.{point}
+use Rattle.polygon.specs.Polygon.{maxVertices, origin}
 use Rattle.grid.specs.declared.GridPoint.{GridPoint}
 use Rattle.reader.specs.File.{firstRecord, recordCount, offset, nextRecord, kind, thirdNumber}
 use Rattle.reader.specs.Record.{known, heightOf, recordAt, vertexOf}
@@ -42,14 +41,14 @@ numberOf (Refused k) = k
 
 abbrev pub pointOf : Vertex → GridPoint
 pointOf (At p) = p
-pointOf (Refused k) = point (pos 0) (pos 0) (pos 0)
+pointOf (Refused k) = origin
 
 -- "record by record along the chain: 3 (on the link that leads to the record), 4, 5, 6, 7, 8, 9": the first number due at position i, 0 where none is
 unfoldable pub positionCode : List ℕ → ℕ → ℕ
 positionCode s i =
     cond (ltb (recordCount s) (link s i)) 3
     (cond (metBefore s i (link s i)) 4
-    (cond (leb 64 i) 5
+    (cond (leb maxVertices i) 5
     (numberOf (vertexAt s i))))
 
 -- the first number due from position i on, 0 where the chain ends before; it has at most k positions more
@@ -66,13 +65,13 @@ endFrom s i (suc k) =
     let rest = endFrom s (suc i) k in
     cond (eqb (link s i) 0) i rest
 
--- at position 64 a link that is not 0 is refused, so 65 positions are all
+-- a link that is not 0 after the last vertex that is allowed is refused, so one position more is all
 abbrev pub chainCode : List ℕ → ℕ
-chainCode s = codeFrom s 0 65
+chainCode s = codeFrom s 0 (suc maxVertices)
 
 abbrev pub vertexCount : List ℕ → ℕ
-vertexCount s = endFrom s 0 65
+vertexCount s = endFrom s 0 (suc maxVertices)
 
--- "Vertices are numbered from 0 in chain order": the first n of 64 places; the others hold the origin
+-- "Vertices are numbered from 0 in chain order": the first n places; the others hold the origin
 abbrev pub verticesOf : List ℕ → ℕ → List GridPoint
-verticesOf s n = filled (over 0 n (λ i. pointOf (vertexAt s i) ∷ [])) (replicate 64 (point (pos 0) (pos 0) (pos 0)))
+verticesOf s n = filled (over 0 n (λ i. pointOf (vertexAt s i) ∷ [])) (replicate maxVertices origin)

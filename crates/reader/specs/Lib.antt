@@ -2,4 +2,5 @@ pub mod File
 pub mod Record
 pub mod Chain
 pub mod Reading
+pub mod Due
 pub mod Steps

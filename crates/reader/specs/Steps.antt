@@ -6,6 +6,7 @@ use lib.IntN.{ℤ, pos}
 use lib.ListN.{replicate}
 use Rattle.lists.specs.Lists.{both}
 use Rattle.grid.specs.Point.{point}
+use Rattle.polygon.specs.Polygon.{maxVertices, origin}
 use Rattle.grid.specs.declared.GridNumber.{GridNumber}
 use Rattle.grid.specs.declared.GridNumber.the-variants.{Value, NotFinite, OutOfRange}
 use Rattle.reader.specs.Chain.{chainCode, vertexCount, verticesOf}
@@ -38,7 +39,7 @@ placed x y z =
     (Refused 8)
 
 abbrev pub stoppedAt : ℕ → Chain
-stoppedAt k = record { code = k; n = 0; vertices = replicate 64 (point (pos 0) (pos 0) (pos 0)) }
+stoppedAt k = record { code = k; n = 0; vertices = replicate maxVertices origin }
 
 abbrev pub walked : ℕ → ℕ → List ℕ → Chain
 walked zero n s = record { code = 0; n = n; vertices = verticesOf s n }

@@ -4,47 +4,58 @@ mod records;
 mod walk;
 
 ghost use mathlib.Core.Path.{_≡_};
-ghost use Rattle.reader.specs.Reading.{refusal, readingOf};
-
+ghost use Rattle.reader.specs.Reading.{refusal, readingOf, statusNumber, numberDue};
 use grid::GridPoint;
 use polygon::Polygon;
 
 // The coordinates of a point, in millimetres.
-pub struct Coordinates {
+struct Coordinates {
     pub x: f32,
     pub y: f32,
     pub z: f32,
 }
 
 // A record as it stands in the file: a point, a level point with no height of its own, or a number.
-pub enum Record {
+enum Record {
     Point(Coordinates),
     Level(f32, f32),
     Refused(u32),
 }
 
 // The grid height of the nearest point before, which a level point takes.
-pub enum Height {
+enum Height {
     Unknown,
     Known(i64),
 }
 
 // A record's vertex, or a number.
-pub enum Vertex {
+enum Vertex {
     At(GridPoint),
     Refused(u32),
 }
 
 // The chain followed to its end: its vertices, or a number and none.
-pub struct Chain {
+struct Chain {
     pub code: u32,
     pub n: usize,
-    pub vertices: [GridPoint; 64],
+    pub vertices: [GridPoint; polygon::MAX_VERTICES],
 }
 
 pub enum Status {
     Complete,
     Refused(u32),
+}
+
+impl Status {
+    // Document 01's number, 0 where the file is read.
+    pub fn number(self) -> u32
+        ensures { λ r. ⌜ r ≡ statusNumber self ⌝ }
+    {
+        match self {
+            Status::Complete => 0,
+            Status::Refused(code) => code,
+        }
+    }
 }
 
 // The reader's answer. The polygon is the empty one where the file is refused.
@@ -64,13 +75,13 @@ fn refused(code: u32) -> Reading
 
 // The polygon of a rim file, or the first number due of 1 to 11. Any bytes are taken.
 pub fn read_polygon(file: &[u8]) -> Reading
-    ensures { λ r. ⌜ r ≡ readingOf (now (file .entry)) ⌝ }
+    ensures { λ r. ⌜ (r ≡ readingOf (now (file .entry))) × (statusNumber (r .status) ≡ numberDue (now (file .entry))) ⌝ }
 {
     if bytes::length_wrong(file) {
         return refused(codes::LENGTH);
     }
     let area_factor = bytes::u16_at(file, 4);
-    if 16 < area_factor {
+    if polygon::MAX_AREA_FACTOR < area_factor {
         return refused(codes::AREA_FACTOR);
     }
     let chain = walk::follow_chain(file);
@@ -79,7 +90,7 @@ pub fn read_polygon(file: &[u8]) -> Reading
         return refused(code);
     }
     let n = chain.n;
-    if n < 3 {
+    if n < polygon::MIN_VERTICES {
         return refused(codes::TOO_FEW_VERTICES);
     }
     let vertices = chain.vertices;

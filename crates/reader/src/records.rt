@@ -10,7 +10,6 @@ ghost use Rattle.grid.specs.Point.{OnGrid};
 ghost use Rattle.reader.specs.File.{u32At};
 ghost use Rattle.reader.specs.Record.{known, heightOf, recordAt, vertexOf};
 ghost use Rattle.reader.specs.Steps.{isFinite, isValue, valueOf, placed};
-
 use crate::Coordinates;
 use crate::Height;
 use crate::Record;
@@ -111,7 +110,11 @@ fn place(x: GridNumber, y: GridNumber, z: GridNumber) -> Vertex
 fn grid_point(c: Coordinates) -> Vertex
     ensures { λ r. ⌜ r ≡ vertexOf (Record.Point c) (pos 0) ⌝ }
 {
-    place(grid::grid_number(c.x), grid::grid_number(c.y), grid::grid_number(c.z))
+    place(
+        grid::grid_number(c.x),
+        grid::grid_number(c.y),
+        grid::grid_number(c.z),
+    )
 }
 
 // A level point on the grid, at the grid height of the point before it.
@@ -119,7 +122,11 @@ fn level_point(x: f32, y: f32, height: i64) -> Vertex
     requires { ⌜ OnGrid height ⌝ }
     ensures { λ r. ⌜ r ≡ vertexOf (Record.Level x y) height ⌝ }
 {
-    place(grid::grid_number(x), grid::grid_number(y), GridNumber::Value(height))
+    place(
+        grid::grid_number(x),
+        grid::grid_number(y),
+        GridNumber::Value(height),
+    )
 }
 
 fn height_known(height: Height) -> bool

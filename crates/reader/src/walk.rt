@@ -3,7 +3,6 @@ ghost use mathlib.Core.Path.{_≡_};
 ghost use mathlib.Core.Bool.{false};
 ghost use Rattle.reader.specs.File.{lengthWrong};
 ghost use Rattle.reader.specs.Steps.{chainOf, stoppedAt};
-
 use crate::Chain;
 use crate::Height;
 use crate::Vertex;
@@ -14,7 +13,7 @@ use grid::GridPoint;
 fn stopped(code: u32) -> Chain
     ensures { λ r. ⌜ r ≡ stoppedAt code ⌝ }
 {
-    let vertices = [GridPoint { x: 0, y: 0, z: 0 }; 64];
+    let vertices = [GridPoint { x: 0, y: 0, z: 0 }; polygon::MAX_VERTICES];
     Chain {
         code,
         n: 0,
@@ -29,7 +28,7 @@ pub fn follow_chain(file: &[u8]) -> Chain
 {
     let count = bytes::u16_at(file, 2) as usize;
     let mut met = [false; 257];
-    let mut vertices = [GridPoint { x: 0, y: 0, z: 0 }; 64];
+    let mut vertices = [GridPoint { x: 0, y: 0, z: 0 }; polygon::MAX_VERTICES];
     let mut height = Height::Unknown;
     let mut n = 0;
     let mut link = bytes::u16_at(file, 0) as usize;

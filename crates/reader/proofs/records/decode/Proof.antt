@@ -1,48 +1,35 @@
+-- `reader::records::decode` meets its contract. Assumes nothing.
 use borrow.Author.Tests.{not-true, not-false}
 use Rattle.lists.proofs.Choice.{eq-via, ne-via}
 use Rattle.reader.specs.Record.{recordAt}
 use borrow.Author.Needs.{needs}
 use Rattle.reader.proofs.records.decode.Statement.{statement}
 use Rattle.reader.proofs.records.decode.Tie as tie
-use Rattle.reader.proofs.records.decode.Reads as reads
-use Rattle.reader.proofs.records.decode.Lts as lts
-use Rattle.reader.proofs.bytes.u16_at.Reads as u16-at-reads
-use Rattle.reader.proofs.bytes.u32_at.Reads as u32-at-reads
-use Rattle.reader.proofs.records.float_at.Reads as float-at-reads
 
--- src/records.rt:34:33
 add-u16-at : tie.Need-add-u16-at
 add-u16-at c = search needs
 
--- src/records.rt:34:9
 u16-at-requires : tie.Need-u16-at-requires
 u16-at-requires c κs = search needs
 
--- src/records.rt:37:28
 add-float-at : tie.Need-add-float-at
 add-float-at c = search needs
 
--- src/records.rt:37:16
 float-at-requires : tie.Need-float-at-requires
 float-at-requires c κs = search needs
 
--- src/records.rt:38:28
 add-float-at-2 : tie.Need-add-float-at-2
 add-float-at-2 c = search needs
 
--- src/records.rt:38:16
 float-at-requires-2 : tie.Need-float-at-requires-2
 float-at-requires-2 c κs = search needs
 
--- src/records.rt:39:28
 add-float-at-3 : tie.Need-add-float-at-3
 add-float-at-3 c = search needs
 
--- src/records.rt:39:16
 float-at-requires-3 : tie.Need-float-at-requires-3
 float-at-requires-3 c κs = search needs
 
--- src/records.rt:36:9
 returns : tie.Need-returns
 unfolding recordAt
 returns c =
@@ -53,36 +40,28 @@ returns c =
       c .float-at3 .ensures,
     )
 
--- src/records.rt:44:13
 returns-2 : tie.Need-returns-2
 unfolding recordAt
 returns-2 c = simp (ne-via (c .before .before .before .u16-at .ensures .0) (c .before .before .if1 .left), eq-via (c .before .before .before .u16-at .ensures .0) (c .before .if2 .taken), not-true (c .before .before .before .before .before .args .height-known) (c .if3 .taken))
 
--- src/records.rt:46:29
 add-u32-at : tie.Need-add-u32-at
 add-u32-at c = search needs
 
--- src/records.rt:46:12
 u32-at-requires : tie.Need-u32-at-requires
 u32-at-requires c κs = search needs
 
--- src/records.rt:47:46
 add-float-at-4 : tie.Need-add-float-at-4
 add-float-at-4 c = search needs
 
--- src/records.rt:47:34
 float-at-requires-4 : tie.Need-float-at-requires-4
 float-at-requires-4 c κs = search needs
 
--- src/records.rt:47:67
 add-float-at-5 : tie.Need-add-float-at-5
 add-float-at-5 c = search needs
 
--- src/records.rt:47:55
 float-at-requires-5 : tie.Need-float-at-requires-5
 float-at-requires-5 c κs = search needs
 
--- src/records.rt:47:13
 returns-3 : tie.Need-returns-3
 unfolding recordAt
 returns-3 c =
@@ -95,7 +74,6 @@ returns-3 c =
       c .float-at5 .ensures,
     )
 
--- src/records.rt:49:9
 returns-4 : tie.Need-returns-4
 unfolding recordAt
 returns-4 c =
@@ -106,7 +84,6 @@ returns-4 c =
       ne-via (c .before .u32-at .ensures) (c .if4 .left),
     )
 
--- src/records.rt:30:1
 returns-5 : tie.Need-returns-5
 unfolding recordAt
 returns-5 c = simp (ne-via (c .before .before .u16-at .ensures .0) (c .before .if1 .left), ne-via (c .before .before .u16-at .ensures .0) (c .if2 .left))

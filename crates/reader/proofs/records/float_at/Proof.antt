@@ -1,23 +1,17 @@
+-- `reader::records::float_at` meets its contract. Assumes nothing.
 use mathlib.Core.Path.{ap, _∙_}
 use Prim.Native.Nat.{ℕ}
 use lib.Ieee.{binary32, ofBits}
 use borrow.Author.Needs.{needs}
 use Rattle.reader.proofs.records.float_at.Statement.{statement}
 use Rattle.reader.proofs.records.float_at.Tie as tie
-use Rattle.reader.proofs.records.float_at.Reads as reads
-use Rattle.reader.proofs.records.float_at.Lts as lts
-use Rattle.grid.proofs.float_from_bits.Reads as float-from-bits-reads
-use Rattle.reader.proofs.bytes.u32_at.Reads as u32-at-reads
 
--- src/records.rt:26:27
 u32-at-requires : tie.Need-u32-at-requires
 u32-at-requires c κs = search needs
 
--- src/records.rt:26:5
 float-from-bits-requires : tie.Need-float-from-bits-requires
 float-from-bits-requires c κs = search needs
 
--- src/records.rt:22:1
 returns : tie.Need-returns
 returns c = c .float-from-bits .ensures ∙ ap (λ (b : ℕ). ofBits binary32 b) (c .before .u32-at .ensures)
 

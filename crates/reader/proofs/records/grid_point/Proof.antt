@@ -1,3 +1,4 @@
+-- `reader::records::grid_point` meets its contract. Assumes nothing.
 use mathlib.Core.Path.{sym, subst, _∙_}
 use Rattle.grid.specs.Point.{OnGrid}
 use Rattle.reader.specs.Record.{vertexOf}
@@ -6,32 +7,23 @@ use Rattle.reader.proofs.Numbers.{number-on-grid, point-placed}
 use borrow.Author.Needs.{needs}
 use Rattle.reader.proofs.records.grid_point.Statement.{statement}
 use Rattle.reader.proofs.records.grid_point.Tie as tie
-use Rattle.reader.proofs.records.grid_point.Reads as reads
-use Rattle.reader.proofs.records.grid_point.Lts as lts
-use Rattle.grid.proofs.grid_number.Reads as grid-number-reads
-use Rattle.reader.proofs.records.place.Reads as place-reads
 
--- src/records.rt:94:11
 grid-number-requires : tie.Need-grid-number-requires
 grid-number-requires c κs = search needs
 
--- src/records.rt:94:35
 grid-number-requires-2 : tie.Need-grid-number-requires-2
 grid-number-requires-2 c κs = search needs
 
--- src/records.rt:94:59
 grid-number-requires-3 : tie.Need-grid-number-requires-3
 grid-number-requires-3 c κs = search needs
 
--- src/records.rt:94:5
 place-requires : tie.Need-place-requires
-place-requires c κs =
-    ( subst (λ g. OnGrid (valueOf g)) (sym (c .before .before .grid-number .ensures)) (number-on-grid _)
-    , subst (λ g. OnGrid (valueOf g)) (sym (c .before .grid-number2 .ensures)) (number-on-grid _)
-    , subst (λ g. OnGrid (valueOf g)) (sym (c .grid-number3 .ensures)) (number-on-grid _)
-    )
+place-requires c κs = (
+  subst (λ g. OnGrid (valueOf g)) (sym (c .before .before .grid-number .ensures)) (number-on-grid _),
+  subst (λ g. OnGrid (valueOf g)) (sym (c .before .grid-number2 .ensures)) (number-on-grid _),
+  subst (λ g. OnGrid (valueOf g)) (sym (c .grid-number3 .ensures)) (number-on-grid _),
+)
 
--- src/records.rt:91:1
 returns : tie.Need-returns
 unfolding vertexOf
 returns c = c .place .ensures ∙ rw (c .before .before .before .grid-number .ensures, c .before .before .grid-number2 .ensures, c .before .grid-number3 .ensures) (point-placed _ _ _)

@@ -1,24 +1,19 @@
+-- `reader::records::height_of` meets its contract. Assumes nothing.
 use mathlib.Core.Path.{sym, ap, _∙_}
 use Rattle.reader.specs.Record.{heightOf}
 use borrow.Author.Needs.{needs}
 use Rattle.reader.proofs.records.height_of.Statement.{statement}
 use Rattle.reader.proofs.records.height_of.Tie as tie
-use Rattle.reader.proofs.records.height_of.Reads as reads
-use Rattle.reader.proofs.records.height_of.Lts as lts
 
--- src/records.rt:118:28
 enum-told : tie.Need-enum-told
 enum-told c = search needs
 
--- src/records.rt:119:23
 enum-known-height : tie.Need-enum-known-height
 enum-known-height c = search needs
 
--- src/records.rt:114:1
 returns : tie.Need-returns
 returns c = ap heightOf (sym (c .enum-told .given .1))
 
--- src/records.rt:114:1
 returns-2 : tie.Need-returns-2
 returns-2 c = simp (c .before .height .given .1) (search needs)
 

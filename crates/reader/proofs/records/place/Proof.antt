@@ -1,3 +1,4 @@
+-- `reader::records::place` meets its contract. Assumes nothing.
 use mathlib.Core.Path.{sym, subst, ap, _∙_}
 use Rattle.lists.proofs.Choice.{holds-via, fails-via}
 use Rattle.grid.specs.Point.{OnGrid}
@@ -7,27 +8,17 @@ use Rattle.reader.specs.declared.Vertex.the-variants.{At}
 use borrow.Author.Needs.{needs}
 use Rattle.reader.proofs.records.place.Statement.{statement}
 use Rattle.reader.proofs.records.place.Tie as tie
-use Rattle.reader.proofs.records.place.Reads as reads
-use Rattle.reader.proofs.records.place.Lts as lts
-use Rattle.grid.proofs.GridPoint.new.Reads as new-reads
-use Rattle.reader.proofs.records.is_finite.Reads as is-finite-reads
-use Rattle.reader.proofs.records.is_value.Reads as is-value-reads
-use Rattle.reader.proofs.records.value_of.Reads as value-of-reads
 
--- src/records.rt:89:9
 is-finite-requires : tie.Need-is-finite-requires
 is-finite-requires c κs = search needs
 
--- src/records.rt:90:9
 returns : tie.Need-returns
 unfolding placed
 returns c = simp (fails-via (c .before .is-finite .ensures) (c .if1 .taken))
 
--- src/records.rt:92:9
 is-finite-requires-2 : tie.Need-is-finite-requires-2
 is-finite-requires-2 c κs = search needs
 
--- src/records.rt:93:9
 returns-2 : tie.Need-returns-2
 unfolding placed
 returns-2 c =
@@ -36,11 +27,9 @@ returns-2 c =
       fails-via (c .before .is-finite2 .ensures) (c .if2 .taken),
     )
 
--- src/records.rt:95:9
 is-finite-requires-3 : tie.Need-is-finite-requires-3
 is-finite-requires-3 c κs = search needs
 
--- src/records.rt:96:9
 returns-3 : tie.Need-returns-3
 unfolding placed
 returns-3 c =
@@ -50,11 +39,9 @@ returns-3 c =
       fails-via (c .before .is-finite3 .ensures) (c .if3 .taken),
     )
 
--- src/records.rt:98:9
 is-value-requires : tie.Need-is-value-requires
 is-value-requires c κs = search needs
 
--- src/records.rt:99:9
 returns-4 : tie.Need-returns-4
 unfolding placed
 returns-4 c =
@@ -65,11 +52,9 @@ returns-4 c =
       fails-via (c .before .is-value .ensures) (c .if4 .taken),
     )
 
--- src/records.rt:101:9
 is-value-requires-2 : tie.Need-is-value-requires-2
 is-value-requires-2 c κs = search needs
 
--- src/records.rt:102:9
 returns-5 : tie.Need-returns-5
 unfolding placed
 returns-5 c =
@@ -81,11 +66,9 @@ returns-5 c =
       fails-via (c .before .is-value2 .ensures) (c .if5 .taken),
     )
 
--- src/records.rt:104:9
 is-value-requires-3 : tie.Need-is-value-requires-3
 is-value-requires-3 c κs = search needs
 
--- src/records.rt:105:9
 returns-6 : tie.Need-returns-6
 unfolding placed
 returns-6 c =
@@ -98,27 +81,22 @@ returns-6 c =
       fails-via (c .before .is-value3 .ensures) (c .if6 .taken),
     )
 
--- src/records.rt:107:31
 value-of-requires : tie.Need-value-of-requires
 value-of-requires c κs = search needs
 
--- src/records.rt:107:44
 value-of-requires-2 : tie.Need-value-of-requires-2
 value-of-requires-2 c κs = search needs
 
--- src/records.rt:107:57
 value-of-requires-3 : tie.Need-value-of-requires-3
 value-of-requires-3 c κs = search needs
 
--- src/records.rt:107:16
 new-requires : tie.Need-new-requires
-new-requires c κs =
-    ( subst OnGrid (sym (machine-holds (c .before .before .value-of .ok) (c .before .before .value-of .ensures))) (c .before .before .before .before .before .before .before .before .before .before .before .before .before .before .before .pre .0)
-    , subst OnGrid (sym (machine-holds (c .before .value-of2 .ok) (c .before .value-of2 .ensures))) (c .before .before .before .before .before .before .before .before .before .before .before .before .before .before .before .pre .1)
-    , subst OnGrid (sym (machine-holds (c .value-of3 .ok) (c .value-of3 .ensures))) (c .before .before .before .before .before .before .before .before .before .before .before .before .before .before .before .pre .2)
-    )
+new-requires c κs = (
+  subst OnGrid (sym (machine-holds (c .before .before .value-of .ok) (c .before .before .value-of .ensures))) (c .before .before .before .before .before .before .before .before .before .before .before .before .before .before .before .pre .0),
+  subst OnGrid (sym (machine-holds (c .before .value-of2 .ok) (c .before .value-of2 .ensures))) (c .before .before .before .before .before .before .before .before .before .before .before .before .before .before .before .pre .1),
+  subst OnGrid (sym (machine-holds (c .value-of3 .ok) (c .value-of3 .ensures))) (c .before .before .before .before .before .before .before .before .before .before .before .before .before .before .before .pre .2),
+)
 
--- src/records.rt:85:1
 returns-7 : tie.Need-returns-7
 returns-7 c =
     ap At

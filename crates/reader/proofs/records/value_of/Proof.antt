@@ -1,32 +1,25 @@
+-- `reader::records::value_of` meets its contract. Assumes nothing.
 use mathlib.Core.Path.{sym, ap}
 use Rattle.reader.specs.Steps.{valueOf}
 use borrow.Author.Needs.{needs}
 use Rattle.reader.proofs.records.value_of.Statement.{statement}
 use Rattle.reader.proofs.records.value_of.Tie as tie
-use Rattle.reader.proofs.records.value_of.Reads as reads
-use Rattle.reader.proofs.records.value_of.Lts as lts
 
--- src/records.rt:78:34
 enum-told : tie.Need-enum-told
 enum-told c = search needs
 
--- src/records.rt:79:27
 enum-known-number : tie.Need-enum-known-number
 enum-known-number c = search needs
 
--- src/records.rt:80:35
 enum-told-2 : tie.Need-enum-told-2
 enum-told-2 c = search needs
 
--- src/records.rt:74:1
 returns : tie.Need-returns
 returns c = ap valueOf (sym (c .enum-told .given .1))
 
--- src/records.rt:74:1
 returns-2 : tie.Need-returns-2
 returns-2 c = simp (c .before .number .given .1) (search needs)
 
--- src/records.rt:74:1
 returns-3 : tie.Need-returns-3
 returns-3 c = ap valueOf (sym (c .enum-told2 .given .1))
 

@@ -1,3 +1,4 @@
+-- `reader::records::vertex_at` meets its contract. Assumes nothing.
 use mathlib.Core.Path.{sym, ap, subst, _∙_}
 use denote.Ref.{now}
 use Rattle.grid.specs.Point.{OnGrid}
@@ -7,61 +8,43 @@ use Rattle.reader.proofs.Numbers.{machine-holds}
 use borrow.Author.Needs.{needs}
 use Rattle.reader.proofs.records.vertex_at.Statement.{statement}
 use Rattle.reader.proofs.records.vertex_at.Tie as tie
-use Rattle.reader.proofs.records.vertex_at.Reads as reads
-use Rattle.reader.proofs.records.vertex_at.Lts as lts
-use Rattle.reader.proofs.records.decode.Reads as decode-reads
-use Rattle.reader.proofs.records.grid_point.Reads as grid-point-reads
-use Rattle.reader.proofs.records.height_known.Reads as height-known-reads
-use Rattle.reader.proofs.records.height_of.Reads as height-of-reads
-use Rattle.reader.proofs.records.level_point.Reads as level-point-reads
 
--- src/records.rt:128:25
 height-known-requires : tie.Need-height-known-requires
 height-known-requires c κs = search needs
 
--- src/records.rt:128:11
 decode-requires : tie.Need-decode-requires
 decode-requires c κs = search needs
 
--- src/records.rt:129:23
 enum-known-c : tie.Need-enum-known-c
 enum-known-c c = search needs
 
--- src/records.rt:129:29
 grid-point-requires : tie.Need-grid-point-requires
 grid-point-requires c κs = search needs
 
--- src/records.rt:130:23
 enum-known-x : tie.Need-enum-known-x
 enum-known-x c = search needs
 
--- src/records.rt:130:50
 height-of-requires : tie.Need-height-of-requires
 height-of-requires c κs = search needs
 
--- src/records.rt:130:32
 level-point-requires : tie.Need-level-point-requires
 level-point-requires c κs = subst OnGrid (sym (machine-holds (c .height-of .ok) (c .height-of .ensures))) (c .before .before .before .before .before .before .before .pre .1)
 
--- src/records.rt:131:25
 enum-known-code : tie.Need-enum-known-code
 enum-known-code c = search needs
 
--- src/records.rt:124:1
 returns : tie.Need-returns
 unfolding vertexOf
 returns c =
     c .grid-point .ensures
     ∙ ap (λ r. vertexOf r (heightOf (c .before .before .before .before .before .before .before .args .height))) (sym (c .before .before .c .given .1) ∙ c .before .before .before .before .decode .ensures ∙ ap (λ k. recordAt (now (c .before .before .before .before .before .before .before .args .s)) (c .before .before .before .before .before .before .before .args .at) k) (c .before .before .before .before .before .height-known .ensures))
 
--- src/records.rt:124:1
 returns-2 : tie.Need-returns-2
 returns-2 c =
     c .level-point .ensures
     ∙ ap (λ h. vertexOf (Level (c .before .before .before .x .given .0 .0) (c .before .before .before .x .given .0 .1 .0)) h) (machine-holds (c .before .height-of .ok) (c .before .height-of .ensures))
     ∙ ap (λ r. vertexOf r (heightOf (c .before .before .before .before .before .before .before .before .args .height))) (sym (c .before .before .before .x .given .1) ∙ c .before .before .before .before .before .decode .ensures ∙ ap (λ k. recordAt (now (c .before .before .before .before .before .before .before .before .args .s)) (c .before .before .before .before .before .before .before .before .args .at) k) (c .before .before .before .before .before .before .height-known .ensures))
 
--- src/records.rt:124:1
 returns-3 : tie.Need-returns-3
 unfolding vertexOf
 returns-3 c =

@@ -1,0 +1,7 @@
+pub mod First
+pub mod Order
+pub mod Lists
+pub mod Failing
+pub mod Acceptance
+pub mod Count
+pub mod Cases
