@@ -1,0 +1,173 @@
+-- `faces::list` meets its contract, by what is left to write at each loop's head. Assumes nothing.
+use mathlib.Core.Path.{_≡_, sym, _∙_, ap}
+use mathlib.Core.Bool.{Bool, true, false}
+use mathlib.Core.List.{List, _∷_, _++_}
+use mathlib.Core.Logic.{⊎-elim}
+use Prim.Native.Nat.{ℕ, _+_, _-_, _<_}
+use native.Mathlib.Omega.{arith}
+use Rattle.lists.specs.Lists.{over, when}
+use Rattle.lists.proofs.Ranges.{over-step, over-more, over-end, over-none}
+use Rattle.lists.proofs.Writing.{Writing, start, turn, enter, leave, place, push, moved, all}
+use Rattle.faces.specs.Faces.{has, triple, triplesOf}
+use Rattle.faces.proofs.list.Statement.{statement}
+use Rattle.faces.proofs.list.Tie as tie
+use Rattle.faces.proofs.list.Reads as reads
+use Rattle.faces.proofs.list.Lts as lts
+use Rattle.faces.proofs.contains.Reads as contains-reads
+
+-- what is left at each loop's head
+module _ (n : ℕ) (P : ℕ → ℕ → ℕ → Bool) where
+  abbrev R1 : ℕ → List (List ℕ)
+  R1 a = over a n (λ a. over (a + 1) n (λ b. over (b + 1) n (λ c. when (P a b c) (triple a b c))))
+
+  abbrev R2 : ℕ → ℕ → List (List ℕ)
+  R2 a b = over b n (λ b. over (b + 1) n (λ c. when (P a b c) (triple a b c))) ++ R1 (a + 1)
+
+  abbrev R3 : ℕ → ℕ → ℕ → List (List ℕ)
+  R3 a b c = over c n (λ c. when (P a b c) (triple a b c)) ++ R2 a (b + 1)
+
+  one : (a b c : ℕ) (t : Bool) → c < n → t ≡ P a b c → R3 a b c ≡ when t (triple a b c) ++ R3 a b (c + 1)
+  one a b c t h e = over-more c n _ (R2 a (b + 1)) h ∙ ap (λ (t : Bool). when t (triple a b c) ++ R3 a b (c + 1)) (sym e)
+
+abbrev Inv-loop3 : tie.InvT-loop3
+Inv-loop3 flags n out₀ count₀ a b c₀ out count c = Writing (triplesOf n (has flags)) (R3 n (has flags) a b c) out₀ count₀ out count
+
+abbrev μ-loop3 : tie.MeasureT-loop3
+μ-loop3 flags n out₀ count₀ a b c₀ out count c = n - c
+
+abbrev Inv-loop2 : tie.InvT-loop2
+Inv-loop2 flags n out₀ count₀ a b₀ out count b = Writing (triplesOf n (has flags)) (R2 n (has flags) a b) out₀ count₀ out count
+
+abbrev μ-loop2 : tie.MeasureT-loop2
+μ-loop2 flags n out₀ count₀ a b₀ out count b = n - b
+
+abbrev Inv-loop : tie.InvT-loop
+Inv-loop flags n out₀ count₀ a₀ out count a = Writing (triplesOf n (has flags)) (R1 n (has flags) a) out₀ count₀ out count
+
+abbrev μ-loop : tie.MeasureT-loop
+μ-loop flags n out₀ count₀ a₀ out count a = n - a
+
+loop-holds : tie.Need-loop-holds Inv-loop3 μ-loop3 Inv-loop2 μ-loop2 Inv-loop μ-loop
+loop-holds c = start _ _ (c .pre .1)
+
+add-b : tie.Need-add-b Inv-loop3 μ-loop3 Inv-loop2 μ-loop2 Inv-loop μ-loop
+add-b c = omega arith
+
+loop2-holds : tie.Need-loop2-holds Inv-loop3 μ-loop3 Inv-loop2 μ-loop2 Inv-loop μ-loop
+loop2-holds c = enter (over-step _ _ _ (omega arith)) (c .before .loop .inv)
+
+add-c : tie.Need-add-c Inv-loop3 μ-loop3 Inv-loop2 μ-loop2 Inv-loop μ-loop
+add-c c = omega arith
+
+loop3-holds : tie.Need-loop3-holds Inv-loop3 μ-loop3 Inv-loop2 μ-loop2 Inv-loop μ-loop
+loop3-holds c = enter (over-more _ _ _ _ (omega arith)) (c .before .loop2 .inv)
+
+contains-requires : tie.Need-contains-requires Inv-loop3 μ-loop3 Inv-loop2 μ-loop2 Inv-loop μ-loop
+contains-requires c κs = omega arith
+
+cast-t12 : tie.Need-cast-t12 Inv-loop3 μ-loop3 Inv-loop2 μ-loop2 Inv-loop μ-loop
+cast-t12 c = omega arith
+
+cast-t13 : tie.Need-cast-t13 Inv-loop3 μ-loop3 Inv-loop2 μ-loop2 Inv-loop μ-loop
+cast-t13 c = omega arith
+
+cast-t14 : tie.Need-cast-t14 Inv-loop3 μ-loop3 Inv-loop2 μ-loop2 Inv-loop μ-loop
+cast-t14 c = omega arith
+
+mul-t16 : tie.Need-mul-t16 Inv-loop3 μ-loop3 Inv-loop2 μ-loop2 Inv-loop μ-loop
+mul-t16 c = omega arith
+
+-- the triple that is written next
+next : (c : tie.Then1 Inv-loop3 μ-loop3 Inv-loop2 μ-loop2 Inv-loop μ-loop) →
+    let l = c .before .before .before in
+    let m = l .before .before in
+    let u = m .before .before in
+    let n = u .before .args .n in
+    let P = has (u .before .args .flags .now) in
+    Writing (triplesOf n P) (triple (u .loop .a) (m .loop2 .b) (l .loop3 .c) ∷ R3 n P (u .loop .a) (m .loop2 .b) (l .loop3 .c + 1)) (m .loop2 .out) (m .loop2 .count) (l .loop3 .out) (l .loop3 .count)
+next c =
+    let l = c .before .before .before in
+    let m = l .before .before in
+    let u = m .before .before in
+    turn (one (u .before .args .n) (has (u .before .args .flags .now)) (u .loop .a) (m .loop2 .b) (l .loop3 .c) true (omega arith) (sym (c .if1 .taken) ∙ c .before .contains .ensures)) (l .loop3 .inv)
+
+slice-set-from-out :
+    tie.Need-slice-set-from-out Inv-loop3 μ-loop3 Inv-loop2 μ-loop2 Inv-loop μ-loop
+slice-set-from-out c = place (next c)
+
+add-count : tie.Need-add-count Inv-loop3 μ-loop3 Inv-loop2 μ-loop2 Inv-loop μ-loop
+add-count c = let h = place (next c) in omega arith
+
+add-c-2 : tie.Need-add-c-2 Inv-loop3 μ-loop3 Inv-loop2 μ-loop2 Inv-loop μ-loop
+add-c-2 c = omega arith
+
+loop3-less : tie.Need-loop3-less Inv-loop3 μ-loop3 Inv-loop2 μ-loop2 Inv-loop μ-loop
+loop3-less c = omega arith
+
+loop3-again : tie.Need-loop3-again Inv-loop3 μ-loop3 Inv-loop2 μ-loop2 Inv-loop μ-loop
+loop3-again c =
+    let l = c .before .before .before in
+    let m = l .before .before in
+    let u = m .before .before in
+    ⊎-elim
+    (λ w. moved (w .1) (w .2) (push (next (record { before = c .before; if1 = w .0 }))))
+    (λ w. moved (w .1) (w .2) (turn (one (u .before .args .n) (has (u .before .args .flags .now)) (u .loop .a) (m .loop2 .b) (l .loop3 .c) false (omega arith) (sym (w .0 .left) ∙ c .before .contains .ensures)) (l .loop3 .inv)))
+    (c .if1 .came)
+
+add-b-2 : tie.Need-add-b-2 Inv-loop3 μ-loop3 Inv-loop2 μ-loop2 Inv-loop μ-loop
+add-b-2 c = omega arith
+
+loop2-less : tie.Need-loop2-less Inv-loop3 μ-loop3 Inv-loop2 μ-loop2 Inv-loop μ-loop
+loop2-less c = omega arith
+
+loop2-again : tie.Need-loop2-again Inv-loop3 μ-loop3 Inv-loop2 μ-loop2 Inv-loop μ-loop
+loop2-again c = leave (over-none _ _ _ _ (omega arith)) (c .before .before .before .loop2 .inv) (c .before .loop3 .inv)
+
+add-a : tie.Need-add-a Inv-loop3 μ-loop3 Inv-loop2 μ-loop2 Inv-loop μ-loop
+add-a c = omega arith
+
+loop-less : tie.Need-loop-less Inv-loop3 μ-loop3 Inv-loop2 μ-loop2 Inv-loop μ-loop
+loop-less c = omega arith
+
+loop-again : tie.Need-loop-again Inv-loop3 μ-loop3 Inv-loop2 μ-loop2 Inv-loop μ-loop
+loop-again c = leave (over-none _ _ _ _ (omega arith)) (c .before .before .before .loop .inv) (c .before .loop2 .inv)
+
+same-length : tie.Need-same-length Inv-loop3 μ-loop3 Inv-loop2 μ-loop2 Inv-loop μ-loop
+same-length c = c .before .loop .inv .long
+
+returns : tie.Need-returns Inv-loop3 μ-loop3 Inv-loop2 μ-loop2 Inv-loop μ-loop
+returns c = all (turn (over-end _ _ _ (omega arith)) (c .before .loop .inv))
+
+pub list-spec : {M : Type 1} → statement M
+list-spec =
+    tie.close
+    (tie.spec
+    Inv-loop3
+    μ-loop3
+    Inv-loop2
+    μ-loop2
+    Inv-loop
+    μ-loop
+    loop-holds
+    add-b
+    loop2-holds
+    add-c
+    loop3-holds
+    contains-requires
+    cast-t12
+    cast-t13
+    cast-t14
+    mul-t16
+    slice-set-from-out
+    add-count
+    add-c-2
+    loop3-less
+    loop3-again
+    add-b-2
+    loop2-less
+    loop2-again
+    add-a
+    loop-less
+    loop-again
+    same-length
+    returns)

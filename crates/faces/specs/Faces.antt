@@ -1,0 +1,39 @@
+-- Sets of triangles over at most 64 vertices, and the list of one in ascending order. Definitions only.
+use mathlib.Core.Bool.{Bool}
+use mathlib.Core.List.{List, [], _∷_}
+use Prim.Native.Nat.{ℕ, _+_, _*_}
+use lib.Dec.{eqb}
+use lib.ListN.{getD, set}
+use Rattle.lists.specs.Lists.{over, when, both, either, some}
+
+abbrev pub triple : ℕ → ℕ → ℕ → List ℕ
+triple a b c = a ∷ b ∷ c ∷ []
+
+abbrev pub sameTriple : ℕ → ℕ → ℕ → ℕ → ℕ → ℕ → Bool
+sameTriple a b c x y z = both (eqb a x) (both (eqb b y) (eqb c z))
+
+-- (x, y, z) is one of "the faces of the four" (a, b, c, d)
+unfoldable pub isFace : ℕ → ℕ → ℕ → ℕ → ℕ → ℕ → ℕ → Bool
+isFace a b c d x y z = either (sameTriple a b c x y z) (either (sameTriple a b d x y z) (either (sameTriple a c d x y z) (sameTriple b c d x y z)))
+
+-- the triples of n vertices for which P holds: "as (a, b, c) with a < b < c, in ascending order of a, then b, then c"
+abbrev pub triplesOf : ℕ → (ℕ → ℕ → ℕ → Bool) → List (List ℕ)
+triplesOf n P = over 0 n (λ a. over (a + 1) n (λ b. over (b + 1) n (λ c. when (P a b c) (triple a b c))))
+
+-- P holds of some four a < b < c < d of n vertices
+abbrev pub someFour : ℕ → (ℕ → ℕ → ℕ → ℕ → Bool) → Bool
+someFour n P = some 0 n (λ a. some (a + 1) n (λ b. some (b + 1) n (λ c. some (c + 1) n (λ d. P a b c d))))
+
+-- ---- the table of flags
+
+-- the place of a triple's flag
+abbrev pub flagAt : ℕ → ℕ → ℕ → ℕ
+flagAt a b c = (a * 64 + b) * 64 + c
+
+-- the triple is in the set
+unfoldable pub has : List ℕ → ℕ → ℕ → ℕ → Bool
+has flags a b c = eqb (getD flags (flagAt a b c) 0) 1
+
+-- the faces of (a, b, c, d) put in
+abbrev pub withFaces : List ℕ → ℕ → ℕ → ℕ → ℕ → List ℕ
+withFaces flags a b c d = set (set (set (set flags (flagAt b c d) 1) (flagAt a c d) 1) (flagAt a b d) 1) (flagAt a b c) 1
