@@ -1,0 +1,160 @@
+-- The candidates that hang on one of them stand in two blocks. Assumes nothing.
+use mathlib.Core.Path.{_≡_, refl, sym, _∙_, ap, subst}
+use mathlib.Core.Bool.{Bool, true, false}
+use mathlib.Core.List.{List, [], _∷_, _++_, append-assoc, append-nil}
+use Prim.Native.Nat.{ℕ, zero, suc, _+_, _*_, _-_, _≤_, _<_}
+use native.Mathlib.Nat.{le-trans}
+use native.Mathlib.Omega.{arith}
+use borrow.Author.Tests.{eq-eqb, ne-eqb}
+use lib.Dec.{eqb}
+use lib.ListN.{length, length-append}
+use Rattle.lists.specs.Lists.{over, upFrom, when, both, either}
+use Rattle.lists.proofs.Ranges.{up-bound, when-bound}
+use Rattle.faces.proofs.Sets.{over-same}
+use Rattle.jobs.specs.Job.{entryAt, vertexA, vertexB, vertexC, hangs}
+use Rattle.hinges.specs.Hinges.{innersOn, innersOf, endingIn, Sorted, BlockStart}
+
+module _ {A : Type 0} where
+  up-split : (f : ℕ → List A) (lo j k : ℕ) → upFrom f lo (j + k) ≡ upFrom f lo j ++ upFrom f (lo + j) k
+  unfolding upFrom
+  up-split f lo zero k = (λ i. upFrom f (z i) (y i))
+    where
+      y : 0 + k ≡ k
+      y = omega arith
+      z : lo ≡ lo + 0
+      z = omega arith
+  up-split f lo (suc j) k =
+      ap (λ (m : ℕ). upFrom f lo m) e ∙ ap (λ (l : List A). f lo ++ l) (up-split f (suc lo) j k ∙ ap (λ (m : ℕ). upFrom f (suc lo) j ++ upFrom f m k) d) ∙ sym (append-assoc (f lo) (upFrom f (suc lo) j) (upFrom f (lo + suc j) k))
+    where
+      e : suc j + k ≡ suc (j + k)
+      e = omega arith
+      d : suc lo + j ≡ lo + suc j
+      d = omega arith
+
+  pub over-split : (f : ℕ → List A) (lo mid hi : ℕ) → lo ≤ mid → mid ≤ hi → over lo hi f ≡ over lo mid f ++ over mid hi f
+  over-split f lo mid hi h k =
+      let e : hi - lo ≡ (mid - lo) + (hi - mid) = omega arith in
+      let d : lo + (mid - lo) ≡ mid = omega arith in
+      ap (λ (m : ℕ). upFrom f lo m) e ∙ up-split f lo (mid - lo) (hi - mid) ∙ ap (λ (m : ℕ). over lo mid f ++ upFrom f m (hi - mid)) d
+
+  up-empty : (f : ℕ → List A) (lo k : ℕ) → ((i : ℕ) → lo ≤ i → i < lo + k → f i ≡ []) → upFrom f lo k ≡ []
+  unfolding upFrom
+  up-empty f lo zero h = refl
+  up-empty f lo (suc k) h = (λ j. h lo (omega arith) (omega arith) j ++ up-empty f (suc lo) k (λ i l m. h i (omega arith) (omega arith)) j)
+
+  pub over-empty : (f : ℕ → List A) (lo hi : ℕ) → ((i : ℕ) → lo ≤ i → i < hi → f i ≡ []) → over lo hi f ≡ []
+  over-empty f lo hi h = up-empty f lo (hi - lo) (λ i l m. h i l (omega arith))
+
+-- candidate t hangs on u only if it begins in u's first or second vertex, and then by its last vertex
+module _ (t u : List ℕ) where
+  pub hangs-other : (vertexA t ≡ vertexA u → ⊥) → (vertexA t ≡ vertexB u → ⊥) → hangs t u ≡ false
+  unfolding hangs
+  hangs-other h k = (λ i. either (both (ne-eqb (vertexA t) (vertexA u) h i) (eqb (vertexC t) (vertexB u))) (both (ne-eqb (vertexA t) (vertexB u) k i) (eqb (vertexC t) (vertexC u))))
+
+  pub hangs-first : vertexA t ≡ vertexA u → (vertexA t ≡ vertexB u → ⊥) → hangs t u ≡ eqb (vertexC t) (vertexB u)
+  unfolding hangs
+  hangs-first h k = (λ i. either (both (eq-eqb (vertexA t) (vertexA u) h i) (eqb (vertexC t) (vertexB u))) (both (ne-eqb (vertexA t) (vertexB u) k i) (eqb (vertexC t) (vertexC u)))) ∙ either-false (eqb (vertexC t) (vertexB u))
+    where
+      either-false : (b : Bool) → either b false ≡ b
+      either-false true = refl
+      either-false false = refl
+
+  pub hangs-second : (vertexA t ≡ vertexA u → ⊥) → vertexA t ≡ vertexB u → hangs t u ≡ eqb (vertexC t) (vertexC u)
+  unfolding hangs
+  hangs-second h k = (λ i. either (both (ne-eqb (vertexA t) (vertexA u) h i) (eqb (vertexC t) (vertexB u))) (both (eq-eqb (vertexA t) (vertexB u) k i) (eqb (vertexC t) (vertexC u))))
+
+-- where block starts stand
+module _ (cs : List (List ℕ)) where
+  pub start-order : {j k x y : ℕ} → BlockStart cs j x → BlockStart cs k y → j ≤ k → x ≤ y
+  start-order {j} {k} {x} {y} p q l = go (x - y) refl
+    where
+      go : (d : ℕ) → x - y ≡ d → x ≤ y
+      go zero e = omega arith
+      go (suc d) e =
+          let m : y < x = omega arith in
+          let u = p .below y m in
+          let v = q .above y (omega arith) (omega (arith, p .within)) in
+          absurd (omega arith)
+
+  pub start-at : {j k x : ℕ} → j ≡ k → BlockStart cs j x → BlockStart cs k x
+  start-at {x = x} e s = subst (λ (k : ℕ). BlockStart cs k x) e s
+
+module _ (cs : List (List ℕ)) (o la ha lb hb : ℕ)
+    (h : vertexA (entryAt cs o) < vertexB (entryAt cs o))
+    (sa : BlockStart cs (vertexA (entryAt cs o)) la) (ea : BlockStart cs (vertexA (entryAt cs o) + 1) ha)
+    (sb : BlockStart cs (vertexB (entryAt cs o)) lb) (eb : BlockStart cs (vertexB (entryAt cs o) + 1) hb) where
+  abbrev pub found : ℕ → List ℕ
+  found i = when (hangs (entryAt cs i) (entryAt cs o)) i
+
+  outside : (i : ℕ) → i < length cs → (vertexA (entryAt cs i) ≡ vertexA (entryAt cs o) → ⊥) → (vertexA (entryAt cs i) ≡ vertexB (entryAt cs o) → ⊥) → found i ≡ []
+  outside i l p q = ap (λ (b : Bool). when b i) (hangs-other (entryAt cs i) (entryAt cs o) p q)
+
+  -- the candidates that hang on o
+  pub two-blocks : innersOn cs o ≡ endingIn cs la ha (vertexB (entryAt cs o)) ++ endingIn cs lb hb (vertexC (entryAt cs o))
+  two-blocks =
+      let a = vertexA (entryAt cs o) in
+      let b = vertexB (entryAt cs o) in
+      let n = length cs in
+      let o1 : la ≤ ha = start-order cs sa ea (omega arith) in
+      let o2 : ha ≤ lb = start-order cs ea sb (omega arith) in
+      let o3 : lb ≤ hb = start-order cs sb eb (omega arith) in
+      let o4 : hb ≤ n = eb .within in
+      let before : over 0 la found ≡ [] = over-empty found 0 la (λ i l m. let u = sa .below i m in outside i (omega arith) (λ e. omega (arith, u)) (λ e. omega (arith, u))) in
+      let between : over ha lb found ≡ [] = over-empty found ha lb (λ i l m. let u = ea .above i l (omega arith) in let v = sb .below i m in outside i (omega arith) (λ e. omega (arith, u)) (λ e. omega (arith, v))) in
+      let after : over hb n found ≡ [] = over-empty found hb n (λ i l m. let u = eb .above i l m in outside i m (λ e. omega (arith, u)) (λ e. omega (arith, u))) in
+      let first : over la ha found ≡ endingIn cs la ha b = over-same la ha found _ (λ i l m. let u = sa .above i l (omega arith) in let v = ea .below i m in ap (λ (t : Bool). when t i) (hangs-first (entryAt cs i) (entryAt cs o) (omega (arith, u, v)) (λ e. omega (arith, v)))) in
+      let second : over lb hb found ≡ endingIn cs lb hb (vertexC (entryAt cs o)) = over-same lb hb found _ (λ i l m. let u = sb .above i l (omega arith) in let v = eb .below i m in ap (λ (t : Bool). when t i) (hangs-second (entryAt cs i) (entryAt cs o) (λ e. omega (arith, u)) (omega (arith, u, v)))) in
+      over-split found 0 la n (omega arith) (omega arith)
+      ∙ (λ i. before i ++ over la n found)
+      ∙ over-split found la ha n o1 (omega arith)
+      ∙ (λ i. first i ++ over ha n found)
+      ∙ ap (λ (l : List ℕ). endingIn cs la ha b ++ l)
+        (over-split found ha lb n o2 (omega arith)
+        ∙ (λ i. between i ++ over lb n found)
+        ∙ over-split found lb hb n o3 o4
+        ∙ (λ i. second i ++ after i)
+        ∙ append-nil (endingIn cs lb hb (vertexC (entryAt cs o))))
+
+  pub two-counts : length (innersOn cs o) ≡ length (endingIn cs la ha (vertexB (entryAt cs o))) + length (endingIn cs lb hb (vertexC (entryAt cs o)))
+  two-counts = ap length two-blocks ∙ length-append (endingIn cs la ha (vertexB (entryAt cs o))) (endingIn cs lb hb (vertexC (entryAt cs o)))
+
+-- how many hinges there can be
+module _ (cs : List (List ℕ)) where
+  pub inners-bound : (o : ℕ) → length (innersOn cs o) ≤ length cs
+  inners-bound o = le-trans (up-bound _ 1 0 (length cs - 0) (λ i. when-bound (hangs (entryAt cs i) (entryAt cs o)) i)) (omega arith)
+
+  pub hinges-bound : length cs ≤ 41664 → length (innersOf cs) ≤ 1735888896
+  hinges-bound h =
+      let b : length (innersOf cs) ≤ (length cs - 0) * 41664 = up-bound _ 41664 0 (length cs - 0) (λ o. le-trans (inners-bound o) h) in
+      omega arith
+
+-- bisection for a block's start: it is from low to high
+pub record Search (cs : List (List ℕ)) (k low high : ℕ) : Type 0 where
+  pub order-of : low ≤ high
+  pub within : high ≤ length cs
+  pub below : (i : ℕ) → i < low → vertexA (entryAt cs i) < k
+  pub above : (i : ℕ) → high ≤ i → i < length cs → k ≤ vertexA (entryAt cs i)
+
+module _ (cs : List (List ℕ)) (k : ℕ) where
+  pub search-start : Search cs k 0 (length cs)
+  search-start = record { order-of = omega arith; within = omega arith; below = λ i h. absurd (omega arith); above = λ i h l. absurd (omega arith) }
+
+  module _ (s : Sorted cs) (low mid high : ℕ) (f : Search cs k low high) (l : low ≤ mid) (h : mid < high) where
+    pub search-up : vertexA (entryAt cs mid) < k → Search cs k (mid + 1) high
+    search-up e = record {
+      order-of = omega arith;
+      within = f .within;
+      below = λ i m. let u = s .ascend i mid (omega arith) (omega (arith, f .within)) in omega arith;
+      above = f .above;
+    }
+
+    pub search-down : k ≤ vertexA (entryAt cs mid) → Search cs k low mid
+    search-down e = record {
+      order-of = l;
+      within = omega (arith, f .within);
+      below = f .below;
+      above = λ i m n. let u = s .ascend mid i m n in omega arith;
+    }
+
+  pub search-end : (low high : ℕ) → high ≤ low → Search cs k low high → BlockStart cs k low
+  search-end low high h f = record { within = omega (arith, f .order-of, f .within); below = f .below; above = λ i m n. f .above i (omega arith) n }

@@ -1,0 +1,33 @@
+-- Hinges: pairs of candidates that share an edge, the inner hanging on the outer. Definitions only.
+use mathlib.Core.List.{List}
+use Prim.Native.Nat.{ℕ, _≤_, _<_}
+use lib.Dec.{eqb}
+use lib.ListN.{length}
+use Rattle.jobs.specs.Job.{entryAt, vertexA, vertexB, vertexC, hangs}
+use Rattle.lists.specs.Lists.{over, when}
+
+-- the candidates that hang on candidate o, in ascending order
+abbrev pub innersOn : List (List ℕ) → ℕ → List ℕ
+innersOn candidates o = over 0 (length candidates) (λ i. when (hangs (entryAt candidates i) (entryAt candidates o)) i)
+
+-- "one for each hanging pair": the inner of each, in the order of their outers
+abbrev pub innersOf : List (List ℕ) → List ℕ
+innersOf candidates = over 0 (length candidates) (innersOn candidates)
+
+-- the candidates from lo to hi - 1 that end in vertex c
+abbrev pub endingIn : List (List ℕ) → ℕ → ℕ → ℕ → List ℕ
+endingIn candidates lo hi c = over lo hi (λ i. when (eqb (vertexC (entryAt candidates i)) c) i)
+
+-- triples a < b < c of at most 64 vertices, ascending by their first vertex
+pub record Sorted (candidates : List (List ℕ)) : Type 0 where
+  pub few : length candidates ≤ 41664
+  pub a<b : (i : ℕ) → i < length candidates → vertexA (entryAt candidates i) < vertexB (entryAt candidates i)
+  pub b<c : (i : ℕ) → i < length candidates → vertexB (entryAt candidates i) < vertexC (entryAt candidates i)
+  pub c<64 : (i : ℕ) → i < length candidates → vertexC (entryAt candidates i) < 64
+  pub ascend : (i j : ℕ) → i ≤ j → j < length candidates → vertexA (entryAt candidates i) ≤ vertexA (entryAt candidates j)
+
+-- r candidates have a first vertex below k, and these come first
+pub record BlockStart (candidates : List (List ℕ)) (k r : ℕ) : Type 0 where
+  pub within : r ≤ length candidates
+  pub below : (i : ℕ) → i < r → vertexA (entryAt candidates i) < k
+  pub above : (i : ℕ) → r ≤ i → i < length candidates → k ≤ vertexA (entryAt candidates i)
