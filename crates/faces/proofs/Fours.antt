@@ -5,11 +5,8 @@ use Prim.Native.Nat.{ℕ, _+_, _≤_, _<_}
 use native.Mathlib.Omega.{arith}
 use Rattle.lists.specs.Lists.{either, some}
 use Rattle.lists.proofs.Ranges.{some-step, some-end, some-found, some-here, Found}
+use Rattle.faces.proofs.Bools.{either-assoc}
 use Rattle.faces.specs.Faces.{someFour}
-
-pub either-assoc : (p q r : Bool) → either p (either q r) ≡ either (either p q) r
-either-assoc true q r = refl
-either-assoc false q r = refl
 
 some-more : (lo hi : ℕ) (P : ℕ → Bool) (r : Bool) → lo < hi → either (some lo hi P) r ≡ either (P lo) (either (some (lo + 1) hi P) r)
 some-more lo hi P r h = ap (λ (t : Bool). either t r) (some-step lo hi P h) ∙ sym (either-assoc (P lo) (some (lo + 1) hi P) r)

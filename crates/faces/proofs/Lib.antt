@@ -1,3 +1,4 @@
+pub mod Bools
 pub mod Sets
 pub mod Fours
 pub mod Members

@@ -12,7 +12,7 @@ use lib.Seq.{getD-set-same, getD-set-other}
 use Rattle.lists.specs.Lists.{over, upFrom, when, both, either}
 use Rattle.lists.proofs.Choice.{Truth, holds, fails, truth, true-not-false, both-left, both-right, both-true, either-left, not-true-false}
 use Rattle.lists.proofs.Ranges.{up-bound, when-bound}
-use Rattle.faces.proofs.Fours.{either-assoc}
+use Rattle.faces.proofs.Bools.{either-assoc}
 use Rattle.faces.specs.Faces.{sameTriple, isFace, flagAt, has, withFaces, triple, triplesOf}
 
 -- all numbers of a triple are those of vertices
@@ -81,6 +81,13 @@ module _ (flags : List ℕ) {a b c d x y z : ℕ} (long : length flags ≡ 26214
           ∙ either-assoc (sameTriple a c d x y z) (sameTriple b c d x y z) (has flags x y z))
         ∙ either-assoc (sameTriple a b d x y z) (either (sameTriple a c d x y z) (sameTriple b c d x y z)) (has flags x y z))
       ∙ either-assoc (sameTriple a b c x y z) (either (sameTriple a b d x y z) (either (sameTriple a c d x y z) (sameTriple b c d x y z))) (has flags x y z)
+
+pub faces-long : (flags : List ℕ) (a b c d : ℕ) → length (withFaces flags a b c d) ≡ length flags
+faces-long flags a b c d =
+    let f1 = set flags (flagAt b c d) 1 in
+    let f2 = set f1 (flagAt a c d) 1 in
+    let f3 = set f2 (flagAt a b d) 1 in
+    length-set f3 (flagAt a b c) 1 ∙ length-set f2 (flagAt a b d) 1 ∙ length-set f1 (flagAt a c d) 1 ∙ length-set flags (flagAt b c d) 1
 
 -- the set that is empty
 pub none-in : (m : ℕ) {x y z : ℕ} → 262144 ≤ m → Vertices x y z → has (replicate m 0) x y z ≡ false

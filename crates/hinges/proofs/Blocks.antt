@@ -10,6 +10,7 @@ use lib.Dec.{eqb}
 use lib.ListN.{length, length-append}
 use Rattle.lists.specs.Lists.{over, upFrom, when, both, either}
 use Rattle.lists.proofs.Ranges.{up-bound, when-bound}
+use Rattle.faces.proofs.Bools.{either-no}
 use Rattle.faces.proofs.Sets.{over-same}
 use Rattle.jobs.specs.Job.{entryAt, vertexA, vertexB, vertexC, hangs}
 use Rattle.hinges.specs.Hinges.{innersOn, innersOf, endingIn, Sorted, BlockStart}
@@ -53,11 +54,7 @@ module _ (t u : List ℕ) where
 
   pub hangs-first : vertexA t ≡ vertexA u → (vertexA t ≡ vertexB u → ⊥) → hangs t u ≡ eqb (vertexC t) (vertexB u)
   unfolding hangs
-  hangs-first h k = (λ i. either (both (eq-eqb (vertexA t) (vertexA u) h i) (eqb (vertexC t) (vertexB u))) (both (ne-eqb (vertexA t) (vertexB u) k i) (eqb (vertexC t) (vertexC u)))) ∙ either-false (eqb (vertexC t) (vertexB u))
-    where
-      either-false : (b : Bool) → either b false ≡ b
-      either-false true = refl
-      either-false false = refl
+  hangs-first h k = (λ i. either (both (eq-eqb (vertexA t) (vertexA u) h i) (eqb (vertexC t) (vertexB u))) (both (ne-eqb (vertexA t) (vertexB u) k i) (eqb (vertexC t) (vertexC u)))) ∙ either-no (eqb (vertexC t) (vertexB u))
 
   pub hangs-second : (vertexA t ≡ vertexA u → ⊥) → vertexA t ≡ vertexB u → hangs t u ≡ eqb (vertexC t) (vertexC u)
   unfolding hangs

@@ -1,0 +1,4 @@
+pub mod Lifting
+pub mod Fifth
+pub mod Marking
+pub mod Scanning

@@ -1,0 +1,32 @@
+-- What the functions of the search say to each other. Definitions only.
+use mathlib.Core.Path.{_≡_}
+use mathlib.Core.Bool.{Bool, true, false}
+use mathlib.Core.List.{List}
+use Prim.Native.Nat.{ℕ, _<_}
+use lib.IntN.{pos}
+use lib.ListN.{getD}
+use Rattle.polygon.specs.declared.Polygon.{Polygon}
+use Rattle.geometry.specs.declared.sphere.Lifted.{Lifted}
+use Rattle.geometry.specs.declared.sphere.Position.{Position}
+use Rattle.geometry.specs.declared.sphere.Position.the-variants.{Inside, On, Outside}
+use Rattle.geometry.specs.Spheres.{liftOf}
+use Rattle.lists.specs.Lists.{either}
+use Rattle.faces.specs.Faces.{has}
+use Rattle.delaunay.specs.Candidates.{vertex, isCandidate, cospherical}
+
+abbrev pub isOn : Position → Bool
+isOn Inside = false
+isOn On = true
+isOn Outside = false
+
+abbrev pub unlifted : Lifted
+unlifted = record { vector = record { x = pos 0; y = pos 0; z = pos 0 }; square = pos 0 }
+
+-- the vertices as seen from vertex a
+pub record Lifts (p : Polygon) (a : ℕ) (lifted : List Lifted) : Type 0 where
+  pub at : (v : ℕ) → v < p .n → getD lifted v unlifted ≡ liftOf (vertex p a) (vertex p v)
+
+-- where 12 is not due, the candidates were put into the set
+pub record Marked (p : Polygon) (before : List ℕ) (due : Bool) (after : List ℕ) : Type 0 where
+  pub twelve : due ≡ cospherical p
+  pub faces : due ≡ false → (x y z : ℕ) → x < 64 → y < 64 → z < 64 → has after x y z ≡ either (has before x y z) (isCandidate p x y z)
