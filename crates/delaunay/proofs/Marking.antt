@@ -3,15 +3,16 @@ use mathlib.Core.Path.{_≡_, refl, sym, _∙_, ap}
 use mathlib.Core.Bool.{Bool, true, false}
 use mathlib.Core.List.{List}
 use Prim.Native.Nat.{ℕ, _+_, _≤_, _<_}
+use native.Mathlib.Omega.{arith}
 use lib.ListN.{length}
 use Rattle.polygon.specs.declared.Polygon.{Polygon}
 use Rattle.lists.specs.Lists.{both, either, some}
 use Rattle.lists.proofs.Choice.{true-not-false}
-use Rattle.faces.specs.Faces.{isFace, has, withFaces, someFour}
+use Rattle.faces.specs.Faces.{isFace, has, withFaces, triplesOf}
 use Rattle.faces.proofs.Bools.{either-no, either-swap, both-no, both-yes}
 use Rattle.faces.proofs.Fours.{left1, left2, left3, left4, into2, into3, into4, next4, out1, out2, out3, out4}
-use Rattle.faces.proofs.Sets.{faces-in, faces-long}
-use Rattle.delaunay.specs.Candidates.{counts, isFifth, isCandidate, cospherical}
+use Rattle.faces.proofs.Sets.{faces-in, faces-long, triples-same}
+use Rattle.delaunay.specs.Candidates.{counts, isFifth, isCandidate, candidatesOf, cospherical}
 use Rattle.delaunay.specs.Search.{Marked}
 
 -- a test of fours
@@ -88,3 +89,11 @@ module _ {p : Polygon} where
     twelve = sym (out1 (p .n) (hasFifth p) a h) ∙ k .twelve;
     faces = λ e x y z hx hy hz. sym (ap (λ (t : Bool). either (has marks x y z) t) (out1 (p .n) (gives p x y z) a h) ∙ either-no (has marks x y z)) ∙ k .faces x y z hx hy hz;
   }
+
+  -- what was marked in an empty set lists the candidates
+  pub listed-are : {marks₀ marks : List ℕ} {due : Bool} → p .n ≤ 64 → ((x y z : ℕ) → x < 64 → y < 64 → z < 64 → has marks₀ x y z ≡ false) → due ≡ false → Marked p marks₀ due marks → triplesOf (p .n) (has marks) ≡ candidatesOf p
+  listed-are {marks₀} {marks} h none e m =
+      triples-same (p .n) (has marks) (isCandidate p)
+      (λ x y z hx hy hz.
+        m .faces e x y z (omega arith) (omega arith) (omega arith)
+        ∙ ap (λ (t : Bool). either t (isCandidate p x y z)) (none x y z (omega arith) (omega arith) (omega arith)))

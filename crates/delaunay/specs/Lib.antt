@@ -1,2 +1,3 @@
 pub mod Candidates
+pub mod Listing
 pub mod Search

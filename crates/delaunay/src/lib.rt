@@ -10,8 +10,15 @@ ghost use Prim.Native.Nat.{_<_, _≤_};
 ghost use lib.ListN.{length};
 ghost use Rattle.lists.specs.Lists.{both, either};
 ghost use Rattle.polygon.specs.Polygon.{Valid};
-ghost use Rattle.delaunay.specs.Candidates.{isCorner};
+ghost use Rattle.delaunay.specs.Candidates.{isCorner, candidatesOf};
+ghost use Rattle.delaunay.specs.Listing.{foundOf, listedOf};
 ghost use Rattle.delaunay.specs.Search.{Lifts, Marked, isOn};
+
+// What the search finds: how many candidates there are; or 12 is due.
+pub enum Found {
+    Faces(usize),
+    Cospherical,
+}
 
 // The vertices as seen from vertex a.
 fn lift_vertices(p: Polygon, a: usize) -> [Lifted; 64]
@@ -99,4 +106,17 @@ fn mark_candidates(p: Polygon, flags: &mut [u8; 262144]) -> bool
         }
     }
     false
+}
+
+// The candidates, in ascending order; the table must have room for them.
+pub fn list_candidates(p: Polygon, out: &mut [[u8; 3]]) -> Found
+    requires { ⌜ (Valid p) × (length (candidatesOf p) ≤ length (now out)) ⌝ }
+    ensures { λ r. ⌜ (r ≡ foundOf p) × (now (out .exit) ≡ listedOf p (now (out .entry))) ⌝ }
+{
+    let n = p.n;
+    let mut flags = [0u8; 262144];
+    if mark_candidates(p, &mut flags) {
+        return Found::Cospherical;
+    }
+    Found::Faces(faces::list(&flags, n, out))
 }
