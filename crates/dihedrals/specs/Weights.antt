@@ -1,0 +1,37 @@
+-- The weights of a polygon's candidates, and the rows of its hanging pairs. Definitions only.
+use mathlib.Core.List.{List, [], _∷_, map}
+use Prim.Native.Nat.{ℕ}
+use lib.ListN.{length}
+use Rattle.polygon.specs.declared.Polygon.{Polygon}
+use Rattle.polygon.specs.Polygon.{vertexAt}
+use Rattle.geometry.specs.declared.Vector.{Vector}
+use Rattle.geometry.specs.Faces.{normalOf, lengthOf, areaWeightOf, bendBetween, bendWeightOf}
+use Rattle.jobs.specs.Job.{entryAt, vertexA, vertexB, vertexC, hangs}
+use Rattle.lists.specs.Lists.{over, when}
+
+-- "The normal of (a, b, c)": of candidate t
+abbrev pub faceNormal : Polygon → List ℕ → Vector
+faceNormal p t = normalOf (vertexAt (p .vertices) (vertexA t)) (vertexAt (p .vertices) (vertexB t)) (vertexAt (p .vertices) (vertexC t))
+
+-- "Area weight: area factor × m."
+abbrev pub faceWeight : Polygon → List ℕ → ℕ
+faceWeight p t = areaWeightOf (p .«area_factor») (lengthOf (faceNormal p t))
+
+abbrev pub weightsOf : Polygon → List (List ℕ) → List ℕ
+weightsOf p candidates = map (faceWeight p) candidates
+
+-- "Bend weight: bend factor × bend": of inner t and outer u
+abbrev pub hingeWeight : Polygon → List ℕ → List ℕ → ℕ
+hingeWeight p t u = bendWeightOf (p .«bend_factor») (bendBetween (faceNormal p t) (faceNormal p u))
+
+-- "(outer, inner, weight)"
+abbrev pub rowAt : Polygon → List (List ℕ) → ℕ → ℕ → List ℕ
+rowAt p candidates o i = o ∷ i ∷ hingeWeight p (entryAt candidates i) (entryAt candidates o) ∷ []
+
+-- the rows of outer o
+abbrev pub rowsOn : Polygon → List (List ℕ) → ℕ → List (List ℕ)
+rowsOn p candidates o = over 0 (length candidates) (λ i. when (hangs (entryAt candidates i) (entryAt candidates o)) (rowAt p candidates o i))
+
+-- "Rows (outer, inner, weight), one for each hanging pair, ascend by outer, then inner."
+abbrev pub rowsOf : Polygon → List (List ℕ) → List (List ℕ)
+rowsOf p candidates = over 0 (length candidates) (rowsOn p candidates)
