@@ -10,7 +10,7 @@ use Rattle.lists.specs.Lists.{filled}
 use Rattle.lists.proofs.Choice.{yes, no}
 use Rattle.faces.specs.Faces.{has, triplesOf}
 use Rattle.faces.proofs.Sets.{none-in}
-use Rattle.delaunay.specs.declared.Found.the-variants.{Faces, Cospherical}
+use Rattle.delaunay.specs.declared.Listed.the-variants.{Candidates}
 use Rattle.delaunay.specs.Candidates.{candidatesOf, cospherical}
 use Rattle.delaunay.proofs.Marking.{listed-are}
 use borrow.Author.Needs.{needs}
@@ -51,7 +51,7 @@ returns-2 : tie.Need-returns-2
 returns-2 c =
     let e = c .before .before .before .before in
     let l = c .before .list .ensures in
-    (ap Faces (l .0 ∙ ap length (candidates e)) ∙ sym (no _ _ (not-due e)),
+    (ap Candidates (l .0 ∙ ap length (candidates e)) ∙ sym (no _ _ (not-due e)),
     l .1 ∙ ap (λ (t : List (List ℕ)). filled t (e .before .before .before .args .out .now)) (candidates e) ∙ sym (no _ _ (not-due e)))
 
 pub list-candidates-spec : {M : Type 1} → statement M

@@ -1,0 +1,141 @@
+// The candidate finder: from a polygon to its candidates, their weights and the rows of hanging pairs.
+use delaunay::Listed;
+use polygon::Polygon;
+
+ghost use mathlib.Core.Path.{_≡_};
+ghost use Prim.Native.Nat.{_≤_};
+ghost use lib.ListN.{length};
+ghost use Rattle.lists.specs.Lists.{filled};
+ghost use Rattle.polygon.specs.Polygon.{Valid};
+ghost use Rattle.dihedrals.specs.Lists.{Solid};
+ghost use Rattle.finder.specs.Finding.{numberOf, candidateCountOf, rowCountOf, finding, findCall, findBesideCall};
+ghost use Rattle.finder.specs.Filling.{fillOr13};
+
+// What the finder answers.
+pub enum Found {
+    Lists { candidates: usize, rows: usize },
+    Refused(u32),
+}
+
+impl Found {
+    // The number of document 01; 0 where the lists were found.
+    pub fn number(self) -> u32
+        ensures { λ r. ⌜ r ≡ numberOf self ⌝ }
+    {
+        match self {
+            Found::Lists {
+                candidates: _,
+                rows: _,
+            } => 0,
+            Found::Refused(number) => number,
+        }
+    }
+
+    pub fn candidate_count(self) -> usize
+        ensures { λ r. ⌜ r ≡ candidateCountOf self ⌝ }
+    {
+        match self {
+            Found::Lists { candidates, rows: _ } => candidates,
+            Found::Refused(_) => 0,
+        }
+    }
+
+    pub fn row_count(self) -> usize
+        ensures { λ r. ⌜ r ≡ rowCountOf self ⌝ }
+    {
+        match self {
+            Found::Lists { candidates: _, rows } => rows,
+            Found::Refused(_) => 0,
+        }
+    }
+}
+
+fn copy(from: &[[u8; 3]], to: &mut [[u8; 3]])
+    requires { ⌜ length (now from) ≤ length (now to) ⌝ }
+    ensures { λ _. ⌜ now (to .exit) ≡ filled (now (from .entry)) (now (to .entry)) ⌝ }
+{
+    for i in 0..from.len() {
+        let t = from[i];
+        to[i] = t;
+    }
+}
+
+// 13, or the lists of candidates that were found. All tables are tested before one is written.
+fn fill(
+    p: Polygon,
+    found: &[[u8; 3]],
+    triangle_places: usize,
+    work_places: usize,
+    candidates: &mut [[u8; 3]],
+    weights: &mut [u32],
+    rows: &mut [[u32; 3]],
+) -> Found
+    requires { ⌜ Solid p (now found) ⌝ }
+    ensures { λ r. ⌜ finding r (now (candidates .exit)) (now (weights .exit)) (now (rows .exit)) ≡ fillOr13 p (now (found .entry)) «triangle_places» «work_places» (now (candidates .entry)) (now (weights .entry)) (now (rows .entry)) ⌝ }
+{
+    let count = found.len();
+    let row_count = hinges::count_rows(found);
+    let n = p.n;
+    if triangle_places < n - 2 {
+        return Found::Refused(codes::TABLE_TOO_SHORT);
+    }
+    if work_places < count {
+        return Found::Refused(codes::TABLE_TOO_SHORT);
+    }
+    if candidates.len() < count {
+        return Found::Refused(codes::TABLE_TOO_SHORT);
+    }
+    if weights.len() < count {
+        return Found::Refused(codes::TABLE_TOO_SHORT);
+    }
+    if rows.len() < row_count {
+        return Found::Refused(codes::TABLE_TOO_SHORT);
+    }
+    copy(found, candidates);
+    dihedrals::write_weights(p, found, weights);
+    dihedrals::write_rows(p, found, rows);
+    Found::Lists {
+        candidates: count,
+        rows: row_count,
+    }
+}
+
+// The finder where a triangle table and a work table of these many places are lent to a later stage: 13 is due for them too, before any table is
+// written.
+pub fn find_beside(
+    p: Polygon,
+    triangle_places: usize,
+    work_places: usize,
+    candidates: &mut [[u8; 3]],
+    weights: &mut [u32],
+    rows: &mut [[u32; 3]],
+) -> Found
+    ensures { λ r. ⌜ finding r (now (candidates .exit)) (now (weights .exit)) (now (rows .exit)) ≡ findBesideCall p «triangle_places» «work_places» (now (candidates .entry)) (now (weights .entry)) (now (rows .entry)) ⌝ }
+{
+    let code = polygon::polygon_code(p);
+    if code != 0 {
+        return Found::Refused(code);
+    }
+    let mut buffer = [[0u8; 3]; 41664];
+    let listed = delaunay::list_candidates(p, &mut buffer);
+    match listed {
+        Listed::Cospherical => Found::Refused(codes::COSPHERICAL),
+        Listed::Candidates(count) => {
+            let found = &buffer[..count];
+            fill(p, found, triangle_places, work_places, candidates, weights, rows)
+        }
+    }
+}
+
+// The finder. A polygon that no rim file gives is refused by the number due on it: 2, 5, 9, 10 or 11. Then 12, then 13.
+pub fn find(
+    p: Polygon,
+    candidates: &mut [[u8; 3]],
+    weights: &mut [u32],
+    rows: &mut [[u32; 3]],
+) -> Found
+    ensures { λ r. ⌜ finding r (now (candidates .exit)) (now (weights .exit)) (now (rows .exit)) ≡ findCall p (now (candidates .entry)) (now (weights .entry)) (now (rows .entry)) ⌝ }
+{
+    let n = p.n;
+    find_beside(p, n, faces::TRIPLES, candidates, weights, rows)
+}
