@@ -1,0 +1,15 @@
+-- A conjunction or a disjunction whose first test is known.
+use mathlib.Core.Path.{_≡_, ap}
+use mathlib.Core.Bool.{Bool, true, false, _&&_, _||_}
+
+pub and-yes : {x : Bool} (y : Bool) → x ≡ true → (x && y) ≡ y
+and-yes y e = ap (λ b. b && y) e
+
+pub and-no : {x : Bool} (y : Bool) → x ≡ false → (x && y) ≡ false
+and-no y e = ap (λ b. b && y) e
+
+pub or-yes : {x : Bool} (y : Bool) → x ≡ true → (x || y) ≡ true
+or-yes y e = ap (λ b. b || y) e
+
+pub or-no : {x : Bool} (y : Bool) → x ≡ false → (x || y) ≡ y
+or-no y e = ap (λ b. b || y) e

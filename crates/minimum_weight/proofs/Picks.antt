@@ -1,0 +1,76 @@
+-- Choosing the best of some candidates one by one.
+use Prim.Native.Nat.{ℕ, zero, suc, _+_, _^_, _≤_, _<_}
+use mathlib.Core.Path.{_≡_, refl, sym, ap, _∙_}
+use mathlib.Core.Bool.{Bool, true, false, cond, _&&_}
+use mathlib.Core.Logic.{⊎-elim}
+use mathlib.Core.List.{List}
+use native.Mathlib.Omega.{arith}
+use native.Mathlib.Nat.{eq-or-lt-of-le, le-antisymm, le-refl}
+use native.Mathlib.Numerals.{add-one}
+use lib.ListN.{length, getD}
+use lib.Dec.{ltb, leb, eqb}
+use borrow.Author.Tests.{lt-ltb, le-ltb, leb-true, leb-false, eq-eqb, ne-eqb}
+use Rattle.lists.proofs.Choice.{yes, no}
+use Rattle.minimum_weight.specs.declared.choice.Pick.{Pick}
+use Rattle.minimum_weight.specs.Tables.{betterOf, pickBelow, Blocks, vertexA, vertexC, onEdge}
+use Rattle.minimum_weight.proofs.Bools.{and-yes, and-no}
+
+module _ (p : Pick) (u : ℕ) where
+  -- the pick of candidate u
+  taken : ℕ → ℕ → Pick
+  taken d w = record { cost = d + w; at = u }
+
+  -- candidate u is not on the edge, or no part starts with it, or it is not better, or it is
+  pub off-edge : (on : Bool) (d w : ℕ) → on ≡ false → p ≡ betterOf p u on d w
+  unfolding taken betterOf
+  off-edge on d w e = sym (no (taken d w) p (and-no (ltb d (2 ^ 63) && ltb (d + w) (p .cost)) e))
+
+  pub no-start : (on : Bool) (d w : ℕ) → on ≡ true → 2 ^ 63 ≤ d → p ≡ betterOf p u on d w
+  unfolding taken betterOf
+  no-start on d w e h = sym (no (taken d w) p (and-yes _ e ∙ and-no (ltb (d + w) (p .cost)) (le-ltb d (2 ^ 63) h)))
+
+  pub no-better : (on : Bool) (d w r : ℕ) → on ≡ true → d < 2 ^ 63 → r ≡ w → p .cost ≤ d + r → p ≡ betterOf p u on d w
+  unfolding taken betterOf
+  no-better on d w r e h q l = sym (no (taken d w) p (and-yes _ e ∙ and-yes _ (lt-ltb d (2 ^ 63) h) ∙ le-ltb (d + w) (p .cost) (omega arith)))
+
+  pub is-better : (on : Bool) (d w r : ℕ) → on ≡ true → d < 2 ^ 63 → r ≡ w → d + r < p .cost → record { cost = d + r; at = u } ≡ betterOf p u on d w
+  unfolding taken betterOf
+  is-better on d w r e h q l = ap (taken d) q ∙ sym (yes (taken d w) p (and-yes _ e ∙ and-yes _ (lt-ltb d (2 ^ 63) h) ∙ lt-ltb (d + w) (p .cost) (omega arith)))
+
+-- candidates off the edge are passed over
+pub pick-skip : (on : ℕ → Bool) (d w : ℕ → ℕ) (x y : ℕ) → x ≤ y → ((u : ℕ) → x ≤ u → u < y → on u ≡ false) → pickBelow on d w y ≡ pickBelow on d w x
+pick-skip on d w x zero h f = let e : 0 ≡ x = omega arith in ap (pickBelow on d w) e
+pick-skip on d w x (suc y) h f = ⊎-elim (λ e. ap (pickBelow on d w) (sym e))
+    (λ (l : x < suc y). sym (off-edge (pickBelow on d w y) y (on y) (d y) (w y) (f y (omega arith) (omega arith))) ∙ pick-skip on d w x y (omega arith) (λ u a b. f u a (omega arith)))
+    (eq-or-lt-of-le h)
+
+module _ (candidates : List (List ℕ)) (starts : List ℕ) (i : ℕ) where
+  -- a block does not end before it starts
+  pub starts-up : Blocks candidates starts → i < 64 → getD starts i 0 ≤ getD starts (i + 1) 0
+  starts-up b h = go (leb (getD starts i 0) (getD starts (i + 1) 0)) refl
+    where
+      go : (x : Bool) → leb (getD starts i 0) (getD starts (i + 1) 0) ≡ x → getD starts i 0 ≤ getD starts (i + 1) 0
+      go true e = leb-true _ _ e
+      go false e =
+          let l : getD starts (i + 1) 0 < getD starts i 0 = leb-false _ _ e in
+          let k = getD starts (i + 1) 0 in
+          absurd (omega (arith, b .below i k (omega arith) l, b .above (i + 1) k (omega arith) (omega (arith, b .within i (omega arith))) (le-refl k)))
+
+  module _ (j : ℕ) (d w : ℕ → ℕ) (b : Blocks candidates starts) (h : i < 64) where
+    abbrev pickOf : ℕ → Pick
+    pickOf = pickBelow (onEdge candidates i j) d w
+
+    -- only candidates of the block of i are on an edge (i, j)
+    pub block-start : record { cost = 2 ^ 63; at = 0 } ≡ pickOf (getD starts i 0)
+    block-start = sym (pick-skip (onEdge candidates i j) d w 0 (getD starts i 0) (omega arith)
+        (λ u x y. and-no (eqb (vertexC candidates u) j) (ne-eqb (vertexA candidates u) i (λ e. omega (arith, b .below i u (omega arith) y)))))
+
+    pub block-next : (p : Pick) (u : ℕ) {q : Pick} → getD starts i 0 ≤ u → u < getD starts (i + 1) 0 → p ≡ pickOf u → q ≡ betterOf p u (eqb (vertexC candidates u) j) (d u) (w u) → q ≡ pickOf (u + 1)
+    block-next p u l m e f =
+        let a : vertexA candidates u ≡ i = le-antisymm (omega (arith, b .below (i + 1) u (omega arith) m)) (b .above i u (omega arith) (omega (arith, b .within (i + 1) (omega arith))) l) in
+        f ∙ ap (λ x. betterOf x u (eqb (vertexC candidates u) j) (d u) (w u)) e
+        ∙ ap (λ on. betterOf (pickOf u) u on (d u) (w u)) (sym (and-yes (eqb (vertexC candidates u) j) (eq-eqb (vertexA candidates u) i a))) ∙ ap pickOf (sym (add-one u))
+
+    pub block-end : (p : Pick) (u : ℕ) → u ≤ getD starts (i + 1) 0 → getD starts (i + 1) 0 ≤ u → p ≡ pickOf u → p ≡ pickOf (length candidates)
+    block-end p u l m e = e ∙ sym (pick-skip (onEdge candidates i j) d w u (length candidates) (omega (arith, b .within (i + 1) (omega arith)))
+        (λ v x y. and-no (eqb (vertexC candidates v) j) (ne-eqb (vertexA candidates v) i (λ z. omega (arith, b .above (i + 1) v (omega arith) y (omega arith))))))

@@ -1,0 +1,132 @@
+-- Bisection over rows that ascend.
+use Prim.Native.Nat.{ℕ, zero, suc, _+_, _≤_, _<_}
+use mathlib.Core.Path.{_≡_, refl, sym, ap, _∙_}
+use mathlib.Core.Bool.{Bool, true, false, cond, _&&_, _||_}
+use mathlib.Core.Logic.{_⊎_, inl, inr, ⊎-elim, _≢_}
+use mathlib.Core.List.{List, [], _∷_}
+use native.Mathlib.Omega.{arith}
+use native.Mathlib.Nat.{eq-or-lt-of-le}
+use native.Mathlib.Numerals.{add-one}
+use lib.ListN.{length, drop, getD, length-drop}
+use lib.Seq.{drop-cons, drop-length, getD-drop}
+use lib.Dec.{eqb, ltb}
+use borrow.Author.Tests.{eqb-true, eqb-false, eq-eqb, ne-eqb, ltb-true, ltb-false, lt-ltb}
+use Rattle.lists.proofs.Choice.{yes, no, not-true-false, true-not-false}
+use Rattle.triangulation.specs.Jobs.{rowWeight}
+use Rattle.minimum_weight.specs.Tables.{RowsAscend, rowIsBefore, rowOrZero}
+
+-- (x, y) is before (o, i), or is not
+before-true : (x y o i : ℕ) → (ltb x o || eqb x o && ltb y i) ≡ true → (x < o) ⊎ ((x ≡ o) × (y < i))
+before-true x y o i t = go (ltb x o) (eqb x o) refl refl t
+  where
+    go : (p q : Bool) → ltb x o ≡ p → eqb x o ≡ q → (p || q && ltb y i) ≡ true → (x < o) ⊎ ((x ≡ o) × (y < i))
+    go true q e f t = inl (ltb-true x o e)
+    go false true e f t = inr (eqb-true x o f, ltb-true y i t)
+    go false false e f t = absurd (true-not-false t refl)
+
+before-false : (x y o i : ℕ) → (ltb x o || eqb x o && ltb y i) ≡ false → (o < x) ⊎ ((x ≡ o) × (i ≤ y))
+before-false x y o i t = go (ltb x o) (eqb x o) refl refl t
+  where
+    go : (p q : Bool) → ltb x o ≡ p → eqb x o ≡ q → (p || q && ltb y i) ≡ false → (o < x) ⊎ ((x ≡ o) × (i ≤ y))
+    go true q e f t = absurd (true-not-false refl t)
+    go false true e f t = inr (eqb-true x o f, ltb-false y i t)
+    go false false e f t = let h : o ≤ x = ltb-false x o e in let d : x ≢ o = eqb-false x o f in inl (omega arith)
+
+pub is-before : (x y o i : ℕ) → (x < o) ⊎ ((x ≡ o) × (y < i)) → (ltb x o || eqb x o && ltb y i) ≡ true
+is-before x y o i (inl h) = ap (λ b. b || eqb x o && ltb y i) (lt-ltb x o h)
+is-before x y o i (inr h) = go (ltb x o) (eq-eqb x o (h .0)) (lt-ltb y i (h .1))
+  where
+    go : (p : Bool) {q r : Bool} → q ≡ true → r ≡ true → (p || q && r) ≡ true
+    go true e f = refl
+    go false e f = rw (e, f)
+
+pub names-false : (x y o i : ℕ) → (x ≡ o → y ≡ i → ⊥) → (eqb x o && eqb y i) ≡ false
+names-false x y o i h = go (eqb x o) (eqb y i) refl refl
+  where
+    go : (p q : Bool) → eqb x o ≡ p → eqb y i ≡ q → (p && q) ≡ false
+    go true true e f = absurd (h (eqb-true x o e) (eqb-true y i f))
+    go true false e f = refl
+    go false q e f = refl
+
+module _ (o i : ℕ) where
+  -- rows that are not (o, i) are passed over
+  skip : (rows : List (List ℕ)) (low : ℕ) → ((k : ℕ) → k < low → (eqb (getD (getD rows k []) 0 0) o && eqb (getD (getD rows k []) 1 0) i) ≡ false)
+      → rowWeight rows o i ≡ rowWeight (drop low rows) o i
+  skip rows zero h = refl
+  skip [] (suc low) h = refl
+  skip (r ∷ rows) (suc low) h = no _ _ (h 0 (omega arith)) ∙ skip rows low (λ k l. h (suc k) (omega arith))
+
+  pub none : (rows : List (List ℕ)) → ((k : ℕ) → k < length rows → (eqb (getD (getD rows k []) 0 0) o && eqb (getD (getD rows k []) 1 0) i) ≡ false) → rowWeight rows o i ≡ 0
+  none rows h = skip rows (length rows) h ∙ ap (λ r. rowWeight r o i) (drop-length rows)
+
+  module _ (rows : List (List ℕ)) where
+    outer : ℕ → ℕ
+    outer k = getD (getD rows k []) 0 0
+
+    inner : ℕ → ℕ
+    inner k = getD (getD rows k []) 1 0
+
+    -- the rows before `low` are before (o, i), those from `high` on are not
+    pub record Cut (low high : ℕ) : Type 0 where
+      pub order : low ≤ high
+      pub within : high ≤ length rows
+      pub left : (k : ℕ) → k < low → rowIsBefore (getD rows k []) o i ≡ true
+      pub right : (k : ℕ) → high ≤ k → k < length rows → rowIsBefore (getD rows k []) o i ≡ false
+
+    pub cut-start : Cut 0 (length rows)
+    cut-start = record { order = omega arith; within = omega arith; left = λ k h. absurd (omega arith); right = λ k h l. absurd (omega arith) }
+
+    module _ (sorted : RowsAscend rows) where
+      before-trans : (k l : ℕ) → k < l → l < length rows → rowIsBefore (getD rows l []) o i ≡ true → rowIsBefore (getD rows k []) o i ≡ true
+      unfolding outer inner
+      before-trans k l h m e = is-before (outer k) (inner k) o i
+          (go (before-true (outer k) (inner k) (outer l) (inner l) (sorted .up k l h m)) (before-true (outer l) (inner l) o i e))
+        where
+          go : (outer k < outer l) ⊎ ((outer k ≡ outer l) × (inner k < inner l)) → (outer l < o) ⊎ ((outer l ≡ o) × (inner l < i)) → (outer k < o) ⊎ ((outer k ≡ o) × (inner k < i))
+          go (inl a) (inl b) = inl (omega arith)
+          go (inl a) (inr b) = inl (omega arith)
+          go (inr a) (inl b) = inl (omega arith)
+          go (inr a) (inr b) = inr (a .0 ∙ b .0, omega arith)
+
+      pub cut-up : {low high : ℕ} (middle : ℕ) → Cut low high → low ≤ middle → middle < high → rowIsBefore (getD rows middle []) o i ≡ true → Cut (middle + 1) high
+      cut-up middle c h l e = record {
+        order = omega arith;
+        within = c .within;
+        left = λ k m. ⊎-elim (λ q. rw q e) (λ q. before-trans k middle q (omega (arith, c .within)) e) (eq-or-lt-of-le (let z : k ≤ middle = omega arith in z));
+        right = c .right;
+      }
+
+      pub cut-down : {low high : ℕ} (middle : ℕ) → Cut low high → low ≤ middle → middle < high → rowIsBefore (getD rows middle []) o i ≡ false → Cut low middle
+      cut-down middle c h l e = record {
+        order = h;
+        within = omega (arith, c .within);
+        left = c .left;
+        right = λ k m n. ⊎-elim (λ q. rw (← q) e) (λ q. not-true-false _ (λ t. true-not-false (before-trans middle k q n t) e)) (eq-or-lt-of-le m);
+      }
+
+      before-names : (k : ℕ) → rowIsBefore (getD rows k []) o i ≡ true → (eqb (outer k) o && eqb (inner k) i) ≡ false
+      unfolding outer inner
+      before-names k e = names-false (outer k) (inner k) o i (λ p q. ⊎-elim (λ h. omega arith) (λ h. omega arith) (before-true (outer k) (inner k) o i e))
+
+      pub cut-end : {low high : ℕ} → Cut low high → high ≤ low → low < length rows → rowOrZero (getD rows low []) o i ≡ rowWeight rows o i
+      unfolding outer inner
+      cut-end {low} {high} c h l = sym (
+          skip rows low (λ k m. before-names k (c .left k m))
+          ∙ ap (λ r. rowWeight r o i) (drop-cons rows low [] l)
+          ∙ ap (cond (eqb (outer low) o && eqb (inner low) i) (getD (getD rows low []) 2 0)) (none (drop (suc low) rows) after))
+        where
+          later : (k : ℕ) → low < k → k < length rows → (eqb (outer k) o && eqb (inner k) i) ≡ false
+          later k a b = names-false (outer k) (inner k) o i (λ p q. go p q (before-true (outer low) (inner low) (outer k) (inner k) (sorted .up low k a b)) (before-false (outer low) (inner low) o i (c .right low h l)))
+            where
+              go : outer k ≡ o → inner k ≡ i → (outer low < outer k) ⊎ ((outer low ≡ outer k) × (inner low < inner k)) → (o < outer low) ⊎ ((outer low ≡ o) × (i ≤ inner low)) → ⊥
+              go p q (inl u) (inl v) = omega arith
+              go p q (inl u) (inr v) = omega arith
+              go p q (inr u) (inl v) = omega arith
+              go p q (inr u) (inr v) = omega arith
+
+          after : (k : ℕ) → k < length (drop (suc low) rows) → (eqb (getD (getD (drop (suc low) rows) k []) 0 0) o && eqb (getD (getD (drop (suc low) rows) k []) 1 0) i) ≡ false
+          after k m = rw (getD-drop (suc low) rows k []) (later (suc low + k) (omega arith) (omega (arith, length-drop (suc low) rows)))
+
+      pub cut-out : {low high : ℕ} → Cut low high → length rows ≤ low → 0 ≡ rowWeight rows o i
+      unfolding outer inner
+      cut-out c h = sym (none rows (λ k m. before-names k (c .left k (omega arith))))

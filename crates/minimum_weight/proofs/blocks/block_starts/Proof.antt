@@ -1,0 +1,65 @@
+use Prim.Native.Nat.{ℕ, _+_, _-_}
+use mathlib.Core.Path.{sym, _∙_}
+use native.Mathlib.Omega.{arith}
+use borrow.Author.Needs.{needs}
+use lib.ListN.{length, length-replicate}
+use Rattle.minimum_weight.proofs.BlockStarts.{Placed, there, placed-start, placed-pass, placed-set, placed-all}
+use Rattle.minimum_weight.proofs.blocks.block_starts.Statement.{statement}
+use Rattle.minimum_weight.proofs.blocks.block_starts.Tie as tie
+
+abbrev Inv-loop : tie.InvT-loop
+Inv-loop candidates starts₀ v₀ k₀ starts v k = Placed candidates starts v k
+
+abbrev μ-loop : tie.MeasureT-loop
+μ-loop candidates starts₀ v₀ k₀ starts v k = (length candidates - k) + (65 - v)
+
+loop-holds : tie.Need-loop-holds Inv-loop μ-loop
+loop-holds c = placed-start _ _ (length-replicate {A = ℕ} 65 0)
+
+starts-below-requires : tie.Need-starts-below-requires Inv-loop μ-loop
+starts-below-requires c κs = search needs
+
+add-k : tie.Need-add-k Inv-loop μ-loop
+add-k c = omega (arith, there (c .before .before .before .before .args .candidates .now) (c .before .before .before .loop .k) (c .before .before .before .loop .v) (sym (c .before .starts-below .ensures) ∙ c .if1 .taken))
+
+loop-less : tie.Need-loop-less Inv-loop μ-loop
+loop-less c = omega (arith, there (c .before .before .before .before .args .candidates .now) (c .before .before .before .loop .k) (c .before .before .before .loop .v) (sym (c .before .starts-below .ensures) ∙ c .if1 .taken))
+
+loop-again : tie.Need-loop-again Inv-loop μ-loop
+loop-again c = let t = there (c .before .before .before .before .args .candidates .now) (c .before .before .before .loop .k) (c .before .before .before .loop .v) (sym (c .before .starts-below .ensures) ∙ c .if1 .taken) in placed-pass _ (c .before .before .before .loop .inv) (t .0) (t .1)
+
+mul-starts : tie.Need-mul-starts Inv-loop μ-loop
+mul-starts c = search needs
+
+array-write-starts : tie.Need-array-write-starts Inv-loop μ-loop
+array-write-starts c = search needs
+
+add-v : tie.Need-add-v Inv-loop μ-loop
+add-v c = search needs
+
+loop-less-2 : tie.Need-loop-less-2 Inv-loop μ-loop
+loop-less-2 c = omega (arith, c .before .before .before .loop .inv .range)
+
+loop-again-2 : tie.Need-loop-again-2 Inv-loop μ-loop
+loop-again-2 c = placed-set _ (c .before .before .before .before .pre) (c .before .before .before .loop .inv) (c .before .before .loop-test .taken) (sym (c .before .starts-below .ensures) ∙ c .if1 .left)
+
+returns : tie.Need-returns Inv-loop μ-loop
+returns c = placed-all _ (c .before .loop .inv) (c .loop-test .left)
+
+pub block-starts-spec : {M : Type 1} → statement M
+block-starts-spec =
+    tie.close
+    (tie.spec
+    Inv-loop
+    μ-loop
+    loop-holds
+    starts-below-requires
+    add-k
+    loop-less
+    loop-again
+    mul-starts
+    array-write-starts
+    add-v
+    loop-less-2
+    loop-again-2
+    returns)

@@ -1,0 +1,31 @@
+use mathlib.Core.Path.{sym, _∙_}
+use Rattle.minimum_weight.proofs.Bools.{and-yes, and-no, or-yes, or-no}
+use borrow.Author.Needs.{needs}
+use borrow.Author.Tests.{le-ltb, lt-ltb, eq-eqb, ne-eqb}
+use Rattle.minimum_weight.proofs.rows.is_before.Statement.{statement}
+use Rattle.minimum_weight.proofs.rows.is_before.Tie as tie
+
+array-read-o : tie.Need-array-read-o
+array-read-o c = search needs
+
+cast-o : tie.Need-cast-o
+cast-o c = search needs
+
+array-read-i : tie.Need-array-read-i
+array-read-i c = search needs
+
+cast-i : tie.Need-cast-i
+cast-i c = search needs
+
+returns : tie.Need-returns
+returns c = sym (or-yes _ (lt-ltb _ _ (c .if1 .taken)))
+
+returns-2 : tie.Need-returns-2
+returns-2 c = sym (or-no _ (le-ltb _ _ (c .before .if1 .left)) ∙ and-no _ (ne-eqb _ _ (c .if2 .taken)))
+
+returns-3 : tie.Need-returns-3
+returns-3 c = sym (or-no _ (le-ltb _ _ (c .before .if1 .left)) ∙ and-yes _ (eq-eqb _ _ (c .if2 .left)))
+
+pub is-before-spec : {M : Type 1} → statement M
+is-before-spec =
+    tie.close (tie.spec array-read-o cast-o array-read-i cast-i returns returns-2 returns-3)

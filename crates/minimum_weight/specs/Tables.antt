@@ -1,0 +1,107 @@
+-- What the dynamic programme computes from the tables of a job. Contracts of inner functions cite this file; no reader has to believe it.
+use Prim.Native.Nat.{ℕ, zero, suc, _+_, _-_, _^_, _≤_, _<_}
+use mathlib.Core.Path.{_≡_}
+use mathlib.Core.Logic.{_≢_, _⊎_}
+use mathlib.Core.Bool.{Bool, true, false, cond, _&&_, _||_}
+use mathlib.Core.List.{List, []}
+use lib.ListN.{getD, length, drop}
+use lib.Dec.{eqb, ltb, leb}
+use Rattle.minimum_weight.specs.declared.choice.Pick.{Pick}
+use Rattle.triangulation.specs.Triangulations.{Job, Valid}
+use Rattle.triangulation.specs.Jobs.{Bounded, rowWeight, jobOf}
+use Rattle.triangulation.specs.Recursion.{addRow, bestUnder, bestFrom, costOf}
+
+abbrev pub vertexA : List (List ℕ) → ℕ → ℕ
+vertexA candidates k = getD (getD candidates k []) 0 0
+
+abbrev pub vertexB : List (List ℕ) → ℕ → ℕ
+vertexB candidates k = getD (getD candidates k []) 1 0
+
+abbrev pub vertexC : List (List ℕ) → ℕ → ℕ
+vertexC candidates k = getD (getD candidates k []) 2 0
+
+-- candidates ascend by a, then b
+pub record Ascending (candidates : List (List ℕ)) : Type 0 where
+  pub a-up : (k l : ℕ) → k < l → l < length candidates → vertexA candidates k ≤ vertexA candidates l
+  pub b-up : (k l : ℕ) → k < l → l < length candidates → vertexA candidates k ≡ vertexA candidates l → vertexB candidates k ≤ vertexB candidates l
+
+-- at v, `starts` has the number of candidates whose first vertex is below v
+pub record Blocks (candidates : List (List ℕ)) (starts : List ℕ) : Type 0 where
+  pub within : (v : ℕ) → v < 65 → getD starts v 0 ≤ length candidates
+  pub below : (v k : ℕ) → v < 65 → k < getD starts v 0 → vertexA candidates k < v
+  pub above : (v k : ℕ) → v < 65 → k < length candidates → getD starts v 0 ≤ k → v ≤ vertexA candidates k
+
+-- a row is before (o, i)
+abbrev pub rowIsBefore : List ℕ → ℕ → ℕ → Bool
+rowIsBefore r o i = ltb (getD r 0 0) o || eqb (getD r 0 0) o && ltb (getD r 1 0) i
+
+-- a row's weight where it is the row (o, i), else 0
+abbrev pub rowOrZero : List ℕ → ℕ → ℕ → ℕ
+rowOrZero r o i = cond (eqb (getD r 0 0) o && eqb (getD r 1 0) i) (getD r 2 0) 0
+
+-- rows ascend by outer, then inner
+pub record RowsAscend (rows : List (List ℕ)) : Type 0 where
+  pub up : (k l : ℕ) → k < l → l < length rows → rowIsBefore (getD rows k []) (getD (getD rows l []) 0 0) (getD (getD rows l []) 1 0) ≡ true
+
+-- p, or candidate u where it is on the edge and its total with the row's weight is lower: d is its own total, w the row's weight
+unfoldable pub betterOf : Pick → ℕ → Bool → ℕ → ℕ → Pick
+betterOf p u on d w = cond (on && (ltb d (2 ^ 63) && ltb (d + w) (p .cost))) (record { cost = d + w; at = u }) p
+
+-- the best of the first k candidates that are `on` the edge, the first of equal ones: d is a candidate's own total, w its row's weight
+abbrev pub pickBelow : (ℕ → Bool) → (ℕ → ℕ) → (ℕ → ℕ) → ℕ → Pick
+pickBelow on d w zero = record { cost = 2 ^ 63; at = 0 }
+pickBelow on d w (suc k) = betterOf (pickBelow on d w k) k (on k) (d k) (w k)
+
+-- (i, j) is candidate k's edge (a, c)
+abbrev pub onEdge : List (List ℕ) → ℕ → ℕ → ℕ → Bool
+onEdge candidates i j k = eqb (vertexA candidates k) i && eqb (vertexC candidates k) j
+
+-- the best candidate (i, x, j) under t
+unfoldable pub pickUnder : List (List ℕ) → List ℕ → List (List ℕ) → ℕ → ℕ → ℕ → Pick
+pickUnder candidates work rows t i j = pickBelow (onEdge candidates i j) (λ k. getD work k 0) (rowWeight rows t) (length candidates)
+
+-- the same of any edge of t: nothing beneath a rim edge (i, i + 1)
+abbrev pub pickAtEdge : List (List ℕ) → List ℕ → List (List ℕ) → ℕ → ℕ → ℕ → Pick
+pickAtEdge candidates work rows t i j = cond (eqb j (i + 1)) (record { cost = 0; at = 0 }) (pickUnder candidates work rows t i j)
+
+-- a total: the number for 'none', or far below it
+abbrev pub Cost : ℕ → Type 0
+Cost x = (x ≡ 2 ^ 63) ⊎ (x ≤ 256000000000)
+
+-- the total of a triangle of weight w over parts of totals l and r
+abbrev pub joinCost : ℕ → ℕ → ℕ → ℕ
+joinCost w l r = cond (leb (2 ^ 63) l) (2 ^ 63) (cond (leb (2 ^ 63) r) (2 ^ 63) (w + l + r))
+
+-- what the dynamic programme needs of a job and its weight table
+pub record WellFormed (n : ℕ) (candidates : List (List ℕ)) (weights : List ℕ) (rows : List (List ℕ)) : Type 0 where
+  pub valid : Valid (jobOf n candidates weights rows)
+  pub bounded : Bounded (jobOf n candidates weights rows)
+  pub ascending : Ascending candidates
+  pub weights-there : length candidates ≤ length weights
+  pub few : length candidates ≤ 65536
+  pub rows-ascend : RowsAscend rows
+  -- no row has the first number after the candidates for its outer
+  pub no-row : (u : ℕ) → rowWeight rows (length candidates) u ≡ 0
+
+-- candidate u's place of the work table has the least total of a part that starts with u
+abbrev pub Ready : Job → List ℕ → ℕ → Type 0
+Ready job work u = getD work u 0 ≡ costOf (bestFrom job (job .n) u)
+
+-- so it is for all candidates
+abbrev pub AllReady : Job → List ℕ → Type 0
+AllReady job work = (u : ℕ) → u < job .size → Ready job work u
+
+-- so it is for the candidates (i, x, j)
+abbrev pub ReadyAt : Job → List ℕ → ℕ → ℕ → Type 0
+ReadyAt job work i j = (u : ℕ) → u < job .size → job .a u ≡ i → job .c u ≡ j → Ready job work u
+
+-- so it is for all candidates from `low` on; the places that are no candidate's are as in `before`
+pub record Filled (job : Job) (before : List ℕ) (low : ℕ) (work : List ℕ) : Type 0 where
+  pub long : length work ≡ length before
+  pub kept : drop (job .size) work ≡ drop (job .size) before
+  pub ready : (u : ℕ) → u < job .size → low ≤ u → Ready job work u
+
+-- what is found for the edge (i, j) of t: the best total beneath it with the row to t, and the triangle that starts it
+pub record Found (job : Job) (t i j : ℕ) (p : Pick) : Type 0 where
+  pub cost : p .cost ≡ costOf (bestUnder job (job .n) t i j)
+  pub at : j ≢ i + 1 → p .cost < 2 ^ 63 → (p .at < job .size) × (job .a (p .at) ≡ i) × (job .c (p .at) ≡ j) × (bestUnder job (job .n) t i j ≡ addRow (job .row t (p .at)) (bestFrom job (job .n) (p .at)))

@@ -1,0 +1,67 @@
+// Writing the triangles of the best triangulation in preorder, with a stack of parts still to write.
+use crate::choice::best_under;
+ghost use mathlib.Core.Path.{_≡_};
+ghost use Prim.Native.Nat.{_+_, _-_, _^_, _<_, _≤_};
+ghost use lib.ListN.{length};
+ghost use Rattle.lists.specs.Lists.{filled};
+ghost use Rattle.triangulation.specs.Jobs.{jobOf};
+ghost use Rattle.triangulation.specs.Recursion.{costOf, restOf, bestUnder};
+ghost use Rattle.minimum_weight.specs.Tables.{WellFormed, Blocks, AllReady};
+
+// The part of the polygon from vertex `first` to vertex `last`, under the triangle `outer`.
+pub struct Part {
+    pub outer: usize,
+    pub first: u8,
+    pub last: u8,
+}
+
+// Writes the triangles of the whole polygon's best triangulation, where there is one. (weights is for the contract alone.)
+pub fn write_preorder(
+    n: usize,
+    starts: &[usize; 65],
+    candidates: &[[u8; 3]],
+    weights: &[u32],
+    rows: &[[u32; 3]],
+    work: &[u64],
+    triangles: &mut [u16],
+)
+    requires { ⌜ WellFormed n (now candidates) (now weights) (now rows) × Blocks (now candidates) (now starts) × (length (now candidates) ≤ length (now work)) × (n ≤ length (now triangles) + 2) ⌝ }
+    requires { ⌜ AllReady (jobOf n (now candidates) (now weights) (now rows)) (now work) × (costOf (bestUnder (jobOf n (now candidates) (now weights) (now rows)) n (length (now candidates)) 0 (n - 1)) < 2 ^ 63) ⌝ }
+    ensures { λ _. ⌜ now (triangles .exit) ≡ filled (restOf (bestUnder (jobOf n (now (candidates .entry)) (now (weights .entry)) (now (rows .entry))) n (length (now (candidates .entry))) 0 (n - 1))) (now (triangles .entry)) ⌝ }
+{
+    let last = (n - 1) as u8;
+    let whole = Part {
+        outer: candidates.len(),
+        first: 0,
+        last,
+    };
+    let mut stack = [whole; 64];
+    let mut height: usize = 1;
+    let mut count: usize = 0;
+    while 0 < height {
+        height -= 1;
+        let part = stack[height];
+        let t = part.outer;
+        let i = part.first;
+        let j = part.last;
+        if 1 < j - i {
+            let pick = best_under(starts, candidates, work, rows, t, i, j);
+            let u = pick.at;
+            let triangle = candidates[u];
+            let b = triangle[1];
+            triangles[count] = u as u16;
+            count += 1;
+            stack[height] = Part {
+                outer: u,
+                first: b,
+                last: j,
+            };
+            stack[height + 1] = Part {
+                outer: u,
+                first: i,
+                last: b,
+            };
+            height += 2;
+        }
+    }
+}

@@ -1,0 +1,11 @@
+pub mod Sums
+pub mod Parts
+pub mod SetParts
+pub mod SetsToParts
+pub mod PartsToSets
+pub mod Order
+pub mod Least
+pub mod Recursion
+pub mod Bounds
+pub mod Demand3
+pub mod Cases

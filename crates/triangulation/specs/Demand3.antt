@@ -1,0 +1,33 @@
+-- Demand 3 as a statement about any answer to a job.
+use Prim.Native.Nat.{ℕ, _≤_, _<_}
+use mathlib.Core.Path.{_≡_}
+use mathlib.Core.Logic.{_≢_}
+use mathlib.Core.Bool.{true}
+use mathlib.Core.List.{List, [], _∷_, List·Memᴰ}
+use Rattle.triangulation.specs.Triangulations.{Job, Answer, none, patch, upFrom, subsets, isTriangulation, totalWeight, preorder}
+
+-- the set s of candidates is a tiling
+abbrev pub Triangulates : Job → List ℕ → Type 0
+Triangulates job s = List·Memᴰ s (subsets (upFrom 0 (job .size))) × (isTriangulation job s ≡ true)
+
+-- the first list has the smaller number at the first difference
+pub data Earlier : List ℕ → List ℕ → Type 0 where
+  here : {x y : ℕ} {xs ys : List ℕ} → x < y → Earlier (x ∷ xs) (y ∷ ys)
+  later : {x y : ℕ} {xs ys : List ℕ} → x ≡ y → Earlier xs ys → Earlier (x ∷ xs) (y ∷ ys)
+
+-- a patch is right: it is a tiling in walk order with that tiling's total, no tiling has a lower total, and every other tiling of equal total comes
+-- later in walk order
+pub record Optimal (job : Job) (total : ℕ) (triangles : List ℕ) : Type 0 where
+  pub set : List ℕ
+  pub tiles : Triangulates job set
+  pub walk : triangles ≡ preorder job set
+  pub weight : total ≡ totalWeight job set
+  pub lowest : (s : List ℕ) → Triangulates job s → total ≤ totalWeight job s
+  pub first : (s : List ℕ) → Triangulates job s → s ≢ set → totalWeight job s ≡ total → Earlier triangles (preorder job s)
+
+-- An answer is right: it is a patch exactly when there is a tiling, and 'none' exactly when there is none; and a patch is right.
+pub record Demand3 (job : Job) (answer : Answer) : Type 0 where
+  pub patch-is : (total : ℕ) (triangles : List ℕ) → answer ≡ patch total triangles → Optimal job total triangles
+  pub patch-if : (s : List ℕ) → Triangulates job s → (total : ℕ) × (triangles : List ℕ) × (answer ≡ patch total triangles)
+  pub none-is : answer ≡ none → (s : List ℕ) → Triangulates job s → ⊥
+  pub none-if : ((s : List ℕ) → Triangulates job s → ⊥) → answer ≡ none

@@ -1,0 +1,5 @@
+pub mod Triangulations
+pub mod Jobs
+pub mod Demand3
+pub mod Cases
+pub mod Recursion

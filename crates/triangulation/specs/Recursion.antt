@@ -1,0 +1,39 @@
+-- The recursion that the dynamic programme computes. That it gives the answer is proved: no reader has to believe this file.
+use Prim.Native.Nat.{ℕ, zero, suc, _+_, _^_}
+use mathlib.Core.Bool.{cond}
+use mathlib.Core.List.{List, [], _∷_, _++_, map}
+use lib.Dec.{eqb}
+use Rattle.triangulation.specs.Triangulations.{Job, keep, upFrom, least, longEdge}
+
+-- a key whose total has a row's weight added
+abbrev pub addRow : ℕ → List ℕ → List ℕ
+addRow w [] = []
+addRow w (x ∷ l) = (x + w) ∷ l
+
+-- the key of triangle u of weight w over its two parts
+abbrev pub join : ℕ → ℕ → List ℕ → List ℕ → List ℕ
+join w u [] k = []
+join w u (x ∷ l) [] = []
+join w u (x ∷ l) (y ∷ r) = (w + x + y) ∷ u ∷ (l ++ r)
+
+-- a key's total, or 2^63 for 'none'
+abbrev pub costOf : List ℕ → ℕ
+costOf [] = 2 ^ 63
+costOf (x ∷ l) = x
+
+-- a key's triangles
+abbrev pub restOf : List ℕ → List ℕ
+restOf [] = []
+restOf (x ∷ l) = l
+
+module _ (job : Job) where
+  -- the best key beneath the edge (i, j) of triangle t, with the row to t; the first argument bounds the depth
+  unfoldable pub bestUnder : ℕ → ℕ → ℕ → ℕ → List ℕ
+  bestUnder zero t i j = []
+  bestUnder (suc f) t i j = cond (eqb j (i + 1)) (0 ∷ [])
+      (least (map (λ u. addRow (job .row t u) (join (job .weight u) u (bestUnder f u (job .a u) (job .b u)) (bestUnder f u (job .b u) (job .c u)))) (keep (longEdge job i j) (upFrom 0 (job .size)))))
+
+  -- the best key that starts with triangle u
+  unfoldable pub bestFrom : ℕ → ℕ → List ℕ
+  unfolding bestUnder
+  bestFrom f u = join (job .weight u) u (bestUnder f u (job .a u) (job .b u)) (bestUnder f u (job .b u) (job .c u))

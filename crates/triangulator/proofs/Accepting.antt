@@ -1,0 +1,67 @@
+-- A job on which no number is due has all that the dynamic programme needs, and demand 3 holds of its answer.
+use Prim.Native.Nat.{ℕ, zero, suc, _+_, _-_, _≤_, _<_}
+use mathlib.Core.Path.{_≡_, refl, sym, ap, _∙_}
+use mathlib.Core.Bool.{Bool, true, false, cond, _&&_}
+use mathlib.Core.Logic.{inl, inr}
+use mathlib.Core.List.{List, [], _∷_}
+use native.Mathlib.Omega.{arith}
+use lib.ListN.{length, getD}
+use lib.Dec.{eqb}
+use Rattle.triangulation.specs.Triangulations.{best}
+use Rattle.triangulation.specs.Jobs.{jobOf, rowWeight}
+use Rattle.triangulation.specs.Demand3.{Demand3}
+use Rattle.triangulation.proofs.Demand3.{demand3}
+use Rattle.jobs.specs.Job.{jobCode, entryAt, vertexA, vertexB}
+use Rattle.jobs.proofs.Order.{Before, by-a, by-b, by-c, RowBefore, by-outer, by-inner}
+use Rattle.jobs.proofs.Lists.{Candidates}
+use Rattle.jobs.proofs.Count.{candidates-bounded}
+use Rattle.jobs.proofs.Acceptance.{ListsAccepted, accepted}
+use Rattle.minimum_weight.specs.Tables.{WellFormed, rowIsBefore}
+use Rattle.minimum_weight.proofs.RowSearch.{is-before, names-false, none}
+
+row-le : (rows : List (List ℕ)) (b o i : ℕ) → ((k : ℕ) → k < length rows → getD (getD rows k []) 2 0 ≤ b) → rowWeight rows o i ≤ b
+row-le [] b o i h = omega arith
+row-le (r ∷ rows) b o i h = go (eqb (getD r 0 0) o && eqb (getD r 1 0) i) (row-le rows b o i (λ k l. h (suc k) (omega arith)))
+  where
+    go : (t : Bool) → rowWeight rows o i ≤ b → cond t (getD r 2 0) (rowWeight rows o i) ≤ b
+    go true ih = h 0 (omega arith)
+    go false ih = ih
+
+a-up : {s t : List ℕ} → Before s t → vertexA s ≤ vertexA t
+a-up (by-a h) = omega arith
+a-up (by-b e h) = omega arith
+a-up (by-c e f h) = omega arith
+
+b-up : {s t : List ℕ} → Before s t → vertexA s ≡ vertexA t → vertexB s ≤ vertexB t
+b-up (by-a h) e = absurd (omega arith)
+b-up (by-b _ h) e = omega arith
+b-up (by-c _ f h) e = omega arith
+
+row-up : {r s : List ℕ} → RowBefore r s → rowIsBefore r (getD s 0 0) (getD s 1 0) ≡ true
+row-up {r} {s} (by-outer h) = is-before (getD r 0 0) (getD r 1 0) (getD s 0 0) (getD s 1 0) (inl h)
+row-up {r} {s} (by-inner e h) = is-before (getD r 0 0) (getD r 1 0) (getD s 0 0) (getD s 1 0) (inr (e, h))
+
+module _ (n : ℕ) (candidates : List (List ℕ)) (weights : List ℕ) (rows : List (List ℕ)) where
+  pub well-formed : 3 ≤ n → n ≤ 64 → ListsAccepted n candidates weights rows → WellFormed n candidates weights rows
+  well-formed low high ok =
+      let c = ok .candidates-are in
+      let r = ok .rows-are in
+      let w = ok .weights-are in
+      record {
+        valid = record { n3 = low; ab = λ k h. c .ordered k h .a-b; bc = λ k h. c .ordered k h .b-c; cn = λ k h. c .ordered k h .c-n };
+        bounded = record { n64 = high; light = λ k h. w .own k h; row-light = λ o i. row-le rows 2000000000 o i (λ k h. w .of-row k h) };
+        ascending = record { a-up = λ k l h m. a-up (c .ascending k l h m); b-up = λ k l h m. b-up (c .ascending k l h m) };
+        weights-there = ok .weight-places;
+        few = omega (arith, candidates-bounded n candidates c high);
+        rows-ascend = record { up = λ k l h m. row-up (r .ascending k l h m) };
+        no-row = λ u. none (length candidates) u rows (λ k h. names-false _ _ (length candidates) u (λ e f. omega (arith, r .named k h .outer-is, e)));
+      }
+
+  pub accepted-well-formed : (places work-places : ℕ) → jobCode n candidates weights rows places work-places ≡ 0 → WellFormed n candidates weights rows × (length candidates ≤ work-places) × (n ≤ places + 2)
+  accepted-well-formed places work-places e =
+      let a = accepted n candidates weights rows places work-places e in
+      (well-formed (a .at-least) (a .at-most) (a .lists), a .work-room, omega (arith, a .triangle-room))
+
+  -- Demand 3 for every direct job on which no number is due.
+  pub accepted-demand3 : (places work-places : ℕ) → jobCode n candidates weights rows places work-places ≡ 0 → Demand3 (jobOf n candidates weights rows) (best (jobOf n candidates weights rows))
+  accepted-demand3 places work-places e = demand3 (jobOf n candidates weights rows) (accepted-well-formed places work-places e .0 .valid)

@@ -1,0 +1,111 @@
+// The tiler of document 01: the best triangulation of a direct job, or the first number that is due.
+ghost use mathlib.Core.Path.{_≡_};
+ghost use Prim.Native.Nat.{_+_, _≤_};
+ghost use lib.ListN.{length};
+ghost use Rattle.triangulation.specs.Triangulations.{best};
+ghost use Rattle.triangulation.specs.Jobs.{jobOf};
+ghost use Rattle.minimum_weight.specs.Tables.{WellFormed};
+ghost use Rattle.triangulator.specs.Call.{numberOf, trianglesOf, totalOf, partOf, result, settled, triangulated};
+
+// A patch with the number of its triangles and its total, 'none', or the number of a refusal.
+pub enum Outcome {
+    Patch { triangles: usize, total: u64 },
+    None,
+    Refused(u32),
+}
+
+impl Outcome {
+    // The number of a refusal; 0 for a patch and for 'none'.
+    pub fn number(self) -> u32
+        ensures { λ r. ⌜ r ≡ numberOf self ⌝ }
+    {
+        match self {
+            Outcome::Patch {
+                triangles: _,
+                total: _,
+            } => 0,
+            Outcome::None => 0,
+            Outcome::Refused(number) => number,
+        }
+    }
+
+    // How many triangles were written.
+    pub fn triangles(self) -> usize
+        ensures { λ r. ⌜ r ≡ trianglesOf self ⌝ }
+    {
+        match self {
+            Outcome::Patch {
+                triangles,
+                total: _,
+            } => triangles,
+            Outcome::None => 0,
+            Outcome::Refused(_) => 0,
+        }
+    }
+
+    // The total of a patch, else 0.
+    pub fn total(self) -> u64
+        ensures { λ r. ⌜ r ≡ totalOf self ⌝ }
+    {
+        match self {
+            Outcome::Patch {
+                triangles: _,
+                total,
+            } => total,
+            Outcome::None => 0,
+            Outcome::Refused(_) => 0,
+        }
+    }
+}
+
+// The best triangulation of a job on which no number is due.
+pub fn best_triangulation(
+    n: usize,
+    candidates: &[[u8; 3]],
+    weights: &[u32],
+    rows: &[[u32; 3]],
+    triangles: &mut [u16],
+    work: &mut [u64],
+) -> Outcome
+    requires { ⌜ WellFormed n (now candidates) (now weights) (now rows) × (length (now candidates) ≤ length (now work)) × (n ≤ length (now triangles) + 2) ⌝ }
+    ensures { λ r. ⌜ result r (now (triangles .exit)) (now (work .exit)) ≡ settled (best (jobOf n (now (candidates .entry)) (now (weights .entry)) (now (rows .entry)))) (length (now (candidates .entry))) (now (triangles .entry)) (now (work .entry)) ⌝ }
+{
+    let least = minimum_weight::solve(n, candidates, weights, rows, triangles, work);
+    if minimum_weight::NONE <= least {
+        return Outcome::None;
+    }
+    Outcome::Patch {
+        triangles: n - 2,
+        total: least,
+    }
+}
+
+// The tiler's call for a direct job: 14, 13, 15, 16 and 17, then the best triangulation.
+pub fn triangulate(
+    n: usize,
+    candidates: &[[u8; 3]],
+    weights: &[u32],
+    rows: &[[u32; 3]],
+    triangles: &mut [u16],
+    work: &mut [u64],
+) -> Outcome
+    ensures { λ r. ⌜ result r (now (triangles .exit)) (now (work .exit)) ≡ triangulated n (now (candidates .entry)) (now (weights .entry)) (now (rows .entry)) (now (triangles .entry)) (now (work .entry)) ⌝ }
+{
+    let number = jobs::job_code(n, candidates, weights, rows, triangles.len(), work.len());
+    if number != 0 {
+        return Outcome::Refused(number);
+    }
+    best_triangulation(n, candidates, weights, rows, triangles, work)
+}
+
+// The filled part of the triangle table after a call with this outcome.
+pub fn part(triangles: &[u16], outcome: Outcome) -> &[u16]
+    ensures { λ r. ⌜ now r ≡ partOf outcome (now (triangles .entry)) ⌝ }
+{
+    let count = outcome.triangles();
+    if count <= triangles.len() {
+        &triangles[..count]
+    } else {
+        &triangles[..0]
+    }
+}
