@@ -24,7 +24,8 @@ impl Programme {
             let Some(part) = self.parts.get(inner) else { continue };
             let row = outer.and_then(|outer| self.rows.get(&(outer as u32, *inner as u32)));
             let total = part.total + row.copied().unwrap_or(0);
-            let better = |(least, other): (u64, &Tiling)| (total, &part.walk) < (least, &other.walk);
+            let better =
+                |(least, other): (u64, &Tiling)| (total, &part.walk) < (least, &other.walk);
             if best.is_none_or(better) {
                 best = Some((total, part));
             }

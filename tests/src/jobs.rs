@@ -3,6 +3,7 @@
 use crate::calls::{Job, Row, Triangle};
 use crate::law::finder::hangs_on;
 use crate::random::Random;
+use std::collections::HashMap;
 
 /// Every triple of n vertices.
 pub fn all_triples(n: usize) -> Vec<Triangle> {
@@ -13,14 +14,14 @@ pub fn all_triples(n: usize) -> Vec<Triangle> {
 
 /// Every hanging pair (outer, inner) in order, with weight 0.
 pub fn hanging_pairs(candidates: &[Triangle]) -> Vec<Row> {
-    let mut on_edge = vec![Vec::new(); 1 << 16];
-    let edge = |i: u8, j: u8| (i as usize) << 8 | j as usize;
+    let mut on_edge: HashMap<(u8, u8), Vec<u32>> = HashMap::new();
     for (inner, &[a, _, c]) in candidates.iter().enumerate() {
-        on_edge[edge(a, c)].push(inner as u32);
+        on_edge.entry((a, c)).or_default().push(inner as u32);
     }
     let mut rows = Vec::new();
     for (outer, &[a, b, c]) in candidates.iter().enumerate() {
-        for &inner in on_edge[edge(a, b)].iter().chain(&on_edge[edge(b, c)]) {
+        let beneath = [(a, b), (b, c)].into_iter().filter_map(|edge| on_edge.get(&edge));
+        for &inner in beneath.flatten() {
             debug_assert!(hangs_on(candidates[inner as usize], candidates[outer]));
             rows.push([outer as u32, inner, 0]);
         }

@@ -12,7 +12,7 @@ impl Random {
         Random { state: seed }
     }
 
-    pub fn next(&mut self) -> u64 {
+    pub fn next_u64(&mut self) -> u64 {
         self.state = self.state.wrapping_add(0x9e37_79b9_7f4a_7c15);
         let mut z = self.state;
         z = (z ^ (z >> 30)).wrapping_mul(0xbf58_476d_1ce4_e5b9);
@@ -21,12 +21,12 @@ impl Random {
     }
 
     pub fn below(&mut self, bound: usize) -> usize {
-        (self.next() % bound as u64) as usize
+        (self.next_u64() % bound as u64) as usize
     }
 
     /// From low to high, both included.
     pub fn between(&mut self, low: i64, high: i64) -> i64 {
-        low + (self.next() % (high - low + 1) as u64) as i64
+        low + (self.next_u64() % (high - low + 1) as u64) as i64
     }
 
     /// True once in so many times.
@@ -36,7 +36,7 @@ impl Random {
 
     /// From 0 to 1.
     pub fn fraction(&mut self) -> f64 {
-        (self.next() >> 11) as f64 / (1u64 << 53) as f64
+        (self.next_u64() >> 11) as f64 / (1u64 << 53) as f64
     }
 
     pub fn one_of<T: Copy>(&mut self, list: &[T]) -> T {
@@ -57,7 +57,7 @@ pub fn seeds(subject: &str) -> [u64; 2] {
         Ok(text) => text.parse().expect("OUTSIDE_TESTS_SEED is a decimal number"),
         Err(_) => {
             let since = SystemTime::now().duration_since(UNIX_EPOCH).expect("a clock after 1970");
-            Random::new(since.as_nanos() as u64).next() >> 16
+            Random::new(since.as_nanos() as u64).next_u64() >> 16
         }
     };
     let _ = writeln!(std::io::stdout(), "{subject}: OUTSIDE_TESTS_SEED={fresh}");

@@ -84,7 +84,7 @@ impl RimFile {
 
 impl Record {
     pub fn anything(random: &mut Random) -> Record {
-        let any = [random.next(), random.next()];
+        let any = [random.next_u64(), random.next_u64()];
         Record {
             next: any[0] as u16,
             kind: (any[0] >> 16) as u16,
@@ -155,7 +155,8 @@ impl Shape {
     fn point(self, k: usize, n: usize, size: i64, own: [f64; 2], random: &mut Random) -> Point {
         let part = k as f64 / n as f64;
         let angle = TAU * part + own[0];
-        let circle = |radius: f64, height: f64| [radius * angle.cos(), radius * angle.sin(), height];
+        let circle =
+            |radius: f64, height: f64| [radius * angle.cos(), radius * angle.sin(), height];
         let at = match self {
             Shape::NoisyCircle => circle(0.8, 0.0),
             Shape::Saddle => circle(0.8, 0.5 * (2.0 * angle).cos()),

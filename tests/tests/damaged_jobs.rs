@@ -111,7 +111,7 @@ fn disturb(lending: &mut Lending, random: &mut Random) {
     let r = pick(job.rows.len(), random);
     let field = random.below(3);
     match random.below(9) {
-        0 => job.n = random.one_of(&[0, 1, 2, 3, job.n - 1, job.n + 1, 10, 65, 1 << 40]),
+        0 => job.n = random.one_of(&[0, 2, 3, job.n ^ 1, job.n + 1, 10, 65, 1 << 40]),
         1 => lending.places[random.below(2)] = random.below(12),
         2 => job.weights.truncate(random.below(30)),
         3 if !job.candidates.is_empty() => {

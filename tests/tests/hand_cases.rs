@@ -26,7 +26,12 @@ fn expect(job: &Job, number: u32, walk: &[u16], total: u64) {
         let before = Tables::of_job(job, job.n, job.candidates.len() + 1);
         let mut left = before.clone();
         let answer = calls.patch_job(job.n, &mut left);
-        assert_eq!(answer, PatchAnswer { number, triangles: walk.len(), total }, "{}", calls.name());
+        assert_eq!(
+            answer,
+            PatchAnswer { number, triangles: walk.len(), total },
+            "{}",
+            calls.name()
+        );
         let mut expected = before;
         expected.triangles.table()[..walk.len()].copy_from_slice(walk);
         if number == 0 {

@@ -35,11 +35,7 @@ fn compare_all(points: &[Point], random: &mut Random, tables: &Tables, outcomes:
 }
 
 /// Rims of 3 to 9 vertices by a maker of points, from a fixed seed and a fresh one.
-fn run(
-    subject: &str,
-    cases: usize,
-    points: impl Fn(usize, &mut Random) -> Vec<Point>,
-) -> Outcomes {
+fn run(subject: &str, cases: usize, points: impl Fn(usize, &mut Random) -> Vec<Point>) -> Outcomes {
     let tables = Tables::guarded(Places { candidates: 84, weights: 85, work: 86, ..Places::BENCH });
     let mut outcomes = Outcomes::default();
     for seed in seeds(subject) {

@@ -28,7 +28,7 @@ fn grid_numbers() {
     for seed in seeds("grid numbers") {
         let mut random = Random::new(seed);
         for _ in 0..500_000 {
-            let bits = random.next() as u32;
+            let bits = random.next_u64() as u32;
             assert_eq!(grid_number(bits), by_f64(bits), "{bits:08x}");
         }
     }

@@ -69,12 +69,20 @@ impl Pencil {
     }
 }
 
-/// For each (a, b) the mask of c, for each (a, c) the mask of b, and the number of (a, b)'s first.
+/// What is known of the faces on a pair of vertices i < j.
+#[derive(Clone, Copy, Default)]
+struct Pair {
+    /// The mask of c in the faces (i, j, c).
+    last: u64,
+    /// The mask of b in the faces (i, b, j).
+    middle: u64,
+    /// How many faces stand before those of (i, j).
+    before: u32,
+}
+
 pub struct Faces {
     n: usize,
-    last: [[u64; 64]; 64],
-    middle: [[u64; 64]; 64],
-    first_number: [[u32; 64]; 64],
+    pairs: Vec<Pair>,
     candidates: usize,
     rows: usize,
 }
@@ -84,9 +92,7 @@ impl Faces {
     pub fn of(polygon: &Polygon) -> Result<Faces, u32> {
         let mut faces = Faces {
             n: polygon.n,
-            last: [[0; 64]; 64],
-            middle: [[0; 64]; 64],
-            first_number: [[0; 64]; 64],
+            pairs: vec![Pair::default(); polygon.n * polygon.n],
             candidates: 0,
             rows: 0,
         };
@@ -95,9 +101,13 @@ impl Faces {
         Ok(faces)
     }
 
+    fn pair(&self, i: usize, j: usize) -> &Pair {
+        &self.pairs[i * self.n + j]
+    }
+
     fn insert(&mut self, a: usize, b: usize, c: usize) {
-        self.last[a][b] |= 1 << c;
-        self.middle[a][c] |= 1 << b;
+        self.pairs[a * self.n + b].last |= 1 << c;
+        self.pairs[a * self.n + c].middle |= 1 << b;
     }
 
     fn mark(&mut self, polygon: &Polygon) -> Result<(), u32> {
@@ -146,14 +156,15 @@ impl Faces {
     fn count(&mut self) {
         for a in 0..self.n {
             for b in a + 1..self.n {
-                self.first_number[a][b] = self.candidates as u32;
-                let mut rest = self.last[a][b];
-                self.candidates += rest.count_ones() as usize;
-                let left = self.middle[a][b].count_ones() as usize;
+                self.pairs[a * self.n + b].before = self.candidates as u32;
+                let &Pair { last: mut rest, middle, .. } = self.pair(a, b);
+                let faces = rest.count_ones();
+                self.candidates += faces as usize;
+                self.rows += (faces * middle.count_ones()) as usize;
                 while rest != 0 {
                     let c = rest.trailing_zeros() as usize;
                     rest &= rest - 1;
-                    self.rows += left + self.middle[b][c].count_ones() as usize;
+                    self.rows += self.pair(b, c).middle.count_ones() as usize;
                 }
             }
         }
@@ -168,14 +179,15 @@ impl Faces {
     }
 
     fn number(&self, a: usize, b: usize, c: usize) -> u32 {
-        self.first_number[a][b] + (self.last[a][b] & ((1 << c) - 1)).count_ones()
+        let pair = self.pair(a, b);
+        pair.before + (pair.last & ((1 << c) - 1)).count_ones()
     }
 
     pub fn write_candidates(&self, candidates: &mut [Triangle]) {
         let mut places = candidates.iter_mut();
         for a in 0..self.n {
             for b in a + 1..self.n {
-                let mut rest = self.last[a][b];
+                let mut rest = self.pair(a, b).last;
                 while rest != 0 {
                     let c = rest.trailing_zeros();
                     rest &= rest - 1;
@@ -204,7 +216,7 @@ impl Faces {
         for (outer, &triangle) in candidates.iter().enumerate() {
             let [a, b, c] = triangle.map(usize::from);
             for (i, j) in [(a, b), (b, c)] {
-                let mut rest = self.middle[i][j];
+                let mut rest = self.pair(i, j).middle;
                 while rest != 0 {
                     let x = rest.trailing_zeros() as usize;
                     rest &= rest - 1;

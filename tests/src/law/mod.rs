@@ -4,6 +4,7 @@
 
 pub mod finder;
 pub mod grid;
+pub mod program;
 pub mod reader;
 pub mod tests_of_jobs;
 pub mod tilings;
