@@ -108,7 +108,8 @@ fn near(g: i64, random: &mut Random) -> u32 {
     (value as f32).to_bits()
 }
 
-/// The shapes of polygons.
+/// The shapes of polygons. A strip and a spiral run along one side of a ribbon and back along the
+/// other. Two skew lines give the most candidates.
 #[derive(Clone, Copy, Debug, PartialEq, Eq)]
 pub enum Shape {
     NoisyCircle,
@@ -116,6 +117,7 @@ pub enum Shape {
     Strip,
     Spiral,
     Scattered,
+    SkewLines,
     Flat,
     Collinear,
     CubeCorners,
@@ -124,15 +126,22 @@ pub enum Shape {
 
 impl Shape {
     /// Polygons that are accepted as a rule.
-    pub const GENERAL: [Shape; 5] =
-        [Shape::NoisyCircle, Shape::Saddle, Shape::Strip, Shape::Spiral, Shape::Scattered];
-
-    pub const ALL: [Shape; 9] = [
+    pub const GENERAL: [Shape; 6] = [
         Shape::NoisyCircle,
         Shape::Saddle,
         Shape::Strip,
         Shape::Spiral,
         Shape::Scattered,
+        Shape::SkewLines,
+    ];
+
+    pub const ALL: [Shape; 10] = [
+        Shape::NoisyCircle,
+        Shape::Saddle,
+        Shape::Strip,
+        Shape::Spiral,
+        Shape::Scattered,
+        Shape::SkewLines,
         Shape::Flat,
         Shape::Collinear,
         Shape::CubeCorners,
@@ -166,18 +175,23 @@ impl Shape {
                 [0.9 * along, side, 0.3 * (3.0 * along + own[0]).sin()]
             }
             Shape::Spiral => {
-                let turn = own[1] * TAU * part;
-                let radius = 0.2 + 0.6 * part;
-                [radius * turn.cos(), radius * turn.sin(), 1.6 * part - 0.8]
+                let (along, side) =
+                    if part < 0.5 { (2.0 * part, 0.1) } else { (2.0 - 2.0 * part, -0.1) };
+                let turn = own[1] * TAU * along;
+                let radius = 0.25 + 0.55 * along;
+                [radius * turn.cos(), radius * turn.sin(), side + 0.3 * along]
             }
             Shape::Scattered | Shape::Duplicates | Shape::Flat => {
                 [random.fraction(), random.fraction(), random.fraction()].map(|x| 2.0 * x - 1.0)
             }
+            Shape::SkewLines if part < 0.5 => [3.8 * part - 0.95, 0.0, 0.0],
+            Shape::SkewLines => [0.0, 3.8 * part - 2.85, 0.4],
             Shape::Collinear | Shape::CubeCorners => [0.0; 3],
         };
         let noise = match self {
             Shape::NoisyCircle => 0.15,
             Shape::Scattered | Shape::Flat | Shape::Duplicates => 0.0,
+            Shape::Strip | Shape::Spiral | Shape::SkewLines => 0.01,
             _ => 0.03,
         };
         let size = size as f64;
@@ -185,6 +199,8 @@ impl Shape {
         let [x, y, z] =
             [0, 1, 2].map(|i| ((at[i] + noise * (2.0 * jitter[i] - 1.0)) * size).round() as i64);
         match self {
+            Shape::SkewLines if part < 0.5 => [x, 0, 0],
+            Shape::SkewLines => [0, y, z],
             Shape::Flat => [x, y, x],
             Shape::Collinear => [k as i64 - n as i64 / 2, 2 * (k as i64 - n as i64 / 2), 3],
             Shape::CubeCorners => cube_corner(random, size as i64),

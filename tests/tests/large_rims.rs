@@ -13,7 +13,7 @@ fn rims_of_10_to_32() {
     for seed in seeds("rims of 10 to 32") {
         let mut random = Random::new(seed);
         for case in 0..60 {
-            let shape = Shape::GENERAL[case % 5];
+            let shape = Shape::GENERAL[case % 6];
             let n = random.between(10, 32) as usize;
             let size = random.one_of(&[150, 1000]);
             let points = shape.points(n, size, &mut random);
@@ -37,18 +37,21 @@ fn rims_of_64() {
             patches += (answer.triangles == 62) as usize;
         }
     }
-    assert!(patches >= 4, "{patches} patches");
+    assert!(patches >= 2, "{patches} patches");
 }
 
-/// More candidates or rows than the bench program's tables hold.
+/// More candidates than the bench program's tables hold.
 #[test]
-fn spirals_of_64_in_the_tables_of_the_bench_program() {
+fn skew_lines_in_the_tables_of_the_bench_program() {
     let tables = Tables::guarded(Places::BENCH);
-    for seed in seeds("spirals of 64") {
+    for seed in seeds("skew lines") {
         let mut random = Random::new(seed);
-        let points = Shape::Spiral.points(64, 1000, &mut random);
-        let file = RimFile::plain(&points, 1, 1).bytes();
-        compare_rim(&BY_INTERVALS, under_test(), &file, &tables);
+        for (n, number) in [(32, 0), (64, 13)] {
+            let points = Shape::SkewLines.points(n, 1000, &mut random);
+            let file = RimFile::plain(&points, 1, 1).bytes();
+            let answer = compare_rim(&BY_INTERVALS, under_test(), &file, &tables);
+            assert_eq!(answer.number, number);
+        }
     }
 }
 

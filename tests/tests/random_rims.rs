@@ -56,7 +56,7 @@ fn rims_of_every_shape() {
         random.one_of(&Shape::ALL).points(n, size, random)
     });
     assert!(outcomes.patches > 3_000 && outcomes.nones > 2_000, "{outcomes:?}");
-    assert!(outcomes.refused[11] > 300 && outcomes.refused[12] > 300, "{outcomes:?}");
+    assert!(outcomes.refused[11] > 500 && outcomes.refused[12] > 50, "{outcomes:?}");
 }
 
 /// Few different lengths and bends, so that equal totals and fifth vertices are frequent.
@@ -66,7 +66,7 @@ fn rims_on_a_small_lattice() {
         let size = random.one_of(&[1, 2, 3, 5, 8]);
         lattice(n, size, random)
     });
-    assert!(outcomes.patches > 1_000 && outcomes.refused[12] > 1_000, "{outcomes:?}");
+    assert!(outcomes.patches > 1_000 && outcomes.refused[12] > 300, "{outcomes:?}");
 }
 
 /// A convex ring with small heights has tilings as a rule, often many.
@@ -77,5 +77,5 @@ fn rims_with_patches() {
         let size = random.one_of(&[20, 100, 1000]);
         shape.points(n, size, random)
     });
-    assert!(outcomes.patches > 9_000, "{outcomes:?}");
+    assert!(outcomes.patches > 6_000, "{outcomes:?}");
 }
