@@ -20,7 +20,7 @@ fn same<A: PartialEq + std::fmt::Debug>(
     }
 }
 
-/// The one call and the stage calls on a file, with the same tables lent to both.
+/// The one call on a file, with the same tables lent to both.
 pub fn compare_rim(
     expected: &dyn Calls,
     tested: &dyn Calls,

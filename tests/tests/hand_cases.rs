@@ -153,12 +153,13 @@ fn corners_of_a_cube() {
 
 #[test]
 fn a_vertex_on_a_sphere_that_does_not_count() {
-    // Corners of a cube and its centre: the sphere through the corners holds the centre.
+    // Five points on a sphere around the origin, and a sixth inside it: no four of the five count.
     let points =
-        [[0, 0, 0], [40, 0, 0], [40, 40, 0], [20, 20, 20], [0, 40, 0], [0, 0, 40], [40, 40, 40]];
+        [[120, 0, 0], [-40, 80, 80], [-40, -80, -80], [40, -80, 80], [80, 40, -80], [10, 7, 3]];
     let file = RimFile::plain(&points, 1, 1).bytes();
     let mut tables = Tables::guarded(Places::BENCH);
     let answer = BY_SETS.patch_rim(&file, &mut tables);
+    assert_eq!(answer.number, 0);
     for calls in all() {
         let mut left = Tables::guarded(Places::BENCH);
         assert_eq!(calls.patch_rim(&file, &mut left), answer);
