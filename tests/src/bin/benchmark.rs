@@ -1,0 +1,182 @@
+//! Times of the reader, the finder, the tiler and the whole call beside the fast reference in the
+//! same run, over changing rims and jobs. Each figure is the least mean of several rounds, in
+//! microseconds of processor time per call: library, reference, and library / reference. The
+//! finder's call reads the file too. Without the library only the reference is timed.
+
+use outside_tests::calls::{Calls, Job, Places, Tables};
+use outside_tests::fast::Fast;
+use outside_tests::jobs::random_job;
+use outside_tests::library::library;
+use outside_tests::random::Random;
+use outside_tests::rims::{RimFile, Shape};
+use std::hint::black_box;
+
+const SIZES: [usize; 6] = [8, 16, 24, 32, 48, 64];
+const ROUNDS: usize = 5;
+
+/// A round takes about so many microseconds.
+const ROUND: f64 = 15_000.0;
+
+#[repr(C)]
+struct Timespec {
+    seconds: i64,
+    nanoseconds: i64,
+}
+
+extern "C" {
+    fn clock_gettime(clock: i32, time: *mut Timespec) -> i32;
+}
+
+/// Microseconds that this thread has run: other work on the machine does not count.
+fn processor_time() -> f64 {
+    const THREAD_CLOCK: i32 = 3;
+    let mut time = Timespec { seconds: 0, nanoseconds: 0 };
+    // The C library that std links has the function, and `time` is its to write.
+    let status = unsafe { clock_gettime(THREAD_CLOCK, &mut time) };
+    assert_eq!(status, 0, "no clock of the thread's time");
+    time.seconds as f64 * 1e6 + time.nanoseconds as f64 / 1e3
+}
+
+/// Microseconds per call over all cases, by each of the two in turn.
+struct Times {
+    library: Option<f64>,
+    reference: f64,
+}
+
+impl Times {
+    fn shown(&self) -> String {
+        match self.library {
+            None => format!("{:>30.2}", self.reference),
+            Some(own) => {
+                format!("{own:>11.2} {:>11.2} {:>6.2}", self.reference, own / self.reference)
+            }
+        }
+    }
+}
+
+/// One pass over the cases, as often as fills a round.
+fn round(calls: &dyn Calls, cases: usize, times: usize, call: &mut Call) -> f64 {
+    let start = processor_time();
+    for _ in 0..times {
+        (0..cases).for_each(|case| call(calls, case));
+    }
+    (processor_time() - start) / (times * cases) as f64
+}
+
+type Call<'a> = dyn FnMut(&dyn Calls, usize) + 'a;
+
+fn measure(cases: usize, call: &mut Call) -> Times {
+    let one_pass = round(&Fast, cases, 1, call) * cases as f64;
+    let times = (ROUND / one_pass).ceil().clamp(1.0, 10_000.0) as usize;
+    let mut least = Times { library: None, reference: f64::INFINITY };
+    for _ in 0..ROUNDS {
+        if let Some(library) = library() {
+            let own = round(library, cases, times, call);
+            least.library = Some(least.library.map_or(own, |before| before.min(own)));
+        }
+        least.reference = least.reference.min(round(&Fast, cases, times, call));
+    }
+    least
+}
+
+/// Each implementation gives the same answer and the same tables.
+fn check(cases: usize, mut call: impl FnMut(&dyn Calls, usize) -> Tables) {
+    if let Some(library) = library() {
+        for case in 0..cases {
+            let difference = call(library, case).difference(&call(&Fast, case));
+            assert_eq!(difference, None, "library and reference differ");
+        }
+    }
+}
+
+/// The job that the finder makes of a rim.
+fn job_of(file: &[u8], tables: &mut Tables) -> Job {
+    let found = Fast.find_candidates(file, tables);
+    assert_eq!(found.number, 0, "the rims of the benchmark are accepted");
+    Job {
+        n: Fast.read_rim(file).vertices,
+        candidates: tables.candidates.view()[..found.candidates].to_vec(),
+        weights: tables.weights.view()[..found.candidates].to_vec(),
+        rows: tables.rows.view()[..found.rows].to_vec(),
+    }
+}
+
+fn tables_of(job: &Job) -> Tables {
+    Tables::of_job(job, 62, job.candidates.len())
+}
+
+fn rims(shape: Shape, n: usize, random: &mut Random) {
+    let count = 256 / n;
+    let mut tables = Tables::guarded(Places::ENOUGH);
+    let mut file = || RimFile::plain(&shape.points(n, 1000, random), 1, 1).bytes();
+    let files: Vec<Vec<u8>> = (0..count).map(|_| file()).collect();
+    let jobs: Vec<Job> = files.iter().map(|file| job_of(file, &mut tables)).collect();
+    let mut job_tables: Vec<Tables> = jobs.iter().map(tables_of).collect();
+    check(count, |calls, case| {
+        let mut left = Tables::guarded(Places::ENOUGH);
+        calls.patch_rim(&files[case], &mut left);
+        left
+    });
+    let reader = measure(count, &mut |calls, case| {
+        black_box(calls.read_rim(black_box(&files[case])));
+    });
+    let finder = measure(count, &mut |calls, case| {
+        black_box(calls.find_candidates(black_box(&files[case]), &mut tables));
+    });
+    let tiler = measure(count, &mut |calls, case| {
+        black_box(calls.patch_job(n, &mut job_tables[case]));
+    });
+    let whole = measure(count, &mut |calls, case| {
+        black_box(calls.patch_rim(black_box(&files[case]), &mut tables));
+    });
+    let mean = |of: fn(&Job) -> usize| jobs.iter().map(of).sum::<usize>() / count;
+    println!(
+        "{:<12} {n:>2} {:>5} {:>5} {} {} {} {}",
+        format!("{shape:?}"),
+        mean(|job| job.candidates.len()),
+        mean(|job| job.rows.len()),
+        reader.shown(),
+        finder.shown(),
+        tiler.shown(),
+        whole.shown()
+    );
+}
+
+fn jobs(n: usize, rows: usize, random: &mut Random) {
+    let count = if n > 32 { 2 } else { 8 };
+    let jobs: Vec<Job> = (0..count).map(|_| random_job(n, 100, rows, 1000, random)).collect();
+    let mut tables: Vec<Tables> = jobs.iter().map(tables_of).collect();
+    check(count, |calls, case| {
+        let mut left = tables_of(&jobs[case]);
+        calls.patch_job(n, &mut left);
+        left
+    });
+    let tiler = measure(count, &mut |calls, case| {
+        black_box(calls.patch_job(n, &mut tables[case]));
+    });
+    let [candidates, rows] = [jobs[0].candidates.len(), jobs[0].rows.len()];
+    println!("{n:>2} {candidates:>6} {rows:>8} {}", tiler.shown());
+}
+
+fn main() {
+    let under = library().map_or("not linked (build with --features library)", |own| own.name());
+    println!("library: {under}; microseconds per call: library, {}, ratio", Fast.name());
+    let mut random = Random::new(1);
+    let stages = ["reader", "reader and finder", "tiler", "whole call"];
+    let heads: Vec<String> = stages.iter().map(|stage| format!("{stage:>30}")).collect();
+    println!("\nrims\n{:<12} {:>2} {:>5} {:>5} {}", "shape", "n", "cand", "rows", heads.join(" "));
+    for shape in Shape::GENERAL {
+        for n in SIZES {
+            rims(shape, n, &mut random);
+        }
+    }
+    println!(
+        "\ndirect jobs over all triples\n{:>2} {:>6} {:>8} {:>30}",
+        "n", "cand", "rows", "tiler"
+    );
+    for n in SIZES {
+        for rows in [0, 10, 100] {
+            jobs(n, rows, &mut random);
+        }
+    }
+}

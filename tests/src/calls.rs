@@ -1,0 +1,206 @@
+//! The calls of the library, and the tables lent to them.
+
+/// A candidate (a, b, c).
+pub type Triangle = [u8; 3];
+
+/// A row (outer, inner, weight).
+pub type Row = [u32; 3];
+
+/// Number 0 with triangles is a patch, without triangles it is 'none'.
+#[repr(C)]
+#[derive(Clone, Copy, Debug, PartialEq, Eq)]
+pub struct PatchAnswer {
+    pub number: u32,
+    pub triangles: usize,
+    pub total: u64,
+}
+
+impl PatchAnswer {
+    pub const NONE: PatchAnswer = PatchAnswer { number: 0, triangles: 0, total: 0 };
+
+    pub fn refused(number: u32) -> PatchAnswer {
+        PatchAnswer { number, ..PatchAnswer::NONE }
+    }
+}
+
+#[repr(C)]
+#[derive(Clone, Copy, Debug, PartialEq, Eq)]
+pub struct ReadAnswer {
+    pub number: u32,
+    pub vertices: usize,
+}
+
+#[repr(C)]
+#[derive(Clone, Copy, Debug, PartialEq, Eq)]
+pub struct FindAnswer {
+    pub number: u32,
+    pub candidates: usize,
+    pub rows: usize,
+}
+
+/// A value that no call writes, different from place to place.
+pub trait Guard: Copy + PartialEq + std::fmt::Debug {
+    fn guard(place: usize) -> Self;
+}
+
+impl Guard for u16 {
+    fn guard(place: usize) -> u16 {
+        0xc000 + (place % 0x3fff) as u16
+    }
+}
+
+impl Guard for u32 {
+    fn guard(place: usize) -> u32 {
+        0xdead_0000 + (place % 0xffff) as u32
+    }
+}
+
+impl Guard for u64 {
+    fn guard(place: usize) -> u64 {
+        0xdead_beef_0000_0000 + place as u64
+    }
+}
+
+impl Guard for Triangle {
+    fn guard(place: usize) -> Triangle {
+        [200 + (place % 55) as u8, 199, 100 + (place % 99) as u8]
+    }
+}
+
+impl Guard for Row {
+    fn guard(place: usize) -> Row {
+        [u32::guard(place), u32::guard(place + 1), u32::guard(place + 2)]
+    }
+}
+
+/// A table lent to a call, between guarded places that the call must not reach.
+#[derive(Clone, PartialEq, Eq, Debug)]
+pub struct Lent<T> {
+    held: Vec<T>,
+    places: usize,
+}
+
+impl<T: Guard> Lent<T> {
+    const MARGIN: usize = 16;
+
+    /// A table of so many places, each with its guard value.
+    pub fn guarded(places: usize) -> Lent<T> {
+        let held = (0..places + 2 * Self::MARGIN).map(T::guard).collect();
+        Lent { held, places }
+    }
+
+    /// A table that holds a list and no more.
+    pub fn holding(list: &[T]) -> Lent<T> {
+        let mut lent = Lent::guarded(list.len());
+        lent.table().copy_from_slice(list);
+        lent
+    }
+
+    pub fn table(&mut self) -> &mut [T] {
+        &mut self.held[Self::MARGIN..Self::MARGIN + self.places]
+    }
+
+    pub fn view(&self) -> &[T] {
+        &self.held[Self::MARGIN..Self::MARGIN + self.places]
+    }
+
+    /// The first place that differs, counted from the table's first (negative: before it).
+    pub fn difference(&self, other: &Lent<T>) -> Option<(isize, T, T)> {
+        assert_eq!(self.held.len(), other.held.len());
+        let mut pairs = self.held.iter().zip(&other.held);
+        let at = pairs.position(|(x, y)| x != y)?;
+        Some((at as isize - Self::MARGIN as isize, self.held[at], other.held[at]))
+    }
+}
+
+/// How many places each table has.
+#[derive(Clone, Copy, Debug, PartialEq, Eq)]
+pub struct Places {
+    pub triangles: usize,
+    pub candidates: usize,
+    pub weights: usize,
+    pub rows: usize,
+    pub work: usize,
+}
+
+impl Places {
+    /// The tables of the bench program.
+    pub const BENCH: Places =
+        Places { triangles: 62, candidates: 1024, weights: 1024, rows: 4096, work: 1024 };
+
+    /// Enough for any rim.
+    pub const ENOUGH: Places =
+        Places { triangles: 62, candidates: 41_664, weights: 41_664, rows: 83_328, work: 41_664 };
+}
+
+/// The five tables of a call.
+#[derive(Clone, PartialEq, Eq, Debug)]
+pub struct Tables {
+    pub triangles: Lent<u16>,
+    pub candidates: Lent<Triangle>,
+    pub weights: Lent<u32>,
+    pub rows: Lent<Row>,
+    pub work: Lent<u64>,
+}
+
+impl Tables {
+    pub fn guarded(places: Places) -> Tables {
+        Tables {
+            triangles: Lent::guarded(places.triangles),
+            candidates: Lent::guarded(places.candidates),
+            weights: Lent::guarded(places.weights),
+            rows: Lent::guarded(places.rows),
+            work: Lent::guarded(places.work),
+        }
+    }
+
+    /// The tables of a direct job.
+    pub fn of_job(job: &Job, triangles: usize, work: usize) -> Tables {
+        Tables {
+            triangles: Lent::guarded(triangles),
+            candidates: Lent::holding(&job.candidates),
+            weights: Lent::holding(&job.weights),
+            rows: Lent::holding(&job.rows),
+            work: Lent::guarded(work),
+        }
+    }
+
+    /// What differs first, in words.
+    pub fn difference(&self, other: &Tables) -> Option<String> {
+        fn said<T: Guard>(name: &str, one: &Lent<T>, two: &Lent<T>) -> Option<String> {
+            let (at, x, y) = one.difference(two)?;
+            Some(format!("{name} place {at}: {x:?} and {y:?}"))
+        }
+        said("triangles", &self.triangles, &other.triangles)
+            .or_else(|| said("candidates", &self.candidates, &other.candidates))
+            .or_else(|| said("weights", &self.weights, &other.weights))
+            .or_else(|| said("rows", &self.rows, &other.rows))
+            .or_else(|| said("work", &self.work, &other.work))
+    }
+}
+
+/// A direct job. The weight table may be longer or shorter than the list of candidates.
+#[derive(Clone, Debug, PartialEq, Eq)]
+pub struct Job {
+    pub n: usize,
+    pub candidates: Vec<Triangle>,
+    pub weights: Vec<u32>,
+    pub rows: Vec<Row>,
+}
+
+/// What the library does, and each reference too.
+pub trait Calls {
+    fn name(&self) -> &'static str;
+
+    /// The one call over all three stages.
+    fn patch_rim(&self, file: &[u8], tables: &mut Tables) -> PatchAnswer;
+
+    /// A direct job, which stands in the candidate, weight and row tables.
+    fn patch_job(&self, n: usize, tables: &mut Tables) -> PatchAnswer;
+
+    /// The reader alone.
+    fn read_rim(&self, file: &[u8]) -> ReadAnswer;
+
+    /// The reader and the finder; the triangle and work tables are not lent.
+    fn find_candidates(&self, file: &[u8], tables: &mut Tables) -> FindAnswer;
+}

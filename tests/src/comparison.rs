@@ -1,0 +1,73 @@
+//! One call made by two, with the answers and every place of every table compared.
+
+use crate::calls::{Calls, FindAnswer, Job, PatchAnswer, Tables};
+
+/// Bytes in hexadecimal.
+pub fn hexadecimal(bytes: &[u8]) -> String {
+    bytes.iter().map(|byte| format!("{byte:02x}")).collect()
+}
+
+fn same<A: PartialEq + std::fmt::Debug>(
+    calls: [&dyn Calls; 2],
+    answers: [A; 2],
+    tables: [&Tables; 2],
+    case: &dyn Fn() -> String,
+) {
+    let names = [calls[0].name(), calls[1].name()];
+    assert!(answers[0] == answers[1], "{names:?} differ: {answers:?} on {}", case());
+    if let Some(difference) = tables[0].difference(tables[1]) {
+        panic!("{names:?} differ: {difference} on {}", case());
+    }
+}
+
+/// The one call on a file, with the same tables lent to both.
+pub fn compare_rim(
+    expected: &dyn Calls,
+    tested: &dyn Calls,
+    file: &[u8],
+    tables: &Tables,
+) -> PatchAnswer {
+    let case = || format!("file {}", hexadecimal(file));
+    let mut left = [tables.clone(), tables.clone()];
+    let answers = [expected.patch_rim(file, &mut left[0]), tested.patch_rim(file, &mut left[1])];
+    same([expected, tested], answers, [&left[0], &left[1]], &case);
+    answers[0]
+}
+
+/// The finder's call on a file.
+pub fn compare_finder(
+    expected: &dyn Calls,
+    tested: &dyn Calls,
+    file: &[u8],
+    tables: &Tables,
+) -> FindAnswer {
+    let case = || format!("file {}", hexadecimal(file));
+    let mut left = [tables.clone(), tables.clone()];
+    let answers =
+        [expected.find_candidates(file, &mut left[0]), tested.find_candidates(file, &mut left[1])];
+    same([expected, tested], answers, [&left[0], &left[1]], &case);
+    answers[0]
+}
+
+/// The reader's call on a file.
+pub fn compare_reader(expected: &dyn Calls, tested: &dyn Calls, file: &[u8]) -> u32 {
+    let answers = [expected.read_rim(file), tested.read_rim(file)];
+    let names = [expected.name(), tested.name()];
+    assert!(answers[0] == answers[1], "{names:?}: {answers:?} on file {}", hexadecimal(file));
+    answers[0].number
+}
+
+/// A direct job, with so many places in the triangle and work tables.
+pub fn compare_job(
+    expected: &dyn Calls,
+    tested: &dyn Calls,
+    job: &Job,
+    places: [usize; 2],
+) -> PatchAnswer {
+    let case = || format!("{places:?} places and {job:?}");
+    let before = Tables::of_job(job, places[0], places[1]);
+    let mut left = [before.clone(), before];
+    let answers = [expected.patch_job(job.n, &mut left[0]), tested.patch_job(job.n, &mut left[1])];
+    same([expected, tested], answers, [&left[0], &left[1]], &case);
+    answers[0]
+}

@@ -1,0 +1,200 @@
+//! Damage to a rim file, and the number that document 01 gives for it.
+
+use crate::rims::{Record, RimFile};
+
+/// One thing wrong with a file. Chain positions count from 0; the records of the undamaged file
+/// stand in chain order, so position p is record p + 1.
+#[derive(Clone, Copy, Debug, PartialEq, Eq)]
+pub enum Damage {
+    /// One record fewer than the header says.
+    Length,
+    /// 257 records, and a length that fits them.
+    Records257,
+    AreaFactor(u16),
+    /// The link to this position leads past the last record.
+    Link(usize, u16),
+    /// The link to the first position leads to the second.
+    Repeat(usize, usize),
+    /// A chain of 65 records.
+    TooMany,
+    Kind(usize, u16),
+    /// The first record is a level point.
+    NoHeight,
+    /// One of the three numbers has these bits, which are not finite.
+    NotFinite(usize, usize, u32),
+    /// A level point with these bits in its last four bytes.
+    Tail(usize, u32),
+    /// One of the three numbers has these bits, with 8v out of range.
+    OutOfRange(usize, usize, u32),
+    /// The chain ends after this many records.
+    TooFew(usize),
+    /// The second position has the numbers of the first.
+    SamePoint(usize, usize),
+}
+
+use Damage::*;
+
+const NAN: u32 = 0x7fc0_0000;
+const SIGNALLING_NAN: u32 = 0xff80_0001;
+const INFINITY: u32 = 0x7f80_0000;
+const MINUS_INFINITY: u32 = 0xff80_0000;
+const MINUS_ZERO: u32 = 0x8000_0000;
+const ABOVE_125: u32 = 0x42fa_0001;
+const BELOW_MINUS_125: u32 = 0xc2fa_0001;
+const LARGEST: u32 = 0x7f7f_ffff;
+
+/// Each number 1 to 11 in several ways, for a chain of at least 6 records.
+pub const ALL: [Damage; 41] = [
+    Length,
+    Records257,
+    AreaFactor(17),
+    AreaFactor(0xffff),
+    Link(0, 0),
+    Link(0, 0xfe00),
+    Link(1, 0),
+    Link(3, 0),
+    Link(5, 0xfe00),
+    Repeat(1, 0),
+    Repeat(3, 1),
+    Repeat(5, 4),
+    Repeat(4, 0),
+    TooMany,
+    Kind(0, 0),
+    Kind(0, 3),
+    Kind(2, 257),
+    Kind(3, 258),
+    Kind(5, 0xffff),
+    NoHeight,
+    NotFinite(0, 0, NAN),
+    NotFinite(1, 1, INFINITY),
+    NotFinite(3, 2, MINUS_INFINITY),
+    NotFinite(5, 0, SIGNALLING_NAN),
+    Tail(1, MINUS_ZERO),
+    Tail(3, 1),
+    Tail(4, NAN),
+    Tail(5, 0x3f80_0000),
+    OutOfRange(0, 2, ABOVE_125),
+    OutOfRange(1, 0, BELOW_MINUS_125),
+    OutOfRange(2, 1, LARGEST),
+    OutOfRange(3, 0, LARGEST | MINUS_ZERO),
+    OutOfRange(4, 2, 0x42fa_8000),
+    OutOfRange(5, 1, ABOVE_125),
+    TooFew(0),
+    TooFew(1),
+    TooFew(2),
+    SamePoint(0, 1),
+    SamePoint(0, 5),
+    SamePoint(2, 3),
+    SamePoint(1, 4),
+];
+
+impl Damage {
+    pub fn number(self) -> u32 {
+        match self {
+            Length | Records257 => 1,
+            AreaFactor(_) => 2,
+            Link(..) => 3,
+            Repeat(..) => 4,
+            TooMany => 5,
+            Kind(..) => 6,
+            NoHeight => 7,
+            NotFinite(..) | Tail(..) => 8,
+            OutOfRange(..) => 9,
+            TooFew(_) => 10,
+            SamePoint(..) => 11,
+        }
+    }
+
+    /// When the damage is met: before the chain, at a position along it, after it. A chain that
+    /// ends early ends before whatever is wrong at the next position.
+    fn when(self) -> (u32, usize, u32) {
+        match self {
+            Length | Records257 | AreaFactor(_) => (0, 0, self.number()),
+            Link(p, _) | Repeat(p, _) | Kind(p, _) => (1, p, self.number()),
+            NotFinite(p, ..) | Tail(p, _) | OutOfRange(p, ..) => (1, p, self.number()),
+            NoHeight => (1, 0, self.number()),
+            TooMany => (1, 64, self.number()),
+            TooFew(p) => (1, p, 0),
+            SamePoint(..) => (2, 0, self.number()),
+        }
+    }
+
+    /// The number due on a file with both.
+    pub fn first_of(self, other: Damage) -> u32 {
+        if self.when() <= other.when() {
+            self.number()
+        } else {
+            other.number()
+        }
+    }
+
+    /// The two write the same bytes, or one undoes the other.
+    pub fn conflicts(self, other: Damage) -> bool {
+        let touched = [self.touched(), other.touched()];
+        touched[0].iter().any(|field| touched[1].contains(field))
+    }
+
+    /// The fields written: the header's, then for each record its link in, kind and numbers.
+    fn touched(self) -> Vec<(usize, usize)> {
+        const HEADER: usize = usize::MAX;
+        match self {
+            Length | Records257 => vec![(HEADER, 0)],
+            AreaFactor(_) => vec![(HEADER, 1)],
+            Link(p, _) | Repeat(p, _) | TooFew(p) => vec![(p, 0)],
+            TooMany => vec![],
+            Kind(p, _) => vec![(p, 1)],
+            NoHeight => vec![(0, 1), (0, 4)],
+            NotFinite(p, k, _) | OutOfRange(p, k, _) => vec![(p, 2 + k)],
+            Tail(p, _) => vec![(p, 1), (p, 4)],
+            SamePoint(p, q) => [p, q].iter().flat_map(|&p| (1..5).map(move |k| (p, k))).collect(),
+        }
+    }
+
+    fn set_link(file: &mut RimFile, p: usize, link: u16) {
+        match p {
+            0 => file.first = link,
+            _ => file.records[p - 1].next = link,
+        }
+    }
+
+    /// A chain of at least 65 records, with all that follow in order.
+    fn lengthen(file: &mut RimFile) {
+        let last = file.records.len();
+        file.records[last - 1].next = last as u16 + 1;
+        for k in last..66 {
+            let bits = [k as f32, -(k as f32), 1.0].map(f32::to_bits);
+            file.records.push(Record { next: k as u16 + 2, kind: 1, bits });
+        }
+        file.records[65].next = 0;
+        file.declared = file.records.len() as u16;
+    }
+
+    pub fn apply(self, file: &mut RimFile) {
+        match self {
+            Length => {
+                file.declared += 1;
+            }
+            Records257 => {
+                let any = file.records[0];
+                file.records.resize(257, any);
+                file.declared = 257;
+            }
+            AreaFactor(factor) => file.area_factor = factor,
+            Link(p, more) => Damage::set_link(file, p, file.declared + 1 + more),
+            Repeat(p, q) => Damage::set_link(file, p, q as u16 + 1),
+            TooMany => Damage::lengthen(file),
+            Kind(p, kind) => file.records[p].kind = kind,
+            NoHeight => {
+                file.records[0].kind = 2;
+                file.records[0].bits[2] = 0;
+            }
+            NotFinite(p, k, bits) | OutOfRange(p, k, bits) => file.records[p].bits[k] = bits,
+            Tail(p, bits) => {
+                file.records[p].kind = 2;
+                file.records[p].bits[2] = bits;
+            }
+            TooFew(p) => Damage::set_link(file, p, 0),
+            SamePoint(p, q) => file.records[q].bits = file.records[p].bits,
+        }
+    }
+}

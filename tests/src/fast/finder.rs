@@ -1,0 +1,236 @@
+//! The Delaunay faces of a polygon as masks, and the lists made from them.
+
+use super::reader::Polygon;
+use crate::calls::{Row, Triangle};
+
+type Vector = [i64; 3];
+
+fn minus(p: Vector, q: Vector) -> Vector {
+    [p[0] - q[0], p[1] - q[1], p[2] - q[2]]
+}
+
+fn dot(u: Vector, v: Vector) -> i64 {
+    u[0] * v[0] + u[1] * v[1] + u[2] * v[2]
+}
+
+fn cross(u: Vector, v: Vector) -> Vector {
+    [u[1] * v[2] - u[2] * v[1], u[2] * v[0] - u[0] * v[2], u[0] * v[1] - u[1] * v[0]]
+}
+
+/// A vector from the first corner, with its squared length.
+#[derive(Clone, Copy)]
+struct Lifted {
+    at: Vector,
+    square: i64,
+}
+
+/// A sphere through the origin: q is inside where orient · (orient |q|² - bound · q) is negative.
+/// The sign of `orient` is already taken into both.
+struct Sphere {
+    orient: i64,
+    bound: Vector,
+}
+
+impl Sphere {
+    fn side(&self, q: &Lifted) -> i64 {
+        self.orient * q.square - dot(self.bound, q.at)
+    }
+}
+
+/// What two corners alone decide of the sphere.
+struct Pencil {
+    normal: Vector,
+    u: Lifted,
+    v: Lifted,
+    /// |u|² v - |v|² u.
+    mixed: Vector,
+}
+
+impl Pencil {
+    fn new(u: Lifted, v: Lifted) -> Pencil {
+        let mixed = [0, 1, 2].map(|k| u.square * v.at[k] - v.square * u.at[k]);
+        Pencil { normal: cross(u.at, v.at), u, v, mixed }
+    }
+
+    /// |u|² (v × t) + |v|² (t × u) + |t|² (u × v), and u · (v × t).
+    fn sphere(&self, t: &Lifted) -> Option<Sphere> {
+        let orient = dot(self.normal, t.at);
+        if orient == 0 {
+            return None;
+        }
+        let turned = cross(self.mixed, t.at);
+        let bound = [0, 1, 2].map(|k| turned[k] + t.square * self.normal[k]);
+        debug_assert_eq!(orient, dot(self.u.at, cross(self.v.at, t.at)));
+        if orient < 0 {
+            Some(Sphere { orient: -orient, bound: bound.map(|x| -x) })
+        } else {
+            Some(Sphere { orient, bound })
+        }
+    }
+}
+
+/// What is known of the faces on a pair of vertices i < j.
+#[derive(Clone, Copy, Default)]
+struct Pair {
+    /// The mask of c in the faces (i, j, c).
+    last: u64,
+    /// The mask of b in the faces (i, b, j).
+    middle: u64,
+    /// How many faces stand before those of (i, j).
+    before: u32,
+}
+
+pub struct Faces {
+    n: usize,
+    pairs: Vec<Pair>,
+    candidates: usize,
+    rows: usize,
+}
+
+impl Faces {
+    /// The faces of the fours that count, or 12.
+    pub fn of(polygon: &Polygon) -> Result<Faces, u32> {
+        let mut faces = Faces {
+            n: polygon.n,
+            pairs: vec![Pair::default(); polygon.n * polygon.n],
+            candidates: 0,
+            rows: 0,
+        };
+        faces.mark(polygon)?;
+        faces.count();
+        Ok(faces)
+    }
+
+    fn pair(&self, i: usize, j: usize) -> &Pair {
+        &self.pairs[i * self.n + j]
+    }
+
+    fn insert(&mut self, a: usize, b: usize, c: usize) {
+        self.pairs[a * self.n + b].last |= 1 << c;
+        self.pairs[a * self.n + c].middle |= 1 << b;
+    }
+
+    fn mark(&mut self, polygon: &Polygon) -> Result<(), u32> {
+        let n = polygon.n;
+        let vertices = &polygon.vertices[..n];
+        let mut lifted = [Lifted { at: [0; 3], square: 0 }; 64];
+        let mut dropper = 0;
+        for a in 0..n {
+            for (place, &vertex) in lifted.iter_mut().zip(vertices) {
+                let at = minus(vertex, vertices[a]);
+                *place = Lifted { at, square: dot(at, at) };
+            }
+            let lifted = &lifted[..n];
+            for b in a + 1..n {
+                for c in b + 1..n {
+                    let pencil = Pencil::new(lifted[b], lifted[c]);
+                    'next: for d in c + 1..n {
+                        let Some(sphere) = pencil.sphere(&lifted[d]) else { continue };
+                        // The vertex that dropped the last four often drops this one.
+                        if sphere.side(&lifted[dropper]) < 0 {
+                            continue;
+                        }
+                        let mut on = 0;
+                        for (v, q) in lifted.iter().enumerate() {
+                            let side = sphere.side(q);
+                            if side < 0 {
+                                dropper = v;
+                                continue 'next;
+                            }
+                            on += (side == 0) as u32;
+                        }
+                        if on > 4 {
+                            return Err(12);
+                        }
+                        self.insert(a, b, c);
+                        self.insert(a, b, d);
+                        self.insert(a, c, d);
+                        self.insert(b, c, d);
+                    }
+                }
+            }
+        }
+        Ok(())
+    }
+
+    fn count(&mut self) {
+        for a in 0..self.n {
+            for b in a + 1..self.n {
+                self.pairs[a * self.n + b].before = self.candidates as u32;
+                let &Pair { last: mut rest, middle, .. } = self.pair(a, b);
+                let faces = rest.count_ones();
+                self.candidates += faces as usize;
+                self.rows += (faces * middle.count_ones()) as usize;
+                while rest != 0 {
+                    let c = rest.trailing_zeros() as usize;
+                    rest &= rest - 1;
+                    self.rows += self.pair(b, c).middle.count_ones() as usize;
+                }
+            }
+        }
+    }
+
+    pub fn candidates(&self) -> usize {
+        self.candidates
+    }
+
+    pub fn rows(&self) -> usize {
+        self.rows
+    }
+
+    fn number(&self, a: usize, b: usize, c: usize) -> u32 {
+        let pair = self.pair(a, b);
+        pair.before + (pair.last & ((1 << c) - 1)).count_ones()
+    }
+
+    pub fn write_candidates(&self, candidates: &mut [Triangle]) {
+        let mut places = candidates.iter_mut();
+        for a in 0..self.n {
+            for b in a + 1..self.n {
+                let mut rest = self.pair(a, b).last;
+                while rest != 0 {
+                    let c = rest.trailing_zeros();
+                    rest &= rest - 1;
+                    *places.next().expect("counted") = [a as u8, b as u8, c as u8];
+                }
+            }
+        }
+    }
+
+    pub fn write_weights_and_rows(
+        &self,
+        polygon: &Polygon,
+        candidates: &[Triangle],
+        weights: &mut [u32],
+        rows: &mut [Row],
+    ) {
+        let mut normals = Vec::with_capacity(candidates.len());
+        for (place, &triangle) in weights.iter_mut().zip(candidates) {
+            let [p, q, r] = triangle.map(|k| polygon.vertices[k as usize]);
+            let normal = cross(minus(q, p), minus(r, p));
+            let m = (dot(normal, normal) as u64).isqrt() as i64;
+            *place = polygon.area_factor * m as u32;
+            normals.push((normal, m));
+        }
+        let mut places = rows.iter_mut();
+        for (outer, &triangle) in candidates.iter().enumerate() {
+            let [a, b, c] = triangle.map(usize::from);
+            for (i, j) in [(a, b), (b, c)] {
+                let mut rest = self.pair(i, j).middle;
+                while rest != 0 {
+                    let x = rest.trailing_zeros() as usize;
+                    rest &= rest - 1;
+                    let inner = self.number(i, x, j);
+                    let bend = bend(normals[inner as usize], normals[outer]);
+                    let place = places.next().expect("counted");
+                    *place = [outer as u32, inner, polygon.bend_factor * bend];
+                }
+            }
+        }
+    }
+}
+
+fn bend((t, m): (Vector, i64), (u, k): (Vector, i64)) -> u32 {
+    let quotient = (1000 * dot(t, u)).div_euclid(m * k);
+    (1000 - quotient.clamp(-1000, 1000)) as u32
+}

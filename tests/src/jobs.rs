@@ -1,0 +1,44 @@
+//! Direct jobs.
+
+use crate::calls::{Job, Row, Triangle};
+use crate::law::finder::hangs_on;
+use crate::random::Random;
+use std::collections::HashMap;
+
+/// Every triple of n vertices.
+pub fn all_triples(n: usize) -> Vec<Triangle> {
+    let n = n as u8;
+    let pairs = (0..n).flat_map(move |a| (a + 1..n).map(move |b| (a, b)));
+    pairs.flat_map(move |(a, b)| (b + 1..n).map(move |c| [a, b, c])).collect()
+}
+
+/// Every hanging pair (outer, inner) in order, with weight 0.
+pub fn hanging_pairs(candidates: &[Triangle]) -> Vec<Row> {
+    let mut on_edge: HashMap<(u8, u8), Vec<u32>> = HashMap::new();
+    for (inner, &[a, _, c]) in candidates.iter().enumerate() {
+        on_edge.entry((a, c)).or_default().push(inner as u32);
+    }
+    let mut rows = Vec::new();
+    for (outer, &[a, b, c]) in candidates.iter().enumerate() {
+        let beneath = [(a, b), (b, c)].into_iter().filter_map(|edge| on_edge.get(&edge));
+        for &inner in beneath.flatten() {
+            debug_assert!(hangs_on(candidates[inner as usize], candidates[outer]));
+            rows.push([outer as u32, inner, 0]);
+        }
+    }
+    rows
+}
+
+/// A job over a random part of the triples: of `keep` in 100 candidates and `rows` in 100 rows,
+/// with weights up to `highest`.
+pub fn random_job(n: usize, keep: usize, rows: usize, highest: u32, random: &mut Random) -> Job {
+    let mut candidates = all_triples(n);
+    candidates.retain(|_| random.below(100) < keep);
+    let weights = candidates.iter().map(|_| random.below(highest as usize + 1) as u32).collect();
+    let mut pairs = hanging_pairs(&candidates);
+    pairs.retain(|_| random.below(100) < rows);
+    for row in &mut pairs {
+        row[2] = random.below(highest as usize + 1) as u32;
+    }
+    Job { n, candidates, weights, rows: pairs }
+}

@@ -1,0 +1,115 @@
+//! A plain reference written from document 01, with nothing of the library's method: exact values
+//! of floats, spheres by their rational centres, triangulations as sets of candidates judged by
+//! edge counts.
+
+pub mod finder;
+pub mod grid;
+pub mod program;
+pub mod reader;
+pub mod tests_of_jobs;
+pub mod tilings;
+
+use crate::calls::{Calls, FindAnswer, Job, PatchAnswer, ReadAnswer, Tables};
+use crate::interval;
+use finder::Lists;
+use tilings::Tiling;
+
+/// The reference: what document 01 says of a call, with a choice of how the best tiling is found.
+pub struct Law {
+    name: &'static str,
+    best: fn(&Job) -> Option<Tiling>,
+}
+
+/// Every set of candidates is looked at: for small polygons.
+pub const BY_SETS: Law = Law { name: "law by sets", best: tilings::best };
+
+/// For polygons too large for sets.
+pub const BY_INTERVALS: Law = Law { name: "law by intervals", best: interval::best };
+
+fn fill<T: Copy>(table: &mut [T], list: &[T]) {
+    table[..list.len()].copy_from_slice(list);
+}
+
+/// The candidate, weight and row tables have a place for each element of the lists.
+fn lists_fit(lists: &Lists, tables: &Tables) -> bool {
+    lists.candidates.len() <= tables.candidates.view().len()
+        && lists.candidates.len() <= tables.weights.view().len()
+        && lists.rows.len() <= tables.rows.view().len()
+}
+
+fn write_lists(lists: &Lists, tables: &mut Tables) {
+    fill(tables.candidates.table(), &lists.candidates);
+    fill(tables.weights.table(), &lists.weights);
+    fill(tables.rows.table(), &lists.rows);
+}
+
+/// After a patch or 'none': zero in one work place per candidate, and the triangles of a patch.
+fn write_patch(best: Option<Tiling>, candidates: usize, tables: &mut Tables) -> PatchAnswer {
+    tables.work.table()[..candidates].fill(0);
+    match best {
+        None => PatchAnswer::NONE,
+        Some(tiling) => {
+            fill(tables.triangles.table(), &tiling.walk);
+            PatchAnswer { number: 0, triangles: tiling.walk.len(), total: tiling.total }
+        }
+    }
+}
+
+impl Calls for Law {
+    fn name(&self) -> &'static str {
+        self.name
+    }
+
+    fn patch_rim(&self, file: &[u8], tables: &mut Tables) -> PatchAnswer {
+        let found = reader::read(file).and_then(|rim| Ok((rim.points.len(), finder::find(&rim)?)));
+        let (n, lists) = match found {
+            Err(number) => return PatchAnswer::refused(number),
+            Ok(found) => found,
+        };
+        let candidates = lists.candidates.len();
+        let short = tables.triangles.view().len() < n - 2
+            || tables.work.view().len() < candidates
+            || !lists_fit(&lists, tables);
+        if short {
+            return PatchAnswer::refused(13);
+        }
+        write_lists(&lists, tables);
+        let Lists { candidates: triples, weights, rows } = lists;
+        let job = Job { n, candidates: triples, weights, rows };
+        write_patch((self.best)(&job), candidates, tables)
+    }
+
+    fn patch_job(&self, n: usize, tables: &mut Tables) -> PatchAnswer {
+        let job = Job {
+            n,
+            candidates: tables.candidates.view().to_vec(),
+            weights: tables.weights.view().to_vec(),
+            rows: tables.rows.view().to_vec(),
+        };
+        let places = (tables.triangles.view().len(), tables.work.view().len());
+        if let Some(number) = tests_of_jobs::number_due(&job, places.0, places.1) {
+            return PatchAnswer::refused(number);
+        }
+        write_patch((self.best)(&job), job.candidates.len(), tables)
+    }
+
+    fn read_rim(&self, file: &[u8]) -> ReadAnswer {
+        match reader::read(file) {
+            Err(number) => ReadAnswer { number, vertices: 0 },
+            Ok(rim) => ReadAnswer { number: 0, vertices: rim.points.len() },
+        }
+    }
+
+    fn find_candidates(&self, file: &[u8], tables: &mut Tables) -> FindAnswer {
+        let refused = |number| FindAnswer { number, candidates: 0, rows: 0 };
+        let lists = match reader::read(file).and_then(|rim| finder::find(&rim)) {
+            Err(number) => return refused(number),
+            Ok(lists) => lists,
+        };
+        if !lists_fit(&lists, tables) {
+            return refused(13);
+        }
+        write_lists(&lists, tables);
+        FindAnswer { number: 0, candidates: lists.candidates.len(), rows: lists.rows.len() }
+    }
+}

@@ -1,0 +1,30 @@
+//! What the bench program prints for a file.
+
+use super::BY_INTERVALS;
+use crate::calls::{Calls, Places, Tables};
+use std::fmt::Write;
+
+pub fn output(file: &[u8]) -> String {
+    let mut tables = Tables::guarded(Places::BENCH);
+    let answer = BY_INTERVALS.patch_rim(file, &mut tables);
+    if answer.number != 0 {
+        return format!("refused {}\n", answer.number);
+    }
+    if answer.triangles == 0 {
+        return String::from("none\n");
+    }
+    let patch = &tables.triangles.view()[..answer.triangles];
+    let found = BY_INTERVALS.find_candidates(file, &mut Tables::guarded(Places::BENCH));
+    let rows = &tables.rows.view()[..found.rows];
+    let (vertices, total) = (answer.triangles + 2, answer.total);
+    let mut text = format!("patch {vertices} {} {total}\n", answer.triangles);
+    for &inner in patch {
+        let [a, b, c] = tables.candidates.view()[inner as usize];
+        let weight = tables.weights.view()[inner as usize];
+        // The one row of the patch in which this triangle is inner; the first triangle has none.
+        let mut of_patch = rows.iter().filter(|row| patch.contains(&(row[0] as u16)));
+        let row = of_patch.find(|row| row[1] == inner as u32).map_or(0, |row| row[2]);
+        writeln!(text, "{a} {b} {c} {weight} {row}").expect("a string takes any text");
+    }
+    text
+}

@@ -1,0 +1,16 @@
+//! Tests of the patch library from outside, through its C boundary.
+//!
+//! `law` is a plain reference written from document 01. `interval` finds the best triangulation of
+//! larger polygons in another way. `fast` uses the library's own method, for the benchmark.
+//! `library` calls the library itself.
+
+pub mod calls;
+pub mod comparison;
+pub mod damage;
+pub mod fast;
+pub mod interval;
+pub mod jobs;
+pub mod law;
+pub mod library;
+pub mod random;
+pub mod rims;

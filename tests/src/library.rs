@@ -1,0 +1,147 @@
+//! The library itself, through its C boundary. A slice passes as a pointer and a length.
+
+use crate::calls::Calls;
+use crate::fast::Fast;
+
+#[cfg(feature = "library")]
+mod linked {
+    use crate::calls::{Calls, FindAnswer, PatchAnswer, ReadAnswer, Row, Tables, Triangle};
+
+    extern "C" {
+        fn patch_rim(
+            file: *const u8,
+            file_len: usize,
+            triangles: *mut u16,
+            triangles_len: usize,
+            candidates: *mut Triangle,
+            candidates_len: usize,
+            weights: *mut u32,
+            weights_len: usize,
+            rows: *mut Row,
+            rows_len: usize,
+            work: *mut u64,
+            work_len: usize,
+        ) -> PatchAnswer;
+
+        fn patch_job(
+            n: usize,
+            candidates: *const Triangle,
+            candidates_len: usize,
+            weights: *const u32,
+            weights_len: usize,
+            rows: *const Row,
+            rows_len: usize,
+            triangles: *mut u16,
+            triangles_len: usize,
+            work: *mut u64,
+            work_len: usize,
+        ) -> PatchAnswer;
+
+        fn read_rim(file: *const u8, file_len: usize) -> ReadAnswer;
+
+        fn find_candidates(
+            file: *const u8,
+            file_len: usize,
+            candidates: *mut Triangle,
+            candidates_len: usize,
+            weights: *mut u32,
+            weights_len: usize,
+            rows: *mut Row,
+            rows_len: usize,
+        ) -> FindAnswer;
+    }
+
+    pub struct Library;
+
+    // Each pointer below is a slice's own, with that slice's length, and lives through the call.
+    impl Calls for Library {
+        fn name(&self) -> &'static str {
+            "library"
+        }
+
+        fn patch_rim(&self, file: &[u8], tables: &mut Tables) -> PatchAnswer {
+            let triangles = tables.triangles.table();
+            let candidates = tables.candidates.table();
+            let weights = tables.weights.table();
+            let rows = tables.rows.table();
+            let work = tables.work.table();
+            unsafe {
+                patch_rim(
+                    file.as_ptr(),
+                    file.len(),
+                    triangles.as_mut_ptr(),
+                    triangles.len(),
+                    candidates.as_mut_ptr(),
+                    candidates.len(),
+                    weights.as_mut_ptr(),
+                    weights.len(),
+                    rows.as_mut_ptr(),
+                    rows.len(),
+                    work.as_mut_ptr(),
+                    work.len(),
+                )
+            }
+        }
+
+        fn patch_job(&self, n: usize, tables: &mut Tables) -> PatchAnswer {
+            let triangles = tables.triangles.table();
+            let candidates = tables.candidates.view();
+            let weights = tables.weights.view();
+            let rows = tables.rows.view();
+            let work = tables.work.table();
+            unsafe {
+                patch_job(
+                    n,
+                    candidates.as_ptr(),
+                    candidates.len(),
+                    weights.as_ptr(),
+                    weights.len(),
+                    rows.as_ptr(),
+                    rows.len(),
+                    triangles.as_mut_ptr(),
+                    triangles.len(),
+                    work.as_mut_ptr(),
+                    work.len(),
+                )
+            }
+        }
+
+        fn read_rim(&self, file: &[u8]) -> ReadAnswer {
+            unsafe { read_rim(file.as_ptr(), file.len()) }
+        }
+
+        fn find_candidates(&self, file: &[u8], tables: &mut Tables) -> FindAnswer {
+            let candidates = tables.candidates.table();
+            let weights = tables.weights.table();
+            let rows = tables.rows.table();
+            unsafe {
+                find_candidates(
+                    file.as_ptr(),
+                    file.len(),
+                    candidates.as_mut_ptr(),
+                    candidates.len(),
+                    weights.as_mut_ptr(),
+                    weights.len(),
+                    rows.as_mut_ptr(),
+                    rows.len(),
+                )
+            }
+        }
+    }
+}
+
+#[cfg(feature = "library")]
+pub fn library() -> Option<&'static dyn Calls> {
+    Some(&linked::Library)
+}
+
+/// The library, where the package is built with it.
+#[cfg(not(feature = "library"))]
+pub fn library() -> Option<&'static dyn Calls> {
+    None
+}
+
+/// What the tests judge: the library, and the fast reference where it is not linked.
+pub fn under_test() -> &'static dyn Calls {
+    library().unwrap_or(&Fast)
+}

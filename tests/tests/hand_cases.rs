@@ -1,0 +1,201 @@
+//! The cases that document 01 works by hand, by the reference and by what is under test.
+
+use outside_tests::calls::{Calls, Job, Lent, PatchAnswer, Places, Row, Tables, Triangle};
+use outside_tests::law::finder::{bend, bend_of};
+use outside_tests::law::grid::{grid_number, GridNumber};
+use outside_tests::law::{reader, tilings, BY_INTERVALS, BY_SETS};
+use outside_tests::library::under_test;
+use outside_tests::rims::{Point, RimFile};
+use std::collections::HashMap;
+
+const P: [Point; 4] = [[0, 0, 0], [8, 0, 0], [8, 8, 6], [0, 8, 0]];
+
+const P_TRIPLES: [Triangle; 4] = [[0, 1, 2], [0, 1, 3], [0, 2, 3], [1, 2, 3]];
+
+fn all() -> [&'static dyn Calls; 3] {
+    [&BY_SETS, &BY_INTERVALS, under_test()]
+}
+
+fn job(n: usize, candidates: &[Triangle], weights: &[u32], rows: &[Row]) -> Job {
+    Job { n, candidates: candidates.to_vec(), weights: weights.to_vec(), rows: rows.to_vec() }
+}
+
+/// The answer, the triangles and the work table of a job, by each.
+fn expect(job: &Job, number: u32, walk: &[u16], total: u64) {
+    for calls in all() {
+        let before = Tables::of_job(job, job.n, job.candidates.len() + 1);
+        let mut left = before.clone();
+        let answer = calls.patch_job(job.n, &mut left);
+        assert_eq!(
+            answer,
+            PatchAnswer { number, triangles: walk.len(), total },
+            "{}",
+            calls.name()
+        );
+        let mut expected = before;
+        expected.triangles.table()[..walk.len()].copy_from_slice(walk);
+        if number == 0 {
+            expected.work.table()[..job.candidates.len()].fill(0);
+        }
+        assert_eq!(left.difference(&expected), None, "{}", calls.name());
+    }
+}
+
+#[test]
+fn rim_file_p() {
+    let file = RimFile::plain(&P, 1, 1).bytes();
+    for calls in all() {
+        let before = Tables::guarded(Places::BENCH);
+        let mut left = before.clone();
+        let answer = calls.patch_rim(&file, &mut left);
+        assert_eq!(answer, PatchAnswer { number: 0, triangles: 2, total: 469 });
+        let mut expected = before;
+        expected.triangles.table()[..2].copy_from_slice(&[1, 3]);
+        expected.candidates.table()[..4].copy_from_slice(&P_TRIPLES);
+        expected.weights.table()[..4].copy_from_slice(&[80, 64, 80, 93]);
+        expected.rows.table()[..2].copy_from_slice(&[[1, 3, 312], [2, 0, 360]]);
+        expected.work.table()[..4].fill(0);
+        assert_eq!(left.difference(&expected), None, "{}", calls.name());
+    }
+}
+
+#[test]
+fn other_tiling_of_p_costs_520() {
+    let rows = HashMap::from([([1, 3], 312), ([2, 0], 360)]);
+    let job = job(4, &P_TRIPLES, &[80, 64, 80, 93], &[]);
+    assert!(tilings::is_tiling(4, &P_TRIPLES, &[0, 2]));
+    assert_eq!(tilings::total(&job, &rows, &[0, 2]), 520);
+    assert_eq!(tilings::total(&job, &rows, &[1, 3]), 469);
+    assert_eq!(tilings::from_all_sets(4, &P_TRIPLES).len(), 2);
+}
+
+#[test]
+fn direct_jobs() {
+    expect(&job(3, &[[0, 1, 2]], &[5], &[]), 0, &[0], 5);
+    expect(&job(3, &[], &[], &[]), 0, &[], 0);
+    expect(&job(4, &P_TRIPLES, &[1; 4], &[]), 0, &[1, 3], 2);
+    expect(&job(4, &P_TRIPLES, &[1; 4], &[[1, 3, 1]]), 0, &[2, 0], 2);
+    expect(&job(4, &P_TRIPLES, &[1; 4], &[[1, 0, 1]]), 16, &[], 0);
+    expect(&job(5, &[[0, 1, 2], [0, 2, 4]], &[1, 1], &[]), 0, &[], 0);
+}
+
+#[test]
+fn bends() {
+    assert_eq!(bend_of([0, 0, 7], [0, 0, 7]), 0);
+    assert_eq!(bend_of([1, 1, 1], [1, 1, 1]), 0);
+    assert_eq!(bend_of([5, 0, 0], [0, 3, 0]), 1000);
+    assert_eq!(bend_of([1, 1, 1], [-1, -1, -1]), 2000);
+    assert_eq!(bend(-1, 100, 100), 1001);
+}
+
+/// P with one coordinate given by its bits.
+fn with_height(bits: u32) -> Vec<u8> {
+    let mut file = RimFile::plain(&P, 1, 1);
+    file.records[2].bits[2] = bits;
+    file.bytes()
+}
+
+#[test]
+fn range_of_coordinates() {
+    assert_eq!(grid_number(125.0f32.to_bits()), GridNumber::At(1000));
+    assert_eq!(grid_number((-125.0f32).to_bits()), GridNumber::At(-1000));
+    let rim = reader::read(&with_height(125.0f32.to_bits())).expect("125.0 is taken");
+    assert_eq!(rim.points[2], [8, 8, 1000]);
+    for calls in all() {
+        let number = |bits: u32| calls.read_rim(&with_height(bits)).number;
+        assert_eq!(number(125.0f32.to_bits()), 0);
+        assert_eq!(number((-125.0f32).to_bits()), 0);
+        assert_eq!(number(125.0f32.to_bits() + 1), 9);
+        assert_eq!(number((-125.0f32).to_bits() + 1), 9);
+        assert_eq!(number(f32::MAX.to_bits()), 9);
+        assert_eq!(number(f32::INFINITY.to_bits()), 8);
+    }
+}
+
+fn chain(n: usize) -> RimFile {
+    let points: Vec<Point> = (0..n as i64).map(|k| [k, k * k % 61, k * k * k % 97]).collect();
+    RimFile::plain(&points, 1, 1)
+}
+
+#[test]
+fn length_of_chains() {
+    let mut own_end = chain(64);
+    own_end.records[63].next = 64;
+    for calls in all() {
+        let read = |file: &RimFile| calls.read_rim(&file.bytes());
+        assert_eq!((read(&chain(64)).number, read(&chain(64)).vertices), (0, 64));
+        assert_eq!(read(&chain(65)).number, 5);
+        assert_eq!(read(&own_end).number, 4);
+        assert_eq!(read(&chain(3)).vertices, 3);
+        assert_eq!(read(&chain(2)).number, 10);
+        assert_eq!(read(&chain(0)).number, 10);
+    }
+}
+
+#[test]
+fn corners_of_a_cube() {
+    let corner = |k: i64| [k & 1, k >> 1 & 1, k >> 2].map(|bit| 40 * bit);
+    for left_out in 0..8 {
+        for and_other in 0..left_out {
+            for and_third in 0..and_other {
+                let kept = (0..8).filter(|k| ![left_out, and_other, and_third].contains(k));
+                let points: Vec<Point> = kept.map(corner).collect();
+                let file = RimFile::plain(&points, 1, 1).bytes();
+                for calls in all() {
+                    let mut tables = Tables::guarded(Places::BENCH);
+                    assert_eq!(calls.patch_rim(&file, &mut tables), PatchAnswer::refused(12));
+                    assert_eq!(tables.difference(&Tables::guarded(Places::BENCH)), None);
+                }
+            }
+        }
+    }
+}
+
+#[test]
+fn a_vertex_on_a_sphere_that_does_not_count() {
+    // Five points on a sphere around the origin, and a sixth inside it: no four of the five count.
+    let points =
+        [[120, 0, 0], [-40, 80, 80], [-40, -80, -80], [40, -80, 80], [80, 40, -80], [10, 7, 3]];
+    let file = RimFile::plain(&points, 1, 1).bytes();
+    let mut tables = Tables::guarded(Places::BENCH);
+    let answer = BY_SETS.patch_rim(&file, &mut tables);
+    assert_eq!(answer.number, 0);
+    for calls in all() {
+        let mut left = Tables::guarded(Places::BENCH);
+        assert_eq!(calls.patch_rim(&file, &mut left), answer);
+        assert_eq!(left.difference(&tables), None);
+    }
+}
+
+#[test]
+fn flat_rims_and_three_vertices_have_no_candidates() {
+    let flat: [Point; 5] = [[0, 0, 0], [90, 0, 0], [120, 70, 0], [40, 110, 0], [-30, 60, 0]];
+    let square: [Point; 4] = [[0, 0, 5], [8, 0, 5], [8, 8, 5], [0, 8, 5]];
+    for points in [&flat[..], &flat[..3], &square[..]] {
+        let file = RimFile::plain(points, 3, 5).bytes();
+        for calls in all() {
+            let mut tables = Tables::guarded(Places::BENCH);
+            assert_eq!(calls.patch_rim(&file, &mut tables), PatchAnswer::NONE);
+            assert_eq!(tables.difference(&Tables::guarded(Places::BENCH)), None);
+            let mut short = Tables::guarded(Places::BENCH);
+            short.triangles = Lent::guarded(points.len() - 3);
+            assert_eq!(calls.patch_rim(&file, &mut short), PatchAnswer::refused(13));
+        }
+    }
+}
+
+#[test]
+fn heights_of_level_points() {
+    let mut file = RimFile::plain(&[[0, 0, 10], [80, 0, 0], [80, 80, 0], [0, 80, 30]], 1, 1);
+    for k in [1, 2] {
+        file.records[k].kind = 2;
+        file.records[k].bits[2] = 0;
+    }
+    let rim = reader::read(&file.bytes()).expect("accepted");
+    assert_eq!(rim.points, [[0, 0, 10], [80, 0, 10], [80, 80, 10], [0, 80, 30]]);
+    // A kind 1 that stands before it in the file only is no help.
+    file.first = 3;
+    for calls in all() {
+        assert_eq!(calls.read_rim(&file.bytes()).number, 7);
+    }
+}

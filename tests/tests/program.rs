@@ -1,0 +1,93 @@
+//! The bench program, where BENCH_PROGRAM names it: rim files on its standard input.
+
+use outside_tests::comparison::hexadecimal;
+use outside_tests::damage;
+use outside_tests::law::program::output;
+use outside_tests::random::{seeds, Random};
+use outside_tests::rims::{lattice, RimFile, Shape};
+use std::io::Write;
+use std::process::{Command, Stdio};
+
+const P: [[i64; 3]; 4] = [[0, 0, 0], [8, 0, 0], [8, 8, 6], [0, 8, 0]];
+
+/// The program's output, or nothing where no program is named.
+fn printed(file: &[u8]) -> Option<String> {
+    let program = std::env::var_os("BENCH_PROGRAM")?;
+    let mut command = Command::new(program);
+    command.stdin(Stdio::piped()).stdout(Stdio::piped());
+    let mut child = command.spawn().expect("BENCH_PROGRAM can be run");
+    // The program may stop reading once it knows its answer.
+    let _ = child.stdin.take().expect("piped").write_all(file);
+    let output = child.wait_with_output().expect("the program ends");
+    Some(String::from_utf8(output.stdout).expect("plain text"))
+}
+
+fn compare(file: &[u8]) {
+    if let Some(text) = printed(file) {
+        assert_eq!(text, output(file), "file {}", hexadecimal(file));
+    }
+}
+
+#[test]
+fn rim_file_p() {
+    let file = RimFile::plain(&P, 1, 1).bytes();
+    assert_eq!(output(&file), "patch 4 2 469\n0 1 3 64 0\n1 2 3 93 312\n");
+    compare(&file);
+}
+
+#[test]
+fn rims_of_every_shape() {
+    for seed in seeds("rims for the program") {
+        let mut random = Random::new(seed);
+        for shape in Shape::ALL {
+            for n in [3, 4, 7, 12, 20] {
+                let points = shape.points(n, 1000, &mut random);
+                compare(&RimFile::varied(&points, [1, 3], &mut random).bytes());
+            }
+        }
+        for n in 4..9 {
+            compare(&RimFile::plain(&lattice(n, 3, &mut random), 1, 1).bytes());
+        }
+    }
+}
+
+/// Tables that are just enough or too short: 13 is the program's own.
+#[test]
+fn rims_of_64() {
+    let mut random = Random::new(1);
+    for shape in Shape::GENERAL {
+        compare(&RimFile::plain(&shape.points(64, 1000, &mut random), 1, 1).bytes());
+    }
+}
+
+#[test]
+fn damaged_files() {
+    let points = Shape::NoisyCircle.points(6, 500, &mut Random::new(4));
+    for damage in damage::ALL {
+        let mut file = RimFile::plain(&points, 1, 1);
+        damage.apply(&mut file);
+        assert_eq!(output(&file.bytes()), format!("refused {}\n", damage.number()));
+        compare(&file.bytes());
+    }
+}
+
+/// The part that fits into any buffer is no file of its own.
+#[test]
+fn input_longer_than_any_file() {
+    let points = Shape::NoisyCircle.points(6, 500, &mut Random::new(4));
+    let mut file = RimFile::plain(&points, 1, 1);
+    let spare = file.records[0];
+    for records in [6, 256] {
+        file.records.resize(records, spare);
+        file.declared = records as u16;
+        for more in [0, 1, 2, 16, 5_000_000] {
+            let longer = [file.bytes(), vec![0; more]].concat();
+            if let Some(text) = printed(&longer) {
+                assert_eq!(text == "refused 1\n", more > 0, "{more} more bytes");
+            }
+        }
+    }
+    for length in 0..9 {
+        compare(&vec![0; length]);
+    }
+}

@@ -1,0 +1,126 @@
+//! The references against each other and against other ways to the same thing.
+
+use outside_tests::calls::{Job, Places, Tables};
+use outside_tests::comparison::{compare_job, compare_rim};
+use outside_tests::fast::Fast;
+use outside_tests::jobs::random_job;
+use outside_tests::law::finder::{centre, squared_distance};
+use outside_tests::law::grid::{grid_number, GridNumber};
+use outside_tests::law::{tilings, BY_INTERVALS, BY_SETS};
+use outside_tests::random::{seeds, Random};
+use outside_tests::rims::{lattice, RimFile, Shape};
+
+/// f64 holds 8v exactly.
+fn by_f64(bits: u32) -> GridNumber {
+    let v = f32::from_bits(bits);
+    let eighths = v as f64 * 8.0;
+    if !v.is_finite() {
+        GridNumber::NotFinite
+    } else if eighths.abs() > 1000.0 {
+        GridNumber::OutOfRange
+    } else {
+        GridNumber::At(eighths.round_ties_even() as i64)
+    }
+}
+
+#[test]
+fn grid_numbers() {
+    for seed in seeds("grid numbers") {
+        let mut random = Random::new(seed);
+        for _ in 0..500_000 {
+            let bits = random.next_u64() as u32;
+            assert_eq!(grid_number(bits), by_f64(bits), "{bits:08x}");
+        }
+    }
+    for sixteenths in -2010..=2010 {
+        let bits = (sixteenths as f32 / 16.0).to_bits();
+        for bits in [bits.wrapping_sub(1), bits, bits.wrapping_add(1)] {
+            assert_eq!(grid_number(bits), by_f64(bits), "{bits:08x}");
+        }
+    }
+    for exponent in 0..=255 {
+        for fraction in [0, 1, 0x40_0000, 0x7f_ffff] {
+            for sign in [0, 0x8000_0000] {
+                let bits = sign | exponent << 23 | fraction;
+                assert_eq!(grid_number(bits), by_f64(bits), "{bits:08x}");
+            }
+        }
+    }
+}
+
+#[test]
+fn spheres_pass_through_their_corners() {
+    for seed in seeds("spheres") {
+        let mut random = Random::new(seed);
+        for size in [1, 3, 50, 1000] {
+            for _ in 0..5_000 {
+                let four = lattice(4, size, &mut random);
+                if let Some(centre) = centre([four[0], four[1], four[2], four[3]]) {
+                    let distances = four.iter().map(|&p| squared_distance(&centre, p));
+                    let distances: Vec<i128> = distances.collect();
+                    assert!(distances.iter().all(|&d| d == distances[0]), "{four:?}");
+                }
+            }
+        }
+    }
+}
+
+#[test]
+fn sets_in_two_ways() {
+    for seed in seeds("sets in two ways") {
+        let mut random = Random::new(seed);
+        for case in 0..1_500 {
+            let n = 3 + case % 5;
+            let keep = [100, 90, 80, 45, 30][n - 3];
+            let mut job = random_job(n, keep, 0, 1, &mut random);
+            job.candidates.truncate(14);
+            let mut by_edges = tilings::from_bad_edges(n, &job.candidates);
+            let mut by_sets = tilings::from_all_sets(n, &job.candidates);
+            by_edges.sort();
+            by_sets.sort();
+            assert_eq!(by_edges, by_sets, "{job:?}");
+        }
+    }
+}
+
+#[test]
+fn all_triples_have_as_many_tilings_as_the_catalan_numbers() {
+    for (n, catalan) in [(3, 1), (4, 2), (5, 5), (6, 14), (7, 42), (8, 132), (9, 429)] {
+        let job = random_job(n, 100, 0, 1, &mut Random::new(1));
+        assert_eq!(tilings::from_bad_edges(n, &job.candidates).len(), catalan);
+    }
+}
+
+fn two_against_sets(job: &Job) {
+    let places = [job.n - 2, job.candidates.len()];
+    compare_job(&BY_SETS, &BY_INTERVALS, job, places);
+    compare_job(&BY_SETS, &Fast, job, places);
+}
+
+#[test]
+fn jobs_by_sets_by_intervals_and_fast() {
+    for seed in seeds("jobs by three references") {
+        let mut random = Random::new(seed);
+        for _ in 0..4_000 {
+            let n = random.between(3, 8) as usize;
+            let keep = random.one_of(&[100, 80, 60]);
+            let rows = random.one_of(&[100, 60, 20, 0]);
+            two_against_sets(&random_job(n, keep, rows, random.one_of(&[0, 1, 3]), &mut random));
+        }
+    }
+}
+
+#[test]
+fn rims_by_sets_by_intervals_and_fast() {
+    let tables = Tables::guarded(Places::BENCH);
+    for seed in seeds("rims by three references") {
+        let mut random = Random::new(seed);
+        for _ in 0..4_000 {
+            let n = random.between(3, 8) as usize;
+            let points = random.one_of(&Shape::ALL).points(n, 60, &mut random);
+            let file = RimFile::plain(&points, 1, 1).bytes();
+            compare_rim(&BY_SETS, &BY_INTERVALS, &file, &tables);
+            compare_rim(&BY_SETS, &Fast, &file, &tables);
+        }
+    }
+}
