@@ -5,7 +5,7 @@ use mathlib.Core.List.{List, [], _∷_, _++_, append-assoc, append-nil, map}
 use Prim.Native.Nat.{ℕ, zero, suc, _+_, _-_, _≤_, _<_}
 use native.Mathlib.Nat.{le-refl, le-trans}
 use native.Mathlib.Omega.{arith}
-use lib.ListN.{length, take, drop, length-append}
+use lib.ListN.{length, take, drop, length-append, length-map}
 use lib.Dec.{eqb}
 use lib.Seq.{length-take-le, take-at, drop-at}
 use Rattle.lists.specs.Lists.{filled, over, upFrom, when}
@@ -13,8 +13,8 @@ use Rattle.lists.proofs.Writing.{Writing, turn, leave, all, filled-length}
 use Rattle.lists.proofs.Ranges.{over-step}
 use Rattle.polygon.specs.declared.Polygon.{Polygon}
 use Rattle.jobs.specs.Job.{entryAt, vertexC, hangs}
-use Rattle.hinges.specs.Hinges.{innersOn, endingIn}
-use Rattle.dihedrals.specs.Weights.{rowAt, rowsOn}
+use Rattle.hinges.specs.Hinges.{innersOn, innersOf, endingIn}
+use Rattle.dihedrals.specs.Weights.{rowAt, rowsOn, rowsOf}
 use Rattle.dihedrals.specs.Lists.{appended}
 
 module _ {A : Type 0} where
@@ -83,3 +83,12 @@ module _ {A : Type 0} where
   pub append-two : (o l m : List A) (n : ℕ) {o′ o″ : List A} {n′ n″ : ℕ} → n + (length l + length m) ≤ length o → n′ ≡ n + length l → o′ ≡ appended o n l → n″ ≡ n′ + length m → o″ ≡ appended o′ n′ m → o″ ≡ appended o n (l ++ m)
   append-two o l m n h en eo em ep =
       all (append-part m (turn (sym (append-nil m)) (append-part l (append-start o (l ++ m) n (omega (arith, length-append l m))) en eo)) em ep) .1
+
+up-lengths : {A B : Type 0} (f : ℕ → List A) (g : ℕ → List B) (lo k : ℕ) → ((i : ℕ) → length (f i) ≡ length (g i)) → length (upFrom f lo k) ≡ length (upFrom g lo k)
+unfolding upFrom
+up-lengths f g lo zero h = refl
+up-lengths f g lo (suc k) h = length-append (f lo) (upFrom f (suc lo) k) ∙ (λ j. h lo j + up-lengths f g (suc lo) k h j) ∙ sym (length-append (g lo) (upFrom g (suc lo) k))
+
+-- there are as many rows as hanging pairs
+pub row-count : (p : Polygon) (cs : List (List ℕ)) → length (rowsOf p cs) ≡ length (innersOf cs)
+row-count p cs = up-lengths (rowsOn p cs) (innersOn cs) 0 (length cs - 0) (λ o. ap length (rows-of-inners p cs o) ∙ length-map (innersOn cs o) (rowAt p cs o))

@@ -34,7 +34,7 @@ same-flag h k e =
 same-triple : {a b c x y z : ℕ} → (a ≡ x) × (b ≡ y) × (c ≡ z) → sameTriple a b c x y z ≡ true
 same-triple {a} {b} {c} {x} {y} {z} e = both-true (eq-eqb a x (e .0)) (both-true (eq-eqb b y (e .1)) (eq-eqb c z (e .2)))
 
-triple-same : {a b c x y z : ℕ} → sameTriple a b c x y z ≡ true → (a ≡ x) × (b ≡ y) × (c ≡ z)
+pub triple-same : {a b c x y z : ℕ} → sameTriple a b c x y z ≡ true → (a ≡ x) × (b ≡ y) × (c ≡ z)
 triple-same {a} {b} {c} {x} {y} {z} e =
     let t = both-right (eqb a x) (both (eqb b y) (eqb c z)) e in
     (eqb-true a x (both-left (eqb a x) (both (eqb b y) (eqb c z)) e), eqb-true b y (both-left (eqb b y) (eqb c z) t), eqb-true c z (both-right (eqb b y) (eqb c z) t))

@@ -1,0 +1,124 @@
+-- The candidates of a valid polygon are triples of its vertices in ascending order, and none has its corners on one line. Assumes nothing.
+use mathlib.Core.Path.{_≡_, refl, sym, _∙_, ap, subst}
+use mathlib.Core.Bool.{Bool, true, false, not}
+use mathlib.Core.List.{List, [], _∷_, List·Memᴰ}
+use mathlib.Core.Logic.{_⊎_, inl, inr, ⊎-elim}
+use Prim.Native.Nat.{ℕ, zero, suc, _+_, _-_, _≤_, _<_}
+use native.Mathlib.Nat.{le-refl}
+use native.Mathlib.Omega.{arith}
+use lib.ListN.{length, getD}
+use borrow.Author.Tests.{not-true}
+use Rattle.polygon.specs.declared.Polygon.{Polygon}
+use Rattle.polygon.specs.Polygon.{vertexAt, Valid}
+use Rattle.geometry.specs.Faces.{normalOf, lengthOf}
+use Rattle.geometry.specs.Spheres.{coplanar}
+use Rattle.geometry.proofs.Faces.{face-length-pqr, face-length-pqs, face-length-prs, face-length-qrs}
+use Rattle.jobs.specs.Job.{entryAt, vertexA, vertexB, vertexC}
+use Rattle.jobs.proofs.Order.{Before, by-a, by-b, by-c}
+use Rattle.lists.specs.Lists.{both, either, every, over, when}
+use Rattle.lists.proofs.Choice.{both-left, both-right, either-cases}
+use Rattle.faces.specs.Faces.{triple, sameTriple, isFace, triplesOf}
+use Rattle.faces.proofs.Sets.{triples-bound, triple-same}
+use Rattle.faces.proofs.Fours.{Four, four-found}
+use Rattle.faces.proofs.Members.{Triple, Ascending, over-member, when-member, over-ascending, when-ascending, ascending-at, entry-member, triples-member}
+use Rattle.hinges.specs.Hinges.{Sorted}
+use Rattle.dihedrals.specs.Weights.{faceNormal}
+use Rattle.dihedrals.specs.Lists.{Corners, Solid}
+use Rattle.delaunay.specs.Candidates.{vertex, insideFour, counts, isCandidate, candidatesOf}
+
+-- ---- a list of triples ascends
+module _ (n : ℕ) (P : ℕ → ℕ → ℕ → Bool) where
+  pub triples-ascend : Ascending Before (triplesOf n P)
+  triples-ascend =
+      over-ascending 0 n _
+      (λ a. over-ascending (a + 1) n _
+        (λ b. over-ascending (b + 1) n _
+          (λ c. when-ascending (P a b c) (triple a b c))
+          (λ c d x y h mx my. third a b c d x y h (when-member (P a b c) (triple a b c) x mx .1) (when-member (P a b d) (triple a b d) y my .1)))
+        (λ b d x y h mx my. second a b d x y h (in-second a b x mx) (in-second a d y my)))
+      (λ a d x y h mx my. first a d x y h (in-first a x mx) (in-first d y my))
+    where
+      in-second : (a b : ℕ) (x : List ℕ) → List·Memᴰ x (over (b + 1) n (λ c. when (P a b c) (triple a b c))) → (vertexA x ≡ a) × (vertexB x ≡ b)
+      in-second a b x m =
+          let w = over-member (b + 1) n (λ c. when (P a b c) (triple a b c)) x m in
+          let e = when-member (P a b (w .at)) (triple a b (w .at)) x (w .member) .1 in
+          (ap vertexA e, ap vertexB e)
+      in-first : (a : ℕ) (x : List ℕ) → List·Memᴰ x (over (a + 1) n (λ b. over (b + 1) n (λ c. when (P a b c) (triple a b c)))) → vertexA x ≡ a
+      in-first a x m =
+          let w = over-member (a + 1) n (λ b. over (b + 1) n (λ c. when (P a b c) (triple a b c))) x m in
+          let v = over-member (w .at + 1) n (λ c. when (P a (w .at) c) (triple a (w .at) c)) x (w .member) in
+          ap vertexA (when-member (P a (w .at) (v .at)) (triple a (w .at) (v .at)) x (v .member) .1)
+      third : (a b c d : ℕ) (x y : List ℕ) → c < d → x ≡ triple a b c → y ≡ triple a b d → Before x y
+      third a b c d x y h ex ey = by-c (ap vertexA ex ∙ sym (ap vertexA ey)) (ap vertexB ex ∙ sym (ap vertexB ey)) (omega (arith, ap vertexC ex, ap vertexC ey))
+      second : (a b d : ℕ) (x y : List ℕ) → b < d → (vertexA x ≡ a) × (vertexB x ≡ b) → (vertexA y ≡ a) × (vertexB y ≡ d) → Before x y
+      second a b d x y h ex ey = by-b (ex .0 ∙ sym (ey .0)) (omega (arith, ex .1, ey .1))
+      first : (a d : ℕ) (x y : List ℕ) → a < d → vertexA x ≡ a → vertexA y ≡ d → Before x y
+      first a d x y h ex ey = by-a (omega (arith, ex, ey))
+
+before-first : {s t : List ℕ} → Before s t → vertexA s ≤ vertexA t
+before-first (by-a h) = omega arith
+before-first (by-b e h) = omega arith
+before-first (by-c e d h) = omega arith
+
+module _ (p : Polygon) (v : Valid p) where
+  pub candidate-at : (i : ℕ) → i < length (candidatesOf p) → Triple (p .n) (isCandidate p) (entryAt (candidatesOf p) i)
+  candidate-at i h = triples-member (p .n) (isCandidate p) (entryAt (candidatesOf p) i) (entry-member (candidatesOf p) [] i h)
+
+  pub candidates-sorted : Sorted (candidatesOf p)
+  candidates-sorted = record {
+    few = triples-bound (p .n) (isCandidate p) (v .most);
+    a<b = λ i h. let t = candidate-at i h in omega (arith, ap vertexA (t .is), ap vertexB (t .is), t .a<b);
+    b<c = λ i h. let t = candidate-at i h in omega (arith, ap vertexB (t .is), ap vertexC (t .is), t .b<c);
+    c<64 = λ i h. let t = candidate-at i h in omega (arith, ap vertexC (t .is), t .c<n, v .most);
+    ascend = λ i j h k. ascend i j (j - i) refl h k;
+  }
+    where
+      ascend : (i j d : ℕ) → j - i ≡ d → i ≤ j → j < length (candidatesOf p) → vertexA (entryAt (candidatesOf p) i) ≤ vertexA (entryAt (candidatesOf p) j)
+      ascend i j zero e h k = subst (λ (m : ℕ). vertexA (entryAt (candidatesOf p) i) ≤ vertexA (entryAt (candidatesOf p) m)) (omega arith) (le-refl (vertexA (entryAt (candidatesOf p) i)))
+      ascend i j (suc d) e h k = before-first (ascending-at [] (triples-ascend (p .n) (isCandidate p)) i j (omega arith) k)
+
+  -- ---- a candidate's normal is not 0
+  module _ (a b c d : ℕ) (ha : a < p .n) (hb : b < p .n) (hc : c < p .n) (hd : d < p .n) (e : counts p a b c d ≡ true) where
+    solid-four : coplanar (vertex p a) (vertex p b) (vertex p c) (vertex p d) ≡ false
+    unfolding counts
+    solid-four = not-true _ (both-left (not (coplanar (vertex p a) (vertex p b) (vertex p c) (vertex p d))) (every 0 (p .n) (λ w. not (insideFour p a b c d w))) e)
+
+    same-face : (i j k x y z : ℕ) → sameTriple i j k x y z ≡ true → 0 < lengthOf (normalOf (vertex p i) (vertex p j) (vertex p k)) → 0 < lengthOf (normalOf (vertex p x) (vertex p y) (vertex p z))
+    same-face i j k x y z s h =
+        let t = triple-same {a = i} {b = j} {c = k} {x = x} {y = y} {z = z} s in
+        subst (λ (l : ℕ). 0 < l) (λ m. lengthOf (normalOf (vertex p (t .0 m)) (vertex p (t .1 m)) (vertex p (t .2 m)))) h
+
+    face-length : (x y z : ℕ) → isFace a b c d x y z ≡ true → 0 < lengthOf (normalOf (vertex p x) (vertex p y) (vertex p z))
+    unfolding isFace
+    face-length x y z f =
+        let ga = v .on-grid a ha in
+        let gb = v .on-grid b hb in
+        let gc = v .on-grid c hc in
+        let gd = v .on-grid d hd in
+        ⊎-elim (λ s. same-face a b c x y z s (face-length-pqr (vertex p a) (vertex p b) (vertex p c) (vertex p d) ga gb gc gd solid-four))
+        (λ g. ⊎-elim (λ s. same-face a b d x y z s (face-length-pqs (vertex p a) (vertex p b) (vertex p c) (vertex p d) ga gb gc gd solid-four))
+        (λ h. ⊎-elim (λ s. same-face a c d x y z s (face-length-prs (vertex p a) (vertex p b) (vertex p c) (vertex p d) ga gb gc gd solid-four))
+        (λ s. same-face b c d x y z s (face-length-qrs (vertex p a) (vertex p b) (vertex p c) (vertex p d) ga gb gc gd solid-four))
+        (either-cases (sameTriple a c d x y z) (sameTriple b c d x y z) h))
+        (either-cases (sameTriple a b d x y z) (either (sameTriple a c d x y z) (sameTriple b c d x y z)) g))
+        (either-cases (sameTriple a b c x y z) (either (sameTriple a b d x y z) (either (sameTriple a c d x y z) (sameTriple b c d x y z))) f)
+
+  candidate-length : (x y z : ℕ) → isCandidate p x y z ≡ true → 0 < lengthOf (normalOf (vertex p x) (vertex p y) (vertex p z))
+  unfolding isCandidate
+  candidate-length x y z e =
+      let f = four-found (p .n) (λ a b c d. both (isFace a b c d x y z) (counts p a b c d)) e in
+      face-length (f .a) (f .b) (f .c) (f .d) (omega (arith, f .a<b, f .b<c, f .c<d, f .d<n)) (omega (arith, f .b<c, f .c<d, f .d<n)) (omega (arith, f .c<d, f .d<n)) (f .d<n)
+      (both-right (isFace (f .a) (f .b) (f .c) (f .d) x y z) (counts p (f .a) (f .b) (f .c) (f .d)) (f .holds-of))
+      x y z (both-left (isFace (f .a) (f .b) (f .c) (f .d) x y z) (counts p (f .a) (f .b) (f .c) (f .d)) (f .holds-of))
+
+  pub candidates-solid : Solid p (candidatesOf p)
+  candidates-solid = record {
+    valid = v;
+    sorted = candidates-sorted;
+    corners = λ i h. let t = candidate-at i h in record {
+      a<n = omega (arith, ap vertexA (t .is), t .a<b, t .b<c, t .c<n);
+      b<n = omega (arith, ap vertexB (t .is), t .b<c, t .c<n);
+      c<n = omega (arith, ap vertexC (t .is), t .c<n);
+    };
+    normals = λ i h. let t = candidate-at i h in subst (λ (s : List ℕ). 0 < lengthOf (faceNormal p s)) (sym (t .is)) (candidate-length (t .a) (t .b) (t .c) (t .holds-of));
+  }

@@ -1,0 +1,31 @@
+-- `finder::find` meets its contract. Assumes nothing.
+use mathlib.Core.Path.{_≡_, _∙_}
+use borrow.Author.Needs.{needs}
+use Rattle.finder.proofs.Answers.{beside-enough}
+use borrow.Author.Needs.{needs}
+use Rattle.finder.proofs.find.Statement.{statement}
+use Rattle.finder.proofs.find.Tie as tie
+use Rattle.finder.proofs.find.Reads as reads
+use Rattle.finder.proofs.find.Lts as lts
+use Rattle.finder.proofs.find_beside.Reads as find-beside-reads
+
+find-beside-requires : tie.Need-find-beside-requires
+find-beside-requires c κs = search needs
+
+same-length : tie.Need-same-length
+same-length c = search needs
+
+same-length-2 : tie.Need-same-length-2
+same-length-2 c = search needs
+
+same-length-3 : tie.Need-same-length-3
+same-length-3 c = search needs
+
+returns : tie.Need-returns
+returns c =
+    let s = c .before .before .before .before .before .before .before .before .before in
+    c .before .before .before .before .find-beside .ensures ∙ beside-enough (s .args .p) (s .args .candidates .now) (s .args .weights .now) (s .args .rows .now)
+
+pub find-spec : {M : Type 1} → statement M
+find-spec =
+    tie.close (tie.spec find-beside-requires same-length same-length-2 same-length-3 returns)
