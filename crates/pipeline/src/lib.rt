@@ -5,7 +5,38 @@ use reader::Status;
 use triangulator::Outcome;
 
 ghost use mathlib.Core.Path.{_≡_};
+ghost use Prim.Native.Nat.{_+_, _≤_};
+ghost use lib.ListN.{length, take};
+ghost use Rattle.triangulation.specs.Triangulations.{best};
+ghost use Rattle.triangulation.specs.Jobs.{jobOf};
+ghost use Rattle.minimum_weight.specs.Tables.{WellFormed};
+ghost use Rattle.triangulator.specs.Call.{result, settled};
 ghost use Rattle.pipeline.specs.Patching.{tables, patching, patchPolygon, patchFile};
+
+// The best triangulation by the lists in the first places of the tables.
+fn triangulate_first(
+    n: usize,
+    candidates: &[[u8; 3]],
+    count: usize,
+    weights: &[u32],
+    rows: &[[u32; 3]],
+    row_count: usize,
+    triangles: &mut [u16],
+    work: &mut [u64],
+) -> Outcome
+    requires { ⌜ (count ≤ length (now candidates)) × (count ≤ length (now weights)) × («row_count» ≤ length (now rows)) × (count ≤ length (now work)) × (n ≤ length (now triangles) + 2) ⌝ }
+    requires { ⌜ WellFormed n (take count (now candidates)) (take count (now weights)) (take «row_count» (now rows)) ⌝ }
+    ensures { λ r. ⌜ result r (now (triangles .exit)) (now (work .exit)) ≡ settled (best (jobOf n (take count (now (candidates .entry))) (take count (now (weights .entry))) (take «row_count» (now (rows .entry))))) count (now (triangles .entry)) (now (work .entry)) ⌝ }
+{
+    triangulator::best_triangulation(
+        n,
+        &candidates[..count],
+        &weights[..count],
+        &rows[..row_count],
+        triangles,
+        work,
+    )
+}
 
 // The patch of a polygon. All tables are tested before one is written.
 pub fn patch_polygon(
@@ -25,14 +56,7 @@ pub fn patch_polygon(
         Found::Lists {
             candidates: count,
             rows: row_count,
-        } => triangulator::best_triangulation(
-            n,
-            &candidates[..count],
-            &weights[..count],
-            &rows[..row_count],
-            triangles,
-            work,
-        ),
+        } => triangulate_first(n, candidates, count, weights, rows, row_count, triangles, work),
     }
 }
 
