@@ -49,15 +49,20 @@ module _ (p : Polygon) (triangles : List ℕ) (candidates : List (List ℕ)) (we
   unfolding findOr13 patchPolygon asOutcome asPatching tooShort lent
   find-refused k {c} {r} {w} e = ap asPatching e ∙ by (eqb (codeOf p) 0) (cospherical p) tooShort refl refl refl
     where
-    by : (a b s : Bool) → eqb (codeOf p) 0 ≡ a → cospherical p ≡ b → tooShort ≡ s →
-        asPatching (findOr13 tooShort p candidates weights rows) ≡ patchPolygon p lent
-    by false b s x y z = ap asPatching (no _ _ x) ∙ sym (no _ _ x)
-    by true true s x y z = ap asPatching (yes _ _ x ∙ yes _ _ y) ∙ sym (yes _ _ x ∙ yes _ _ y)
-    by true false true x y z = ap asPatching (yes _ _ x ∙ no _ _ y ∙ yes _ _ z) ∙ sym (yes _ _ x ∙ no _ _ y ∙ yes _ _ (sym short-same ∙ z))
-    by true false false x y z =
-        let d = e ∙ yes _ _ x ∙ no _ _ y ∙ no _ _ z in
-        let f : found.Refused k ≡ Lists (length (candidatesOf p)) (length (rowsIn p)) = ap (λ (g : Finding). g .answer) d in
-        absurd (let n : _≡_ {A = ℕ} 0 1 = cc in omega arith)
+      by : (a b s : Bool) → eqb (codeOf p) 0 ≡ a → cospherical p ≡ b → tooShort ≡ s →
+          asPatching (findOr13 tooShort p candidates weights rows) ≡ patchPolygon p lent
+      by false b s x y z = ap asPatching (no _ _ x) ∙ sym (no _ _ x)
+      by true true s x y z = ap asPatching (yes _ _ x ∙ yes _ _ y) ∙ sym (yes _ _ x ∙ yes _ _ y)
+      by true false true x y z = ap asPatching (yes _ _ x ∙ no _ _ y ∙ yes _ _ z) ∙ sym (yes _ _ x ∙ no _ _ y ∙ yes _ _ (sym short-same ∙ z))
+      by true false false x y z =
+          let d = e ∙ yes _ _ x ∙ no _ _ y ∙ no _ _ z in
+          let f : found.Refused k ≡ Lists (length (candidatesOf p)) (length (rowsIn p)) = ap (λ (g : Finding). g .answer) d in
+          absurd (let n : _≡_ {A = ℕ} 0 1 = cc in omega arith)
+
+  pub find-refused-via : {f : Found} {k : ℕ} {c r : List (List ℕ)} {w : List ℕ} → f ≡ found.Refused k →
+      finding f c w r ≡ findBesideCall p (length triangles) (length work) candidates weights rows →
+      patching (Refused k) (tables triangles c w r work) ≡ patchPolygon p (tables triangles candidates weights rows work)
+  find-refused-via {k = k} {c = c} {r = r} {w = w} d e = find-refused k (ap (λ (g : Found). finding g c w r) (sym d) ∙ e)
 
   -- the finder finds the lists: no number is due
   pub record Lists-found (x y : ℕ) (c r : List (List ℕ)) (w : List ℕ) : Type 0 where
@@ -75,27 +80,28 @@ module _ (p : Polygon) (triangles : List ℕ) (candidates : List (List ℕ)) (we
   unfolding findOr13 tooShort lent
   find-lists {x} {y} {c} {r} {w} e = by (eqb (codeOf p) 0) (cospherical p) tooShort refl refl refl
     where
-    refusal : (k : ℕ) {c′ r′ : List (List ℕ)} {w′ : List ℕ} → finding (Lists x y) c w r ≡ finding (found.Refused k) c′ w′ r′ → ⊥
-    refusal k d =
-        let f : Lists x y ≡ found.Refused k = ap (λ (g : Finding). g .answer) d in
-        let n : _≡_ {A = ℕ} 0 1 = cc in omega arith
-    by : (a b s : Bool) → eqb (codeOf p) 0 ≡ a → cospherical p ≡ b → tooShort ≡ s → Lists-found x y c r w
-    by false b s u v z = absurd (refusal (codeOf p) (e ∙ no _ _ u))
-    by true true s u v z = absurd (refusal 12 (e ∙ yes _ _ u ∙ yes _ _ v))
-    by true false true u v z = absurd (refusal 13 (e ∙ yes _ _ u ∙ no _ _ v ∙ yes _ _ z))
-    by true false false u v z =
-        let d = e ∙ yes _ _ u ∙ no _ _ v ∙ no _ _ z in
-        let f : Lists x y ≡ Lists (length (candidatesOf p)) (length (rowsIn p)) = ap (λ (g : Finding). g .answer) d in
-        record {
-          code = eqb-true (codeOf p) 0 u;
-          no-12 = v;
-          no-13 = sym short-same ∙ z;
-          count = cc;
-          row-count = cc;
-          candidates-are = ap (λ (g : Finding). g .candidates) d;
-          weights-are = ap (λ (g : Finding). g .weights) d;
-          rows-are = ap (λ (g : Finding). g .rows) d;
-        }
+      refusal : (k : ℕ) {c′ r′ : List (List ℕ)} {w′ : List ℕ} → finding (Lists x y) c w r ≡ finding (found.Refused k) c′ w′ r′ → ⊥
+      refusal k d =
+          let f : Lists x y ≡ found.Refused k = ap (λ (g : Finding). g .answer) d in
+          let n : _≡_ {A = ℕ} 0 1 = cc in omega arith
+
+      by : (a b s : Bool) → eqb (codeOf p) 0 ≡ a → cospherical p ≡ b → tooShort ≡ s → Lists-found x y c r w
+      by false b s u v z = absurd (refusal (codeOf p) (e ∙ no _ _ u))
+      by true true s u v z = absurd (refusal 12 (e ∙ yes _ _ u ∙ yes _ _ v))
+      by true false true u v z = absurd (refusal 13 (e ∙ yes _ _ u ∙ no _ _ v ∙ yes _ _ z))
+      by true false false u v z =
+          let d = e ∙ yes _ _ u ∙ no _ _ v ∙ no _ _ z in
+          let f : Lists x y ≡ Lists (length (candidatesOf p)) (length (rowsIn p)) = ap (λ (g : Finding). g .answer) d in
+          record {
+            code = eqb-true (codeOf p) 0 u;
+            no-12 = v;
+            no-13 = sym short-same ∙ z;
+            count = cc;
+            row-count = cc;
+            candidates-are = ap (λ (g : Finding). g .candidates) d;
+            weights-are = ap (λ (g : Finding). g .weights) d;
+            rows-are = ap (λ (g : Finding). g .rows) d;
+          }
 
   -- the tables of the tiler have room
   pub record Room : Type 0 where

@@ -1,1 +1,4 @@
 pub mod Finds
+pub mod Accepted
+pub mod Ready
+pub mod Files

@@ -3,7 +3,6 @@ use finder::Found;
 use polygon::Polygon;
 use reader::Status;
 use triangulator::Outcome;
-
 ghost use mathlib.Core.Path.{_≡_};
 ghost use Prim.Native.Nat.{_+_, _≤_};
 ghost use lib.ListN.{length, take};
@@ -56,7 +55,16 @@ pub fn patch_polygon(
         Found::Lists {
             candidates: count,
             rows: row_count,
-        } => triangulate_first(n, candidates, count, weights, rows, row_count, triangles, work),
+        } => triangulate_first(
+            n,
+            candidates,
+            count,
+            weights,
+            rows,
+            row_count,
+            triangles,
+            work,
+        ),
     }
 }
 
