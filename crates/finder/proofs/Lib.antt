@@ -1,3 +1,4 @@
 pub mod Candidates
 pub mod Answers
+pub mod Accepted
 pub mod Cases
