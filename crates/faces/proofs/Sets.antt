@@ -31,7 +31,7 @@ same-flag h k e =
     let u = k .third in
     (omega arith, omega arith, omega arith)
 
-same-triple : {a b c x y z : ℕ} → (a ≡ x) × (b ≡ y) × (c ≡ z) → sameTriple a b c x y z ≡ true
+pub same-triple : {a b c x y z : ℕ} → (a ≡ x) × (b ≡ y) × (c ≡ z) → sameTriple a b c x y z ≡ true
 same-triple {a} {b} {c} {x} {y} {z} e = both-true (eq-eqb a x (e .0)) (both-true (eq-eqb b y (e .1)) (eq-eqb c z (e .2)))
 
 pub triple-same : {a b c x y z : ℕ} → sameTriple a b c x y z ≡ true → (a ≡ x) × (b ≡ y) × (c ≡ z)

@@ -1,2 +1,3 @@
 pub mod Finding
 pub mod Filling
+pub mod Demand2
