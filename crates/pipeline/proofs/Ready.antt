@@ -10,7 +10,6 @@ use Rattle.polygon.specs.declared.Polygon.{Polygon}
 use Rattle.polygon.specs.Polygon.{Valid}
 use Rattle.polygon.proofs.Validity.{code-valid}
 use Rattle.delaunay.specs.Candidates.{candidatesOf}
-use Rattle.dihedrals.specs.Weights.{faceWeight}
 use Rattle.finder.specs.declared.Found.{Found}
 use Rattle.finder.specs.declared.Found.the-variants.{Lists}
 use Rattle.finder.specs.Finding.{finding, findBesideCall}
@@ -22,7 +21,7 @@ use Rattle.triangulator.specs.Call.{Result, result, settled}
 use Rattle.triangulator.proofs.Accepting.{well-formed}
 use Rattle.pipeline.specs.Patching.{tables, patching, weightsIn, rowsIn, jobIn, patchedBy, patchPolygon}
 use Rattle.pipeline.proofs.Finds.{Lists-found, find-lists, Room, room, patched-is}
-use Rattle.pipeline.proofs.Accepted.{lists-accepted, map-length}
+use Rattle.pipeline.proofs.Accepted.{weight-count, lists-accepted}
 
 -- what the tiler asks of the tables, the lists in their first places
 pub record Ready (n x y : ℕ) (triangles : List ℕ) (candidates : List (List ℕ)) (weights : List ℕ) (rows : List (List ℕ)) (work : List ℕ) : Type 0 where
@@ -46,14 +45,14 @@ module _ (p : Polygon) (triangles : List ℕ) (candidates : List (List ℕ)) (we
   lists : Lists-found p triangles candidates weights rows work x y c r w
   lists = find-lists p triangles candidates weights rows work (ap (λ (g : Found). finding g c w r) (sym found) ∙ e)
 
-  weight-count : x ≡ length (weightsIn p)
-  weight-count = lists .count ∙ sym (map-length (faceWeight p) (candidatesOf p))
+  weights-counted : x ≡ length (weightsIn p)
+  weights-counted = lists .count ∙ sym (weight-count p)
 
   first-candidates : take x c ≡ candidatesOf p
   first-candidates = taken (candidatesOf p) candidates (lists .count) (lists .candidates-are)
 
   first-weights : take x w ≡ weightsIn p
-  first-weights = taken (weightsIn p) weights weight-count (lists .weights-are)
+  first-weights = taken (weightsIn p) weights weights-counted (lists .weights-are)
 
   first-rows : take y r ≡ rowsIn p
   first-rows = taken (rowsIn p) rows (lists .row-count) (lists .rows-are)
@@ -64,7 +63,7 @@ module _ (p : Polygon) (triangles : List ℕ) (candidates : List (List ℕ)) (we
       let places = room p triangles candidates weights rows work (lists .no-13) in
       record {
         candidate-places = filled-room (candidatesOf p) candidates (lists .count) (lists .candidates-are);
-        weight-places = filled-room (weightsIn p) weights weight-count (lists .weights-are);
+        weight-places = filled-room (weightsIn p) weights weights-counted (lists .weights-are);
         row-places = filled-room (rowsIn p) rows (lists .row-count) (lists .rows-are);
         work-places = omega (arith, lists .count, places .work-room);
         triangle-places = omega (arith, places .triangle-room, v .least);

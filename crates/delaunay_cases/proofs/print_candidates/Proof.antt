@@ -1,0 +1,65 @@
+-- `delaunay_cases::print_candidates` is safe and ends. Assumes nothing.
+use Prim.Native.Nat.{_≤_, _-_}
+use native.Mathlib.Omega.{arith}
+use borrow.Author.Needs.{needs}
+use lib.ListN.{length}
+use Rattle.delaunay_cases.proofs.print_candidates.Statement.{statement}
+use Rattle.delaunay_cases.proofs.print_candidates.Tie as tie
+use Rattle.delaunay_cases.proofs.print_candidates.Reads as reads
+use Rattle.delaunay_cases.proofs.print_candidates.Lts as lts
+use Rattle.delaunay_cases.proofs.print_candidate.Reads as print-candidate-reads
+use Rattle.io.proofs.write_all.Reads as write-all-reads
+
+abbrev Inv-loop : tie.InvT-loop
+Inv-loop candidates i₀ i-end i = i ≤ length candidates
+
+abbrev μ-loop : tie.MeasureT-loop
+μ-loop candidates i₀ i-end i = length candidates - i
+
+slice-aggregate-write-all : tie.Need-slice-aggregate-write-all Inv-loop μ-loop
+slice-aggregate-write-all c = search needs
+
+write-all-requires : tie.Need-write-all-requires Inv-loop μ-loop
+write-all-requires c κs = search needs
+
+loop-holds : tie.Need-loop-holds Inv-loop μ-loop
+loop-holds c = search needs
+
+mul-print-candidate : tie.Need-mul-print-candidate Inv-loop μ-loop
+mul-print-candidate c = search needs
+
+shared-slice-copy-out-print-candidate :
+    tie.Need-shared-slice-copy-out-print-candidate Inv-loop μ-loop
+shared-slice-copy-out-print-candidate c = search needs
+
+print-candidate-requires : tie.Need-print-candidate-requires Inv-loop μ-loop
+print-candidate-requires c κs = search needs
+
+add-i : tie.Need-add-i Inv-loop μ-loop
+add-i c = search needs
+
+loop-less : tie.Need-loop-less Inv-loop μ-loop
+loop-less c = search needs
+
+loop-again : tie.Need-loop-again Inv-loop μ-loop
+loop-again c = search needs
+
+returns : tie.Need-returns Inv-loop μ-loop
+returns c = search needs
+
+pub print-candidates-spec : {M : Type 1} → statement M
+print-candidates-spec =
+    tie.close
+    (tie.spec
+    Inv-loop
+    μ-loop
+    slice-aggregate-write-all
+    write-all-requires
+    loop-holds
+    mul-print-candidate
+    shared-slice-copy-out-print-candidate
+    print-candidate-requires
+    add-i
+    loop-less
+    loop-again
+    returns)
