@@ -2,3 +2,4 @@ pub mod Finds
 pub mod Accepted
 pub mod Ready
 pub mod Files
+pub mod Demands

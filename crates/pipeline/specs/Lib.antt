@@ -1,1 +1,2 @@
 pub mod Patching
+pub mod Demands

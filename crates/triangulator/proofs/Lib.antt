@@ -1,3 +1,4 @@
 pub mod Accepting
 pub mod Settling
 pub mod Cases
+pub mod Demands

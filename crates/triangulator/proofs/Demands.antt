@@ -1,0 +1,83 @@
+-- Demands 1 and 3 for direct jobs, of the call's outcome and tables. Assumes nothing.
+use Prim.Native.Nat.{ℕ, zero, suc, _<_}
+use mathlib.Core.Path.{_≡_, refl, sym, ap, _∙_, subst}
+use mathlib.Core.Bool.{Bool, true, false}
+use mathlib.Core.List.{List, [], _∷_}
+use native.Mathlib.Omega.{arith}
+use lib.ListN.{length, take}
+use lib.Dec.{eqb}
+use borrow.Author.Tests.{eq-eqb, ne-eqb}
+use Rattle.lists.specs.Lists.{filled}
+use Rattle.lists.proofs.Choice.{yes, no}
+use Rattle.lists.proofs.Writing.{filled-take}
+use Rattle.triangulation.specs.Triangulations.{Answer, none, patch, best}
+use Rattle.triangulation.specs.Jobs.{jobOf}
+use Rattle.triangulation.specs.Demand3.{Demand3}
+use Rattle.jobs.specs.Job.{jobCode}
+use Rattle.jobs.proofs.Acceptance.{FirstDue, Accepted, accepted, accepted-zero, first-due}
+use Rattle.triangulator.specs.declared.Outcome.{Outcome}
+use Rattle.triangulator.specs.declared.Outcome.the-variants.{Patch, None, Refused}
+use Rattle.triangulator.specs.Call.{Result, result, settled, triangulated, numberOf}
+use Rattle.triangulator.specs.Demands.{stated, Taken, a-patch, a-none}
+use Rattle.triangulator.proofs.Accepting.{accepted-demand3}
+
+-- the outcome and the table that an answer leaves state that answer
+pub settled-states : (a : Answer) (count : ℕ) (triangles work : List ℕ) → stated (settled a count triangles work .outcome) (settled a count triangles work .triangles) ≡ a
+settled-states none count triangles work = refl
+settled-states (patch total l) count triangles work = ap (patch total) (filled-take l triangles (length l) refl)
+
+pub settled-taken : (a : Answer) (count : ℕ) (triangles work : List ℕ) → Taken (settled a count triangles work .outcome)
+settled-taken none count triangles work = a-none
+settled-taken (patch total l) count triangles work = a-patch
+
+module _ (n : ℕ) (candidates : List (List ℕ)) (weights : List ℕ) (rows : List (List ℕ)) (triangles work : List ℕ) where
+  call : Result
+  call = triangulated n candidates weights rows triangles work
+
+  number : ℕ
+  number = jobCode n candidates weights rows (length triangles) (length work)
+
+  settled-call : number ≡ 0 → call ≡ settled (best (jobOf n candidates weights rows)) (length candidates) triangles work
+  unfolding call number triangulated
+  settled-call e = yes _ _ (eq-eqb number 0 e)
+
+  refused-call : (k : ℕ) → number ≡ suc k → call ≡ result (Refused (suc k)) triangles work
+  unfolding call number triangulated
+  refused-call k e = no _ _ (ne-eqb number 0 (λ z. omega (arith, e, z))) ∙ ap (λ (j : ℕ). result (Refused j) triangles work) e
+
+  -- "A .. direct job is accepted when no number is due on it or on the tables lent with it": it ends in a patch or 'none'
+  pub job-taken : Accepted n candidates weights rows (length triangles) (length work) → Taken (triangulated n candidates weights rows triangles work .outcome)
+  unfolding call number
+  job-taken a =
+      subst (λ (r : Result). Taken (r .outcome)) (sym (settled-call (accepted-zero n candidates weights rows (length triangles) (length work) a)))
+      (settled-taken (best (jobOf n candidates weights rows)) (length candidates) triangles work)
+
+  -- every other is refused with the first number due, and every table holds what it held
+  pub job-refused : (k : ℕ) → FirstDue n candidates weights rows (length triangles) (length work) (suc k) →
+      triangulated n candidates weights rows triangles work ≡ result (Refused (suc k)) triangles work
+  unfolding call number
+  job-refused k d = refused-call k (Rattle.jobs.proofs.Acceptance.first-code n candidates weights rows (length triangles) (length work) d)
+
+  -- one of the two: the number that the call gives is the first due, 0 where none is
+  pub job-number : FirstDue n candidates weights rows (length triangles) (length work) (numberOf (triangulated n candidates weights rows triangles work .outcome))
+  unfolding call number
+  job-number = subst (λ (k : ℕ). FirstDue n candidates weights rows (length triangles) (length work) k) (sym (by number refl)) (first-due n candidates weights rows (length triangles) (length work))
+    where
+      by : (k : ℕ) → number ≡ k → numberOf (call .outcome) ≡ number
+      by zero e = ap (λ (r : Result). numberOf (r .outcome)) (settled-call e) ∙ settled-number (best (jobOf n candidates weights rows)) ∙ sym e
+        where
+          settled-number : (a : Answer) → numberOf (settled a (length candidates) triangles work .outcome) ≡ 0
+          settled-number none = refl
+          settled-number (patch total l) = refl
+      by (suc k) e = ap (λ (r : Result). numberOf (r .outcome)) (refused-call k e) ∙ sym e
+
+  -- Demand 3: the answer is a patch exactly when the candidates hold a tiling, and 'none' exactly when they hold none; the patch is a tiling in walk
+  -- order with its own total; every other tiling has at least this total, and each with an equal total comes later in walk order
+  pub job-demand3 : Accepted n candidates weights rows (length triangles) (length work) →
+      Demand3 (jobOf n candidates weights rows) (stated (triangulated n candidates weights rows triangles work .outcome) (triangulated n candidates weights rows triangles work .triangles))
+  unfolding call number
+  job-demand3 a =
+      let e = accepted-zero n candidates weights rows (length triangles) (length work) a in
+      subst (λ (x : Answer). Demand3 (jobOf n candidates weights rows) x)
+      (sym (ap (λ (r : Result). stated (r .outcome) (r .triangles)) (settled-call e) ∙ settled-states (best (jobOf n candidates weights rows)) (length candidates) triangles work))
+      (accepted-demand3 n candidates weights rows (length triangles) (length work) e)
