@@ -63,12 +63,12 @@ module _ {p : Polygon} where
     pub kept-mark : length marks ≡ 262144 → a < 64 → b < 64 → c < 64 → d < 64 → counts p a b c d ≡ true → some 0 (p .n) (isFifth p a b c d) ≡ false → Kept p marks₀ (withFaces marks a b c d) left₀ (λ P. left4 (p .n) P a b c (d + 1))
     kept-mark long ha hb hc hd e f = record {
       faces = λ x y z h i j.
-        let L = left4 (p .n) (gives p x y z) a b c (d + 1) in
-        let F = isFace a b c d x y z in
-        ap (λ (t : Bool). either t L) (faces-in marks long ha hb hc hd (record { first = h; second = i; third = j }))
-        ∙ either-swap F (has marks x y z) L
-        ∙ ap (λ (t : Bool). either (has marks x y z) t) (sym (next4 (p .n) (gives p x y z) a b c d d<n ∙ ap (λ (t : Bool). either t L) (both-yes F e)))
-        ∙ k .faces x y z h i j;
+          let L = left4 (p .n) (gives p x y z) a b c (d + 1) in
+          let F = isFace a b c d x y z in
+          ap (λ (t : Bool). either t L) (faces-in marks long ha hb hc hd (record { first = h; second = i; third = j }))
+          ∙ either-swap F (has marks x y z) L
+          ∙ ap (λ (t : Bool). either (has marks x y z) t) (sym (next4 (p .n) (gives p x y z) a b c d d<n ∙ ap (λ (t : Bool). either t L) (both-yes F e)))
+          ∙ k .faces x y z h i j;
       twelve = sym (next4 (p .n) (hasFifth p) a b c d d<n ∙ ap (λ (t : Bool). either t (left4 (p .n) (hasFifth p) a b c (d + 1))) (both-no (counts p a b c d) f)) ∙ k .twelve;
       long = faces-long marks a b c d ∙ k .long;
     }
@@ -95,5 +95,5 @@ module _ {p : Polygon} where
   listed-are {marks₀} {marks} h none e m =
       triples-same (p .n) (has marks) (isCandidate p)
       (λ x y z hx hy hz.
-        m .faces e x y z (omega arith) (omega arith) (omega arith)
-        ∙ ap (λ (t : Bool). either t (isCandidate p x y z)) (none x y z (omega arith) (omega arith) (omega arith)))
+      m .faces e x y z (omega arith) (omega arith) (omega arith)
+      ∙ ap (λ (t : Bool). either t (isCandidate p x y z)) (none x y z (omega arith) (omega arith) (omega arith)))

@@ -38,10 +38,10 @@ module _ (p : Polygon) (a b c d : ℕ) where
   scan-on v fifth fifth′ h e f s = record {
     clear = sym (every-on v (p .n) _ h (ap not e)) ∙ s .clear;
     found =
-      ap (λ (t : Bool). either t (some (v + 1) (p .n) (isFifth p a b c d))) f
-      ∙ sym (either-assoc fifth (isFifth p a b c d v) (some (v + 1) (p .n) (isFifth p a b c d)))
-      ∙ ap (λ (t : Bool). either fifth t) (sym (some-step v (p .n) (isFifth p a b c d) h))
-      ∙ s .found;
+        ap (λ (t : Bool). either t (some (v + 1) (p .n) (isFifth p a b c d))) f
+        ∙ sym (either-assoc fifth (isFifth p a b c d v) (some (v + 1) (p .n) (isFifth p a b c d)))
+        ∙ ap (λ (t : Bool). either fifth t) (sym (some-step v (p .n) (isFifth p a b c d) h))
+        ∙ s .found;
   }
 
   pub not-counts-flat : coplanar (vertex p a) (vertex p b) (vertex p c) (vertex p d) ≡ true → counts p a b c d ≡ false

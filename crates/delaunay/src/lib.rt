@@ -3,7 +3,6 @@ use geometry::sphere;
 use geometry::sphere::Lifted;
 use geometry::sphere::Position;
 use polygon::Polygon;
-
 ghost use mathlib.Core.Path.{_≡_};
 ghost use mathlib.Core.Bool.{Bool, false, not};
 ghost use Prim.Native.Nat.{_<_, _≤_};
@@ -53,7 +52,15 @@ fn is_corner(a: usize, b: usize, c: usize, d: usize, v: usize) -> bool
 }
 
 // Is a vertex other than the corners found on the sphere, now or before?
-fn fifth_found(found: bool, place: Position, a: usize, b: usize, c: usize, d: usize, v: usize) -> bool
+fn fifth_found(
+    found: bool,
+    place: Position,
+    a: usize,
+    b: usize,
+    c: usize,
+    d: usize,
+    v: usize,
+) -> bool
     ensures { λ r. ⌜ r ≡ either found (both (not (isCorner a b c d v)) (isOn place)) ⌝ }
 {
     if found {

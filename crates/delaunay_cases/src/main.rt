@@ -3,7 +3,6 @@ use finder::Found;
 use geometry::face;
 use grid::GridPoint;
 use polygon::Polygon;
-
 ghost use Prim.Native.Nat.{_≤_};
 ghost use lib.ListN.{length};
 
@@ -141,7 +140,11 @@ const FLAT: [GridPoint; 6] = [
     GridPoint { x: 8, y: 0, z: 0 },
     GridPoint { x: 8, y: 8, z: 0 },
     GridPoint { x: 0, y: 8, z: 0 },
-    GridPoint { x: 2000, y: 0, z: 0 },
+    GridPoint {
+        x: 2000,
+        y: 0,
+        z: 0,
+    },
 ];
 
 // All places, exactly as many as are needed, and one too few in each table.

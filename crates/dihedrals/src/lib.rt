@@ -2,7 +2,6 @@
 use geometry::Vector;
 use geometry::face;
 use polygon::Polygon;
-
 ghost use mathlib.Core.Path.{_≡_};
 ghost use mathlib.Core.List.{map};
 ghost use Prim.Native.Nat.{_+_, _<_, _≤_};
@@ -100,7 +99,13 @@ fn write_ending(
 }
 
 // The rows of outer o, put after the first count rows.
-fn write_on(p: Polygon, candidates: &[[u8; 3]], o: usize, out: &mut [[u32; 3]], start: usize) -> usize
+fn write_on(
+    p: Polygon,
+    candidates: &[[u8; 3]],
+    o: usize,
+    out: &mut [[u32; 3]],
+    start: usize,
+) -> usize
     requires { ⌜ (Solid p (now candidates)) × (o < length (now candidates)) × (start + length (rowsOn p (now candidates) o) ≤ length (now out)) ⌝ }
     ensures { λ r. ⌜ (r ≡ start + length (rowsOn p (now (candidates .entry)) o)) × (now (out .exit) ≡ appended (now (out .entry)) start (rowsOn p (now (candidates .entry)) o)) ⌝ }
 {

@@ -74,12 +74,12 @@ module _ (flags : List ℕ) {a b c d x y z : ℕ} (long : length flags ≡ 26214
       let l3 : length f3 ≡ 262144 = length-set f2 _ 1 ∙ l2 in
       put-in f3 l3 (record { first = ha; second = hb; third = hc }) k
       ∙ ap (λ (t : Bool). either (sameTriple a b c x y z) t)
-        (put-in f2 l2 (record { first = ha; second = hb; third = hd }) k
-        ∙ ap (λ (t : Bool). either (sameTriple a b d x y z) t)
-          (put-in f1 l1 (record { first = ha; second = hc; third = hd }) k
-          ∙ ap (λ (t : Bool). either (sameTriple a c d x y z) t) (put-in flags long (record { first = hb; second = hc; third = hd }) k)
-          ∙ either-assoc (sameTriple a c d x y z) (sameTriple b c d x y z) (has flags x y z))
-        ∙ either-assoc (sameTriple a b d x y z) (either (sameTriple a c d x y z) (sameTriple b c d x y z)) (has flags x y z))
+      (put-in f2 l2 (record { first = ha; second = hb; third = hd }) k
+      ∙ ap (λ (t : Bool). either (sameTriple a b d x y z) t)
+      (put-in f1 l1 (record { first = ha; second = hc; third = hd }) k
+      ∙ ap (λ (t : Bool). either (sameTriple a c d x y z) t) (put-in flags long (record { first = hb; second = hc; third = hd }) k)
+      ∙ either-assoc (sameTriple a c d x y z) (sameTriple b c d x y z) (has flags x y z))
+      ∙ either-assoc (sameTriple a b d x y z) (either (sameTriple a c d x y z) (sameTriple b c d x y z)) (has flags x y z))
       ∙ either-assoc (sameTriple a b c x y z) (either (sameTriple a b d x y z) (either (sameTriple a c d x y z) (sameTriple b c d x y z))) (has flags x y z)
 
 pub faces-long : (flags : List ℕ) (a b c d : ℕ) → length (withFaces flags a b c d) ≡ length flags

@@ -57,12 +57,13 @@ module _ (p : Polygon) (cs : List (List ℕ)) where
   rows-ascend =
       over-ascending 0 (length cs) (rowsOn p cs)
       (λ o. over-ascending 0 (length cs) (λ i. when (hangs (entryAt cs i) (entryAt cs o)) (rowAt p cs o i))
-        (λ i. when-ascending (hangs (entryAt cs i) (entryAt cs o)) (rowAt p cs o i))
-        (λ i j x y h mx my. within o i j x y h (when-member (hangs (entryAt cs i) (entryAt cs o)) (rowAt p cs o i) x mx .1) (when-member (hangs (entryAt cs j) (entryAt cs o)) (rowAt p cs o j) y my .1)))
+      (λ i. when-ascending (hangs (entryAt cs i) (entryAt cs o)) (rowAt p cs o i))
+      (λ i j x y h mx my. within o i j x y h (when-member (hangs (entryAt cs i) (entryAt cs o)) (rowAt p cs o i) x mx .1) (when-member (hangs (entryAt cs j) (entryAt cs o)) (rowAt p cs o j) y my .1)))
       (λ o u x y h mx my. by-outer (omega (arith, of-outer o x mx, of-outer u y my)))
     where
       within : (o i j : ℕ) (x y : List ℕ) → i < j → x ≡ rowAt p cs o i → y ≡ rowAt p cs o j → RowBefore x y
       within o i j x y h ex ey = by-inner (ap outer ex ∙ sym (ap outer ey)) (omega (arith, ap inner ex, ap inner ey))
+
       of-outer : (o : ℕ) (x : List ℕ) → List·Memᴰ x (rowsOn p cs o) → outer x ≡ o
       of-outer o x m =
           let v = over-member 0 (length cs) (λ i. when (hangs (entryAt cs i) (entryAt cs o)) (rowAt p cs o i)) x m in
@@ -102,5 +103,5 @@ module _ (p : Polygon) (v : Valid p) where
   weights-allowed = record {
     own = λ i h. subst (λ (w : ℕ). w ≤ 2000000000) (sym (weight-at i h)) (le-trans (area-weight-bound (v .area-factor) (length-bound (face-within v (candidates-solid p v .corners i h)))) (lit≤ tt));
     of-row = λ k h. let f = row-hinge p (candidatesOf p) (entryAt (rowsOf p (candidatesOf p)) k) (entry-member (rowsOf p (candidatesOf p)) [] k h) in
-      subst (λ (w : ℕ). w ≤ 2000000000) (sym (ap rowWeight (f .is))) (le-trans (bend-weight-bound (v .bend-factor) (bend-bound (dotOf (faceNormal p (entryAt (candidatesOf p) (f .i))) (faceNormal p (entryAt (candidatesOf p) (f .o)))) (lengthOf (faceNormal p (entryAt (candidatesOf p) (f .i)))) (lengthOf (faceNormal p (entryAt (candidatesOf p) (f .o)))))) (lit≤ tt));
+        subst (λ (w : ℕ). w ≤ 2000000000) (sym (ap rowWeight (f .is))) (le-trans (bend-weight-bound (v .bend-factor) (bend-bound (dotOf (faceNormal p (entryAt (candidatesOf p) (f .i))) (faceNormal p (entryAt (candidatesOf p) (f .o)))) (lengthOf (faceNormal p (entryAt (candidatesOf p) (f .i)))) (lengthOf (faceNormal p (entryAt (candidatesOf p) (f .o)))))) (lit≤ tt));
   }

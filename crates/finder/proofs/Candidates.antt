@@ -32,10 +32,10 @@ module _ (n : ℕ) (P : ℕ → ℕ → ℕ → Bool) where
   triples-ascend =
       over-ascending 0 n _
       (λ a. over-ascending (a + 1) n _
-        (λ b. over-ascending (b + 1) n _
-          (λ c. when-ascending (P a b c) (triple a b c))
-          (λ c d x y h mx my. third a b c d x y h (when-member (P a b c) (triple a b c) x mx .1) (when-member (P a b d) (triple a b d) y my .1)))
-        (λ b d x y h mx my. second a b d x y h (in-second a b x mx) (in-second a d y my)))
+      (λ b. over-ascending (b + 1) n _
+      (λ c. when-ascending (P a b c) (triple a b c))
+      (λ c d x y h mx my. third a b c d x y h (when-member (P a b c) (triple a b c) x mx .1) (when-member (P a b d) (triple a b d) y my .1)))
+      (λ b d x y h mx my. second a b d x y h (in-second a b x mx) (in-second a d y my)))
       (λ a d x y h mx my. first a d x y h (in-first a x mx) (in-first d y my))
     where
       in-second : (a b : ℕ) (x : List ℕ) → List·Memᴰ x (over (b + 1) n (λ c. when (P a b c) (triple a b c))) → (vertexA x ≡ a) × (vertexB x ≡ b)
@@ -43,15 +43,19 @@ module _ (n : ℕ) (P : ℕ → ℕ → ℕ → Bool) where
           let w = over-member (b + 1) n (λ c. when (P a b c) (triple a b c)) x m in
           let e = when-member (P a b (w .at)) (triple a b (w .at)) x (w .member) .1 in
           (ap vertexA e, ap vertexB e)
+
       in-first : (a : ℕ) (x : List ℕ) → List·Memᴰ x (over (a + 1) n (λ b. over (b + 1) n (λ c. when (P a b c) (triple a b c)))) → vertexA x ≡ a
       in-first a x m =
           let w = over-member (a + 1) n (λ b. over (b + 1) n (λ c. when (P a b c) (triple a b c))) x m in
           let v = over-member (w .at + 1) n (λ c. when (P a (w .at) c) (triple a (w .at) c)) x (w .member) in
           ap vertexA (when-member (P a (w .at) (v .at)) (triple a (w .at) (v .at)) x (v .member) .1)
+
       third : (a b c d : ℕ) (x y : List ℕ) → c < d → x ≡ triple a b c → y ≡ triple a b d → Before x y
       third a b c d x y h ex ey = by-c (ap vertexA ex ∙ sym (ap vertexA ey)) (ap vertexB ex ∙ sym (ap vertexB ey)) (omega (arith, ap vertexC ex, ap vertexC ey))
+
       second : (a b d : ℕ) (x y : List ℕ) → b < d → (vertexA x ≡ a) × (vertexB x ≡ b) → (vertexA y ≡ a) × (vertexB y ≡ d) → Before x y
       second a b d x y h ex ey = by-b (ex .0 ∙ sym (ey .0)) (omega (arith, ex .1, ey .1))
+
       first : (a d : ℕ) (x y : List ℕ) → a < d → vertexA x ≡ a → vertexA y ≡ d → Before x y
       first a d x y h ex ey = by-a (omega (arith, ex, ey))
 

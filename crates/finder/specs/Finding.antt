@@ -60,9 +60,9 @@ findOr13 tooShort p candidates weights rows =
     (cond tooShort
     (finding (Refused 13) candidates weights rows)
     (finding (Lists (length (candidatesOf p)) (length (rowsOf p (candidatesOf p))))
-      (filled (candidatesOf p) candidates)
-      (filled (weightsOf p (candidatesOf p)) weights)
-      (filled (rowsOf p (candidatesOf p)) rows))))
+    (filled (candidatesOf p) candidates)
+    (filled (weightsOf p (candidatesOf p)) weights)
+    (filled (rowsOf p (candidatesOf p)) rows))))
     (finding (Refused (codeOf p)) candidates weights rows)
 
 abbrev pub findCall : Polygon → List (List ℕ) → List ℕ → List (List ℕ) → Finding

@@ -1,7 +1,6 @@
 // The candidate finder: from a polygon to its candidates, their weights and the rows of hanging pairs.
 use delaunay::Listed;
 use polygon::Polygon;
-
 ghost use mathlib.Core.Path.{_≡_};
 ghost use Prim.Native.Nat.{_≤_};
 ghost use lib.ListN.{length};
@@ -35,7 +34,10 @@ impl Found {
         ensures { λ r. ⌜ r ≡ candidateCountOf self ⌝ }
     {
         match self {
-            Found::Lists { candidates, rows: _ } => candidates,
+            Found::Lists {
+                candidates,
+                rows: _,
+            } => candidates,
             Found::Refused(_) => 0,
         }
     }
@@ -44,7 +46,10 @@ impl Found {
         ensures { λ r. ⌜ r ≡ rowCountOf self ⌝ }
     {
         match self {
-            Found::Lists { candidates: _, rows } => rows,
+            Found::Lists {
+                candidates: _,
+                rows,
+            } => rows,
             Found::Refused(_) => 0,
         }
     }
@@ -122,7 +127,15 @@ pub fn find_beside(
         Listed::Cospherical => Found::Refused(codes::COSPHERICAL),
         Listed::Candidates(count) => {
             let found = &buffer[..count];
-            fill(p, found, triangle_places, work_places, candidates, weights, rows)
+            fill(
+                p,
+                found,
+                triangle_places,
+                work_places,
+                candidates,
+                weights,
+                rows,
+            )
         }
     }
 }

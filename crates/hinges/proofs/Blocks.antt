@@ -22,6 +22,7 @@ module _ {A : Type 0} where
     where
       y : 0 + k ≡ k
       y = omega arith
+
       z : lo ≡ lo + 0
       z = omega arith
   up-split f lo (suc j) k =
@@ -29,6 +30,7 @@ module _ {A : Type 0} where
     where
       e : suc j + k ≡ suc (j + k)
       e = omega arith
+
       d : suc lo + j ≡ lo + suc j
       d = omega arith
 
@@ -106,11 +108,11 @@ module _ (cs : List (List ℕ)) (o la ha lb hb : ℕ)
       ∙ over-split found la ha n o1 (omega arith)
       ∙ (λ i. first i ++ over ha n found)
       ∙ ap (λ (l : List ℕ). endingIn cs la ha b ++ l)
-        (over-split found ha lb n o2 (omega arith)
-        ∙ (λ i. between i ++ over lb n found)
-        ∙ over-split found lb hb n o3 o4
-        ∙ (λ i. second i ++ after i)
-        ∙ append-nil (endingIn cs lb hb (vertexC (entryAt cs o))))
+      (over-split found ha lb n o2 (omega arith)
+      ∙ (λ i. between i ++ over lb n found)
+      ∙ over-split found lb hb n o3 o4
+      ∙ (λ i. second i ++ after i)
+      ∙ append-nil (endingIn cs lb hb (vertexC (entryAt cs o))))
 
   pub two-counts : length (innersOn cs o) ≡ length (endingIn cs la ha (vertexB (entryAt cs o))) + length (endingIn cs lb hb (vertexC (entryAt cs o)))
   two-counts = ap length two-blocks ∙ length-append (endingIn cs la ha (vertexB (entryAt cs o))) (endingIn cs lb hb (vertexC (entryAt cs o)))

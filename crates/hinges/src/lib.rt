@@ -52,8 +52,18 @@ fn count_on(candidates: &[[u8; 3]], o: usize) -> usize
     let t = candidates[o];
     let a = wide(t[0]);
     let b = wide(t[1]);
-    let first = count_ending(candidates, block_start(candidates, a), block_start(candidates, a + 1), t[1]);
-    let second = count_ending(candidates, block_start(candidates, b), block_start(candidates, b + 1), t[2]);
+    let first = count_ending(
+        candidates,
+        block_start(candidates, a),
+        block_start(candidates, a + 1),
+        t[1],
+    );
+    let second = count_ending(
+        candidates,
+        block_start(candidates, b),
+        block_start(candidates, b + 1),
+        t[2],
+    );
     first + second
 }
 

@@ -3,3 +3,4 @@ pub mod Accepted
 pub mod Ready
 pub mod Files
 pub mod Demands
+pub mod Starred

@@ -1,2 +1,3 @@
 pub mod Patching
 pub mod Demands
+pub mod Starred

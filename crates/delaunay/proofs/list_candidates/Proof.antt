@@ -50,9 +50,10 @@ same-length c = search needs
 returns-2 : tie.Need-returns-2
 returns-2 c =
     let e = c .before .before .before .before in
-    let l = c .before .list .ensures in
-    (ap Candidates (l .0 ∙ ap length (candidates e)) ∙ sym (no _ _ (not-due e)),
-    l .1 ∙ ap (λ (t : List (List ℕ)). filled t (e .before .before .before .args .out .now)) (candidates e) ∙ sym (no _ _ (not-due e)))
+    let l = c .before .list .ensures in (
+      ap Candidates (l .0 ∙ ap length (candidates e)) ∙ sym (no _ _ (not-due e)),
+      l .1 ∙ ap (λ (t : List (List ℕ)). filled t (e .before .before .before .args .out .now)) (candidates e) ∙ sym (no _ _ (not-due e)),
+    )
 
 pub list-candidates-spec : {M : Type 1} → statement M
 list-candidates-spec =

@@ -745,10 +745,10 @@ loop4-again c =
       ahead = omega arith;
       hint = l .loop4 .inv .hint;
       scanned = scan-on _ _ _ _ _ _ (l .loop4 .fifth) _ h (passes e _ h (c .before .before .locate2 .ensures) n)
-        (c .fifth-found .ensures
-        ∙ ap (λ (d : ℕ). either (l .loop4 .fifth) (both (not (isCorner (A (start e)) (B (start e)) (C (start e)) d (l .loop4 .v))) (isOn (c .before .before .locate2 .result)))) (l .loop4 .inv .stays)
-        ∙ found-on e _ h (c .before .before .locate2 .ensures) n (l .loop4 .fifth))
-        (l .loop4 .inv .scanned);
+          (c .fifth-found .ensures
+          ∙ ap (λ (d : ℕ). either (l .loop4 .fifth) (both (not (isCorner (A (start e)) (B (start e)) (C (start e)) d (l .loop4 .v))) (isOn (c .before .before .locate2 .result)))) (l .loop4 .inv .stays)
+          ∙ found-on e _ h (c .before .before .locate2 .ensures) n (l .loop4 .fifth))
+          (l .loop4 .inv .scanned);
     }
 
 -- after the scan the four counts
@@ -848,12 +848,13 @@ next-again-4 c =
     let e = last-e q in
     let g = start e in
     let m = valid g .most in
-    let long = kept (corners e) .long ∙ g .before .loop3 .inv .1 .long ∙ g .before .before .before .loop2 .inv .1 .long ∙ g .before .before .before .before .before .before .loop .inv .1 .long ∙ g .before .before .before .before .before .before .before .pre .1 in
-    (l .loop4 .inv .hint,
-    subst (λ (flags : List ℕ). Next e flags (l .loop4 .d)) (sym (c .insert-faces .ensures ∙ ap (λ (d : ℕ). withFaces (corners e .before .next .flags) (A g) (B g) (C g) d) (l .loop4 .inv .stays)))
-    (same-four e _ (l .loop4 .inv .stays)
-    (kept-mark (A g) (B g) (C g) (D (corners e)) (kept (corners e)) (d<n (corners e)) long
-    (omega (arith, m, a<n g)) (omega (arith, m, b<n g)) (omega (arith, m, c<n g)) (omega (arith, m, d<n (corners e))) (counts-now q) (fifth-is q ∙ c .before .before .if2 .left))))
+    let long = kept (corners e) .long ∙ g .before .loop3 .inv .1 .long ∙ g .before .before .before .loop2 .inv .1 .long ∙ g .before .before .before .before .before .before .loop .inv .1 .long ∙ g .before .before .before .before .before .before .before .pre .1 in (
+      l .loop4 .inv .hint,
+      subst (λ (flags : List ℕ). Next e flags (l .loop4 .d)) (sym (c .insert-faces .ensures ∙ ap (λ (d : ℕ). withFaces (corners e .before .next .flags) (A g) (B g) (C g) d) (l .loop4 .inv .stays)))
+          (same-four e _ (l .loop4 .inv .stays)
+          (kept-mark (A g) (B g) (C g) (D (corners e)) (kept (corners e)) (d<n (corners e)) long
+          (omega (arith, m, a<n g)) (omega (arith, m, b<n g)) (omega (arith, m, c<n g)) (omega (arith, m, d<n (corners e))) (counts-now q) (fifth-is q ∙ c .before .before .if2 .left))),
+    )
 
 add-c-2 :
     tie.Need-add-c-2

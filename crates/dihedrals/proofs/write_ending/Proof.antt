@@ -123,12 +123,14 @@ loop-less c = omega (arith, c .before .before .loop-test .taken)
 loop-again : tie.Need-loop-again Inv-loop μ-loop
 loop-again c =
     let g = c .before .before in
-    let h = g .loop-test .taken in
-    (omega (arith, g .before .loop .inv .0), omega arith,
-    ⊎-elim
-    (λ w. moved (w .3) (w .4) (push (next (record { before = record { before = record { before = c .before; if1 = w .0 }; face-of2 = w .1 }; hinge-weight = w .2 }))))
-    (λ w. moved (w .1) (w .2) (after g false (ne-eqb _ _ (w .0 .left))))
-    (c .if1 .came))
+    let h = g .loop-test .taken in (
+      omega (arith, g .before .loop .inv .0),
+      omega arith,
+      ⊎-elim
+          (λ w. moved (w .3) (w .4) (push (next (record { before = record { before = record { before = c .before; if1 = w .0 }; face-of2 = w .1 }; hinge-weight = w .2 }))))
+          (λ w. moved (w .1) (w .2) (after g false (ne-eqb _ _ (w .0 .left))))
+          (c .if1 .came),
+    )
 
 same-length : tie.Need-same-length Inv-loop μ-loop
 same-length c = c .before .loop .inv .2 .long

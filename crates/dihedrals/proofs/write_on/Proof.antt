@@ -94,10 +94,10 @@ module _ (g : tie.After-block-start4) where
   rows-are =
       rows-of-inners (begin .args .p) (cs begin) (o begin)
       ∙ ap (map row) (two-blocks (cs begin) (o begin) (g .before .before .before .block-start .result) (g .before .before .block-start2 .result) (g .before .block-start3 .result) (g .block-start4 .result) (a<b begin)
-        (start-at (cs begin) a-is (g .before .before .before .block-start .ensures))
-        (start-at (cs begin) (ap (λ (k : ℕ). k + 1) a-is) (g .before .before .block-start2 .ensures))
-        (start-at (cs begin) b-is (g .before .block-start3 .ensures))
-        (start-at (cs begin) (ap (λ (k : ℕ). k + 1) b-is) (g .block-start4 .ensures)))
+      (start-at (cs begin) a-is (g .before .before .before .block-start .ensures))
+      (start-at (cs begin) (ap (λ (k : ℕ). k + 1) a-is) (g .before .before .block-start2 .ensures))
+      (start-at (cs begin) b-is (g .before .block-start3 .ensures))
+      (start-at (cs begin) (ap (λ (k : ℕ). k + 1) b-is) (g .block-start4 .ensures)))
       ∙ map-append row first second
 
   count-is : length (rowsOn (begin .args .p) (cs begin) (o begin)) ≡ length first + length second
@@ -137,12 +137,13 @@ returns : tie.Need-returns
 returns c =
     let e = c .before .before .before .before in
     let g = blocks e in
-    let s = begin g in
-    (c .before .write-ending2 .ensures .0 ∙ omega (arith, e .write-ending .ensures .0, count-is g),
-    append-two (s .args .out .now) (map (row g) (first g)) (map (row g) (second g)) (s .args .start) (omega (arith, room g, length-map (first g) (row g), length-map (second g) (row g)))
-    (e .write-ending .ensures .0 ∙ ap (λ (k : ℕ). s .args .start + k) (sym (length-map (first g) (row g)))) (e .write-ending .ensures .1)
-    (c .before .write-ending2 .ensures .0 ∙ ap (λ (k : ℕ). e .write-ending .result + k) (sym (length-map (second g) (row g)))) (c .before .write-ending2 .ensures .1)
-    ∙ ap (λ (l : List (List ℕ)). appended (s .args .out .now) (s .args .start) l) (sym (rows-are g)))
+    let s = begin g in (
+      c .before .write-ending2 .ensures .0 ∙ omega (arith, e .write-ending .ensures .0, count-is g),
+      append-two (s .args .out .now) (map (row g) (first g)) (map (row g) (second g)) (s .args .start) (omega (arith, room g, length-map (first g) (row g), length-map (second g) (row g)))
+          (e .write-ending .ensures .0 ∙ ap (λ (k : ℕ). s .args .start + k) (sym (length-map (first g) (row g)))) (e .write-ending .ensures .1)
+          (c .before .write-ending2 .ensures .0 ∙ ap (λ (k : ℕ). e .write-ending .result + k) (sym (length-map (second g) (row g)))) (c .before .write-ending2 .ensures .1)
+          ∙ ap (λ (l : List (List ℕ)). appended (s .args .out .now) (s .args .start) l) (sym (rows-are g)),
+    )
 
 pub write-on-spec : {M : Type 1} → statement M
 write-on-spec =

@@ -92,10 +92,10 @@ module _ (c : tie.After-count-ending2) where
       let e = c .before .before .before .count-ending .ensures in
       let f = c .count-ending2 .ensures in
       let d = two-counts (cs w) (o w) (c .before .before .before .before .before .block-start .result) (c .before .before .before .before .block-start2 .result) (c .before .before .block-start3 .result) (c .before .block-start4 .result) (a<b w)
-              (start-at (cs w) (a-is w) (c .before .before .before .before .before .block-start .ensures))
-              (start-at (cs w) (ap (λ (k : ℕ). k + 1) (a-is w)) (c .before .before .before .before .block-start2 .ensures))
-              (start-at (cs w) (b-is w) (c .before .before .block-start3 .ensures))
-              (start-at (cs w) (ap (λ (k : ℕ). k + 1) (b-is w)) (c .before .block-start4 .ensures)) in
+      (start-at (cs w) (a-is w) (c .before .before .before .before .before .block-start .ensures))
+      (start-at (cs w) (ap (λ (k : ℕ). k + 1) (a-is w)) (c .before .before .before .before .block-start2 .ensures))
+      (start-at (cs w) (b-is w) (c .before .before .block-start3 .ensures))
+      (start-at (cs w) (ap (λ (k : ℕ). k + 1) (b-is w)) (c .before .block-start4 .ensures)) in
       d ∙ (λ i. sym e i + sym f i)
 
 add-result : tie.Need-add-result

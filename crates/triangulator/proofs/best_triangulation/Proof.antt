@@ -1,3 +1,4 @@
+-- `triangulator::best_triangulation` meets its contract. Assumes nothing.
 use mathlib.Core.Path.{ap}
 use native.Mathlib.Omega.{arith}
 use Rattle.triangulation.specs.Triangulations.{bestKey, answerOf}
