@@ -1,107 +1,74 @@
-// Links, and chains of every length. A chain from file::chain has 8 + 16R bytes.
-use crate::compare::accepted;
-use crate::compare::accepted_chain;
-use crate::compare::refused;
-use crate::file;
+// Links, and chains of every length.
+use crate::cases::NONE;
+use crate::cases::SAME;
+use crate::cases::chain;
+use crate::cases::four_points;
+use crate::cases::four_points_accepted;
 use crate::file::Bytes;
+use crate::file::FIRST;
+use crate::file::NEXT;
 
 pub fn links(file: &mut Bytes) {
-    file::four_points(file);
-    file::set_first(file, 2);
-    accepted(
+    four_points_accepted(
         file,
         72,
-        b"first 2 of 4",
+        [[0, FIRST, 2], NONE, NONE],
         &[[8, 0, 0], [8, 8, 6], [0, 8, 0]],
     );
-    file::set_first(file, 5);
-    refused(file, 72, b"first 5 of 4", 3);
-    file::set_first(file, 257);
-    refused(file, 72, b"first 257 of 4", 3);
-    file::set_first(file, 65535);
-    refused(file, 72, b"first 65535 of 4", 3);
-    file::set_first(file, 1);
-    file::set_next(file, 4, 5);
-    refused(file, 72, b"last names 5 of 4", 3);
-    file::set_next(file, 4, 256);
-    refused(file, 72, b"last names 256 of 4", 3);
-    file::set_next(file, 4, 65535);
-    refused(file, 72, b"last names 65535 of 4", 3);
-    file::set_next(file, 3, 0);
-    accepted(
+    four_points(file, 72, [[0, FIRST, 5], NONE, NONE], 3);
+    four_points(file, 72, [[0, FIRST, 257], NONE, NONE], 3);
+    four_points(file, 72, [[0, FIRST, 65535], NONE, NONE], 3);
+    four_points(file, 72, [[4, NEXT, 5], NONE, NONE], 3);
+    four_points(file, 72, [[4, NEXT, 256], NONE, NONE], 3);
+    four_points(file, 72, [[4, NEXT, 65535], NONE, NONE], 3);
+    // Record 4 is off the chain.
+    four_points_accepted(
         file,
         72,
-        b"spare record names 65535 of 4",
+        [[3, NEXT, 0], [4, NEXT, 65535], NONE],
         &[[0, 0, 0], [8, 0, 0], [8, 8, 6]],
     );
 }
 
-pub fn repeats(file: &mut Bytes) {
-    file::four_points(file);
-    file::set_next(file, 4, 1);
-    refused(file, 72, b"last names the first", 4);
-    file::set_next(file, 4, 2);
-    refused(file, 72, b"last names the second", 4);
-    file::set_next(file, 4, 4);
-    refused(file, 72, b"last names itself", 4);
-    file::set_next(file, 3, 3);
-    refused(file, 72, b"third names itself", 4);
-    file::set_next(file, 1, 1);
-    refused(file, 72, b"first names itself", 4);
+pub fn repeated(file: &mut Bytes) {
+    four_points(file, 72, [[4, NEXT, 1], NONE, NONE], 4);
+    four_points(file, 72, [[4, NEXT, 2], NONE, NONE], 4);
+    four_points(file, 72, [[4, NEXT, 4], NONE, NONE], 4);
+    four_points(file, 72, [[3, NEXT, 3], NONE, NONE], 4);
+    four_points(file, 72, [[1, NEXT, 1], NONE, NONE], 4);
 }
 
 pub fn few(file: &mut Bytes) {
-    file::four_points(file);
-    file::set_first(file, 0);
-    refused(file, 72, b"first 0 of 4", 10);
-    file::set_first(file, 4);
-    refused(file, 72, b"a chain of 1", 10);
-    file::set_first(file, 3);
-    refused(file, 72, b"a chain of 2", 10);
-    file::chain(file, 3, 3, 1);
-    accepted_chain(file, 56, b"a chain of 3", 3);
+    four_points(file, 72, [[0, FIRST, 0], NONE, NONE], 10);
+    four_points(file, 72, [[0, FIRST, 4], NONE, NONE], 10);
+    four_points(file, 72, [[0, FIRST, 3], NONE, NONE], 10);
+    chain(file, [3, 3, 1], 56, SAME, 0);
 }
 
 pub fn many(file: &mut Bytes) {
-    file::chain(file, 63, 66, 1);
-    accepted_chain(file, 1064, b"a chain of 63", 63);
-    file::chain(file, 64, 66, 1);
-    accepted_chain(file, 1064, b"a chain of 64", 64);
-    file::set_next(file, 64, 64);
-    refused(file, 1064, b"the 64th names itself", 4);
-    file::set_next(file, 64, 1);
-    refused(file, 1064, b"the 64th names the first", 4);
-    file::set_next(file, 64, 67);
-    refused(file, 1064, b"the 64th names 67 of 66", 3);
-    file::set_next(file, 64, 66);
-    refused(file, 1064, b"the 64th names a record of junk", 5);
-    file::chain(file, 65, 66, 1);
-    refused(file, 1064, b"a chain of 65", 5);
-    file::chain(file, 66, 66, 1);
-    refused(file, 1064, b"a chain of 66", 5);
-    file::chain(file, 256, 256, 1);
-    refused(file, 4104, b"a chain of 256", 5);
+    chain(file, [63, 66, 1], 1064, SAME, 0);
+    chain(file, [64, 66, 1], 1064, SAME, 0);
+    chain(file, [64, 66, 1], 1064, [[64, NEXT, 64], NONE, NONE], 4);
+    chain(file, [64, 66, 1], 1064, [[64, NEXT, 1], NONE, NONE], 4);
+    chain(file, [64, 66, 1], 1064, [[64, NEXT, 67], NONE, NONE], 3);
+    // Record 66 is junk, which is not looked at.
+    chain(file, [64, 66, 1], 1064, [[64, NEXT, 66], NONE, NONE], 5);
+    chain(file, [65, 66, 1], 1064, SAME, 5);
+    chain(file, [66, 66, 1], 1064, SAME, 5);
+    chain(file, [256, 256, 1], 4104, SAME, 5);
 }
 
-// Spare records hold junk. Position i of 97 records by steps of 37 is record 1 + 37i modulo 97.
+// Spare records hold junk. In 97 records by steps of 37 position i is record 1 + 37i modulo 97: the 40th
+// is record 86, the 21st record 62, and record 87 is spare.
 pub fn shuffled(file: &mut Bytes) {
-    file::chain(file, 64, 64, 63);
-    accepted_chain(file, 1032, b"64 of 64, backward", 64);
-    file::chain(file, 10, 11, 4);
-    accepted_chain(file, 184, b"10 of 11 by steps of 4", 10);
-    file::chain(file, 64, 97, 37);
-    accepted_chain(file, 1560, b"64 of 97 by steps of 37", 64);
-    file::chain(file, 64, 256, 5);
-    accepted_chain(file, 4104, b"64 of 256 by steps of 5", 64);
-    file::chain(file, 3, 256, 255);
-    accepted_chain(file, 4104, b"records 1, 256 and 255", 3);
-    file::chain(file, 65, 256, 5);
-    refused(file, 4104, b"65 of 256 by steps of 5", 5);
-    file::chain(file, 40, 97, 37);
-    file::set_next(file, 86, 62);
-    refused(file, 1560, b"the last of 40 names the 21st", 4);
-    file::set_next(file, 86, 98);
-    refused(file, 1560, b"the last of 40 names 98 of 97", 3);
-    file::set_next(file, 86, 87);
-    refused(file, 1560, b"the last of 40 names a record of junk", 6);
+    chain(file, [64, 64, 63], 1032, SAME, 0);
+    chain(file, [10, 11, 4], 184, SAME, 0);
+    chain(file, [64, 97, 37], 1560, SAME, 0);
+    chain(file, [64, 256, 5], 4104, SAME, 0);
+    chain(file, [3, 256, 255], 4104, SAME, 0);
+    chain(file, [65, 256, 5], 4104, SAME, 5);
+    chain(file, [40, 97, 37], 1560, SAME, 0);
+    chain(file, [40, 97, 37], 1560, [[86, NEXT, 62], NONE, NONE], 4);
+    chain(file, [40, 97, 37], 1560, [[86, NEXT, 98], NONE, NONE], 3);
+    chain(file, [40, 97, 37], 1560, [[86, NEXT, 87], NONE, NONE], 6);
 }

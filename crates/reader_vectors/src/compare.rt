@@ -120,58 +120,30 @@ fn print_polygon(status: Status, same: bool) {
     }
 }
 
-// Accepted, with both factors 1 and these vertices?
-pub fn compare_polygon(file: &Bytes, length: usize, vertices: &[[i64; 3]]) {
-    let reading = read(file, length);
-    let polygon = reading.polygon;
-    let status = reading.status;
-    print_polygon(
-        status,
-        same_factors(polygon, 1, 1) && same_vertices(polygon, vertices),
-    );
-}
-
-pub fn refused(file: &Bytes, length: usize, name: &[u8], expected: u32) {
-    io::write_all(1, name);
-    io::write_all(1, b":");
-    compare_refusal(file, length, expected);
-    io::write_all(1, b"\n");
-}
-
-pub fn accepted(file: &Bytes, length: usize, name: &[u8], vertices: &[[i64; 3]]) {
-    io::write_all(1, name);
-    io::write_all(1, b":");
-    compare_polygon(file, length, vertices);
-    io::write_all(1, b"\n");
-}
-
-// Accepted, with these factors?
-pub fn accepted_factors(
+// Accepted, with these factors and vertices?
+pub fn compare_polygon(
     file: &Bytes,
     length: usize,
-    name: &[u8],
     area_factor: u32,
     bend_factor: u32,
+    vertices: &[[i64; 3]],
 ) {
     let reading = read(file, length);
     let polygon = reading.polygon;
     let status = reading.status;
-    io::write_all(1, name);
-    io::write_all(1, b":");
-    print_polygon(status, same_factors(polygon, area_factor, bend_factor));
-    io::write_all(1, b"\n");
+    print_polygon(
+        status,
+        same_factors(polygon, area_factor, bend_factor) && same_vertices(polygon, vertices),
+    );
 }
 
 // Accepted, with both factors 1 and the vertices of a chain made by file::chain?
-pub fn accepted_chain(file: &Bytes, length: usize, name: &[u8], n: usize) {
+pub fn compare_chain(file: &Bytes, length: usize, n: usize) {
     let reading = read(file, length);
     let polygon = reading.polygon;
     let status = reading.status;
-    io::write_all(1, name);
-    io::write_all(1, b":");
     print_polygon(
         status,
         same_factors(polygon, 1, 1) && same_chain(polygon, n),
     );
-    io::write_all(1, b"\n");
 }

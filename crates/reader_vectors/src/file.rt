@@ -22,6 +22,29 @@ pub const INFINITY: u32 = 0x7f80_0000;
 
 pub const NAN: u32 = 0x7fc0_0000;
 
+// Where a number starts in a record. The last four bytes of a level point are at Z.
+pub const NEXT: u32 = 0;
+
+pub const KIND: u32 = 2;
+
+pub const X: u32 = 4;
+
+pub const Y: u32 = 8;
+
+pub const Z: u32 = 12;
+
+// Where a number starts in the header.
+pub const FIRST: u32 = 0;
+
+pub const COUNT: u32 = 2;
+
+pub const AREA_FACTOR: u32 = 4;
+
+pub const BEND_FACTOR: u32 = 6;
+
+// A record, or 0 for the header, where in it a number starts, and the number.
+pub type Change = [u32; 3];
+
 fn put_byte(file: &mut Bytes, at: usize, value: u32) {
     if at < SPACE {
         file[at] = (value % 256) as u8;
@@ -49,22 +72,6 @@ pub fn clear(file: &mut Bytes) {
     }
 }
 
-pub fn set_first(file: &mut Bytes, first: u32) {
-    put_u16(file, 0, first);
-}
-
-pub fn set_count(file: &mut Bytes, count: u32) {
-    put_u16(file, 2, count);
-}
-
-pub fn set_area_factor(file: &mut Bytes, factor: u32) {
-    put_u16(file, 4, factor);
-}
-
-pub fn set_bend_factor(file: &mut Bytes, factor: u32) {
-    put_u16(file, 6, factor);
-}
-
 // Where a record starts; past every array where there is no such record.
 fn start(record: u32) -> usize
     ensures { λ r. ⌜ r ≤ 4136 ⌝ }
@@ -78,60 +85,46 @@ fn start(record: u32) -> usize
     8 + 16 * (record as usize - 1)
 }
 
-pub fn set_next(file: &mut Bytes, record: u32, next: u32) {
-    put_u16(file, start(record), next);
-}
-
-pub fn set_kind(file: &mut Bytes, record: u32, kind: u32) {
-    put_u16(file, start(record) + 2, kind);
-}
-
-pub fn set_x(file: &mut Bytes, record: u32, bits: u32) {
-    put_u32(file, start(record) + 4, bits);
-}
-
-pub fn set_y(file: &mut Bytes, record: u32, bits: u32) {
-    put_u32(file, start(record) + 8, bits);
-}
-
-// The third number of a point, and the last four bytes of a level point.
-pub fn set_z(file: &mut Bytes, record: u32, bits: u32) {
-    put_u32(file, start(record) + 12, bits);
-}
-
-pub fn set_point(file: &mut Bytes, record: u32, x: u32, y: u32, z: u32) {
-    set_kind(file, record, 1);
-    set_x(file, record, x);
-    set_y(file, record, y);
-    set_z(file, record, z);
-}
-
-pub fn set_level(file: &mut Bytes, record: u32, x: u32, y: u32) {
-    set_kind(file, record, 2);
-    set_x(file, record, x);
-    set_y(file, record, y);
-    set_z(file, record, ZERO);
+pub fn change(file: &mut Bytes, change: Change) {
+    let record = change[0];
+    let place = change[1];
+    let value = change[2];
+    if 16 <= place {
+        return;
+    }
+    if record == 0 {
+        put_u16(file, place as usize, value);
+    } else if place < X {
+        put_u16(file, start(record) + place as usize, value);
+    } else {
+        put_u32(file, start(record) + place as usize, value);
+    }
 }
 
 // The header, with both factors 1.
 pub fn set_header(file: &mut Bytes, first: u32, count: u32) {
-    set_first(file, first);
-    set_count(file, count);
-    set_area_factor(file, 1);
-    set_bend_factor(file, 1);
+    put_u16(file, 0, first);
+    put_u16(file, 2, count);
+    put_u16(file, 4, 1);
+    put_u16(file, 6, 1);
+}
+
+pub fn set_record(file: &mut Bytes, record: u32, next: u32, kind: u32, numbers: [u32; 3]) {
+    let at = start(record);
+    put_u16(file, at, next);
+    put_u16(file, at + 2, kind);
+    put_u32(file, at + 4, numbers[0]);
+    put_u32(file, at + 8, numbers[1]);
+    put_u32(file, at + 12, numbers[2]);
 }
 
 // Rim file P of document 01: (0, 0, 0), (1, 0, 0), (1, 1, 0.75), (0, 1, 0), 72 bytes.
 pub fn four_points(file: &mut Bytes) {
     set_header(file, 1, 4);
-    set_point(file, 1, ZERO, ZERO, ZERO);
-    set_point(file, 2, ONE, ZERO, ZERO);
-    set_point(file, 3, ONE, ONE, THREE_QUARTERS);
-    set_point(file, 4, ZERO, ONE, ZERO);
-    set_next(file, 1, 2);
-    set_next(file, 2, 3);
-    set_next(file, 3, 4);
-    set_next(file, 4, 0);
+    set_record(file, 1, 2, 1, [ZERO, ZERO, ZERO]);
+    set_record(file, 2, 3, 1, [ONE, ZERO, ZERO]);
+    set_record(file, 3, 4, 1, [ONE, ONE, THREE_QUARTERS]);
+    set_record(file, 4, 0, 1, [ZERO, ONE, ZERO]);
 }
 
 // The record that stands `stride` records after one of `count`, going round.
@@ -142,15 +135,14 @@ fn step(record: u32, stride: u32, count: u32) -> u32 {
 
 // Position i of a chain: 64 mm and i, 2i and 4i eighths of a millimetre, the second below zero.
 // A third of the positions are points, and the others level points.
-fn set_position(file: &mut Bytes, record: u32, i: u32) {
-    if i < 100 {
-        let x = 0x4280_0000 + 0x4000 * i;
-        let y = 0xc280_0000 + 0x8000 * i;
-        if i % 3 == 0 {
-            set_point(file, record, x, y, 0x4280_0000 + 0x1_0000 * i);
-        } else {
-            set_level(file, record, x, y);
-        }
+fn set_position(file: &mut Bytes, record: u32, next: u32, i: u32) {
+    let k = i % 256;
+    let x = 0x4280_0000 + 0x4000 * k;
+    let y = 0xc280_0000 + 0x8000 * k;
+    if i % 3 == 0 {
+        set_record(file, record, next, 1, [x, y, 0x4280_0000 + 0x1_0000 * k]);
+    } else {
+        set_record(file, record, next, 2, [x, y, ZERO]);
     }
 }
 
@@ -160,13 +152,12 @@ pub fn chain(file: &mut Bytes, n: u32, count: u32, stride: u32) {
     set_header(file, 1, count);
     let mut record = 1;
     for i in 0..n {
-        set_position(file, record, i);
+        let next = step(record, stride, count);
         if n - i == 1 {
-            set_next(file, record, 0);
+            set_position(file, record, 0, i);
         } else {
-            let next = step(record, stride, count);
-            set_next(file, record, next);
-            record = next;
+            set_position(file, record, next, i);
         }
+        record = next;
     }
 }

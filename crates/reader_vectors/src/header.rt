@@ -1,77 +1,60 @@
 // The header: the length, the record count and the factors.
-use crate::compare::accepted;
-use crate::compare::accepted_factors;
-use crate::compare::refused;
-use crate::file;
+use crate::cases::NONE;
+use crate::cases::SAME;
+use crate::cases::four_points;
+use crate::cases::four_points_accepted;
+use crate::cases::four_points_factors;
+use crate::file::AREA_FACTOR;
 use crate::file::Bytes;
+use crate::file::COUNT;
+use crate::file::FIRST;
 
 pub fn lengths(file: &mut Bytes) {
-    file::set_header(file, 0, 0);
-    refused(file, 0, b"no bytes", 1);
-    refused(file, 1, b"1 byte", 1);
-    refused(file, 2, b"2 bytes", 1);
-    refused(file, 7, b"7 bytes", 1);
-    refused(file, 9, b"R 0, 9 bytes", 1);
-    refused(file, 24, b"R 0, 24 bytes", 1);
-    file::four_points(file);
-    refused(file, 3, b"R 4, 3 bytes", 1);
-    refused(file, 8, b"R 4, 8 bytes", 1);
-    refused(file, 56, b"R 4, 56 bytes", 1);
-    refused(file, 71, b"R 4, 71 bytes", 1);
-    accepted(
+    four_points(file, 0, SAME, 1);
+    four_points(file, 1, SAME, 1);
+    four_points(file, 3, SAME, 1);
+    four_points(file, 7, SAME, 1);
+    four_points(file, 8, SAME, 1);
+    four_points(file, 56, SAME, 1);
+    four_points(file, 71, SAME, 1);
+    four_points_accepted(
         file,
         72,
-        b"R 4, 72 bytes",
+        SAME,
         &[[0, 0, 0], [8, 0, 0], [8, 8, 6], [0, 8, 0]],
     );
-    refused(file, 73, b"R 4, 73 bytes", 1);
-    refused(file, 88, b"R 4, 88 bytes", 1);
+    four_points(file, 73, SAME, 1);
+    four_points(file, 88, SAME, 1);
 }
 
 pub fn record_counts(file: &mut Bytes) {
-    file::set_header(file, 0, 0);
-    refused(file, 8, b"R 0, first 0", 10);
-    file::set_first(file, 1);
-    refused(file, 8, b"R 0, first 1", 3);
-    file::set_count(file, 4096);
-    refused(file, 8, b"R 4096, 8 bytes", 1);
-    file::set_count(file, 65535);
-    refused(file, 8, b"R 65535, 8 bytes", 1);
-    file::clear(file);
-    file::four_points(file);
-    file::set_count(file, 260);
-    refused(file, 72, b"R 260, 72 bytes", 1);
-    file::set_count(file, 3);
-    refused(file, 56, b"R 3, next 4", 3);
-    file::set_count(file, 256);
-    refused(file, 4103, b"R 256, 4103 bytes", 1);
-    accepted(
+    four_points(file, 7, [[0, COUNT, 0], [0, FIRST, 0], NONE], 1);
+    four_points(file, 8, [[0, COUNT, 0], [0, FIRST, 0], NONE], 10);
+    four_points(file, 8, [[0, COUNT, 0], NONE, NONE], 3);
+    four_points(file, 9, [[0, COUNT, 0], [0, FIRST, 0], NONE], 1);
+    four_points(file, 24, [[0, COUNT, 0], [0, FIRST, 0], NONE], 1);
+    four_points(file, 56, [[0, COUNT, 3], NONE, NONE], 3);
+    four_points(file, 4103, [[0, COUNT, 256], NONE, NONE], 1);
+    four_points_accepted(
         file,
         4104,
-        b"R 256, 4104 bytes",
+        [[0, COUNT, 256], NONE, NONE],
         &[[0, 0, 0], [8, 0, 0], [8, 8, 6], [0, 8, 0]],
     );
-    refused(file, 4105, b"R 256, 4105 bytes", 1);
-    file::set_count(file, 257);
-    refused(file, 4104, b"R 257, 4104 bytes", 1);
-    refused(file, 4120, b"R 257, 4120 bytes", 1);
+    four_points(file, 4105, [[0, COUNT, 256], NONE, NONE], 1);
+    four_points(file, 4104, [[0, COUNT, 257], NONE, NONE], 1);
+    four_points(file, 4120, [[0, COUNT, 257], NONE, NONE], 1);
+    // 16R is 64 in 16 bits, and R is 4 in 8 bits.
+    four_points(file, 72, [[0, COUNT, 4100], NONE, NONE], 1);
+    four_points(file, 72, [[0, COUNT, 260], NONE, NONE], 1);
+    four_points(file, 72, [[0, COUNT, 65535], NONE, NONE], 1);
 }
 
 pub fn factors(file: &mut Bytes) {
-    file::four_points(file);
-    file::set_area_factor(file, 0);
-    file::set_bend_factor(file, 0);
-    accepted_factors(file, 72, b"factors 0 and 0", 0, 0);
-    file::set_area_factor(file, 16);
-    file::set_bend_factor(file, 65535);
-    accepted_factors(file, 72, b"factors 16 and 65535", 16, 65535);
-    file::set_area_factor(file, 3);
-    file::set_bend_factor(file, 1000);
-    accepted_factors(file, 72, b"factors 3 and 1000", 3, 1000);
-    file::set_area_factor(file, 17);
-    refused(file, 72, b"area factor 17", 2);
-    file::set_area_factor(file, 256);
-    refused(file, 72, b"area factor 256", 2);
-    file::set_area_factor(file, 65535);
-    refused(file, 72, b"area factor 65535", 2);
+    four_points_factors(file, 0, 0);
+    four_points_factors(file, 16, 65535);
+    four_points_factors(file, 3, 1000);
+    four_points(file, 72, [[0, AREA_FACTOR, 17], NONE, NONE], 2);
+    four_points(file, 72, [[0, AREA_FACTOR, 256], NONE, NONE], 2);
+    four_points(file, 72, [[0, AREA_FACTOR, 65535], NONE, NONE], 2);
 }

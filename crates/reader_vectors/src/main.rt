@@ -1,5 +1,6 @@
 // The reader on stored files. The expected answers are worked out from document 01, "The rim file" and
-// "Who causes which number". Each line is a case: its name, and the number that came, or ok.
+// "Who causes which number". Each line is a case: what the file is, and the number that came, or ok.
+mod cases;
 mod chains;
 mod compare;
 mod file;
@@ -10,11 +11,12 @@ mod records;
 
 fn main() {
     let mut file = [0u8; file::SPACE];
+    file::clear(&mut file);
     header::lengths(&mut file);
     header::record_counts(&mut file);
     header::factors(&mut file);
     chains::links(&mut file);
-    chains::repeats(&mut file);
+    chains::repeated(&mut file);
     chains::few(&mut file);
     chains::many(&mut file);
     chains::shuffled(&mut file);
@@ -30,16 +32,13 @@ fn main() {
     numbers::out_of_range(&mut file);
     numbers::not_finite(&mut file);
     pairs::alone(&mut file);
-    pairs::with_length(&mut file);
-    pairs::with_area_factor(&mut file);
-    pairs::with_link(&mut file);
-    pairs::with_link_last(&mut file);
-    pairs::with_repeat(&mut file);
-    pairs::with_repeat_last(&mut file);
-    pairs::with_too_many(&mut file);
-    pairs::with_kind(&mut file);
-    pairs::with_kind_last(&mut file);
-    pairs::with_no_height(&mut file);
-    pairs::not_finite_with_range(&mut file);
-    pairs::with_vertices(&mut file);
+    pairs::length_with(&mut file);
+    pairs::area_factor_with(&mut file);
+    pairs::link_with(&mut file);
+    pairs::repeated_with(&mut file);
+    pairs::too_many_with(&mut file);
+    pairs::kind_with(&mut file);
+    pairs::no_height_with(&mut file);
+    pairs::not_finite_with(&mut file);
+    pairs::last_numbers(&mut file);
 }
