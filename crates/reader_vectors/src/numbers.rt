@@ -1,0 +1,129 @@
+// One number of a file, at each of the five places where a used number can stand. A line is the number's
+// bits and what came at each place.
+use crate::compare::compare_polygon;
+use crate::compare::compare_refusal;
+use crate::file;
+use crate::file::Bytes;
+
+// Points (1, 2, 3) and (6, 7, 8) with the level point (4, 5) between them, and `bits` at one place:
+// x, y, z of the first point, x, y of the level point.
+fn with_number(file: &mut Bytes, place: u32, bits: u32) {
+    file::set_header(file, 1, 3);
+    file::set_record(file, 1, 2, 1, [0x3f80_0000, 0x4000_0000, 0x4040_0000]);
+    file::set_record(file, 2, 3, 2, [0x4080_0000, 0x40a0_0000, 0]);
+    file::set_record(file, 3, 0, 1, [0x40c0_0000, 0x40e0_0000, 0x4100_0000]);
+    match place {
+        0 => file::change(file, [1, file::X, bits]),
+        1 => file::change(file, [1, file::Y, bits]),
+        2 => file::change(file, [1, file::Z, bits]),
+        3 => file::change(file, [2, file::X, bits]),
+        _ => file::change(file, [2, file::Y, bits]),
+    }
+}
+
+// The vertices with grid number g at a place.
+fn vertices_with(place: u32, g: i64) -> [[i64; 3]; 3] {
+    match place {
+        0 => [[g, 16, 24], [32, 40, 24], [48, 56, 64]],
+        1 => [[8, g, 24], [32, 40, 24], [48, 56, 64]],
+        2 => [[8, 16, g], [32, 40, g], [48, 56, 64]],
+        3 => [[8, 16, 24], [g, 40, 24], [48, 56, 64]],
+        _ => [[8, 16, 24], [32, g, 24], [48, 56, 64]],
+    }
+}
+
+fn number_at(file: &mut Bytes, place: u32, bits: u32, expected: i64) {
+    with_number(file, place, bits);
+    let vertices = vertices_with(place, expected);
+    compare_polygon(file, 56, 1, 1, &vertices);
+}
+
+// The grid number of `bits` is `expected`.
+fn number(file: &mut Bytes, bits: u32, expected: i64) {
+    io::print_hex(1, bits as u64, 8);
+    io::write_all(1, b":");
+    for place in 0..5 {
+        number_at(file, place, bits, expected);
+    }
+    io::write_all(1, b"\n");
+}
+
+// `bits` is refused.
+fn no_number(file: &mut Bytes, bits: u32, expected: u32) {
+    io::print_hex(1, bits as u64, 8);
+    io::write_all(1, b":");
+    for place in 0..5 {
+        with_number(file, place, bits);
+        compare_refusal(file, 56, expected);
+    }
+    io::write_all(1, b"\n");
+}
+
+pub fn exact(file: &mut Bytes) {
+    number(file, 0x0000_0000, 0); // 0
+    number(file, 0x8000_0000, 0); // minus zero
+    number(file, 0x3e00_0000, 1); // 0.125
+    number(file, 0xbe00_0000, -1); // -0.125
+    number(file, 0x3f40_0000, 6); // 0.75
+    number(file, 0x3f80_0000, 8); // 1.0
+    number(file, 0xc2c8_8000, -802); // -100.25
+    number(file, 0x42fa_0000, 1000); // 125.0
+    number(file, 0xc2fa_0000, -1000); // -125.0
+}
+
+pub fn tiny(file: &mut Bytes) {
+    number(file, 0x0000_0001, 0); // least subnormal
+    number(file, 0x8000_0001, 0); // least subnormal below zero
+    number(file, 0x007f_ffff, 0); // largest subnormal
+    number(file, 0x807f_ffff, 0); // largest subnormal below zero
+    number(file, 0x0080_0000, 0); // least normal
+}
+
+// Either neighbour of a half will do by document 01. The reader takes the even one.
+pub fn halves(file: &mut Bytes) {
+    number(file, 0x3d80_0000, 0); // 0.5 steps
+    number(file, 0x3e40_0000, 2); // 1.5 steps
+    number(file, 0x3ea0_0000, 2); // 2.5 steps
+    number(file, 0x3ee0_0000, 4); // 3.5 steps
+    number(file, 0xbd80_0000, 0); // -0.5 steps
+    number(file, 0xbe40_0000, -2); // -1.5 steps
+    number(file, 0xbea0_0000, -2); // -2.5 steps
+    number(file, 0x42f9_a000, 998); // 998.5 steps
+    number(file, 0x42f9_e000, 1000); // 999.5 steps
+    number(file, 0xc2f9_e000, -1000); // -999.5 steps
+}
+
+pub fn near_halves(file: &mut Bytes) {
+    number(file, 0x3d7f_ffff, 0); // next below 0.5 steps
+    number(file, 0x3d80_0001, 1); // next above 0.5 steps
+    number(file, 0x3e3f_ffff, 1); // next below 1.5 steps
+    number(file, 0x3e40_0001, 2); // next above 1.5 steps
+    number(file, 0x3e9f_ffff, 2); // next below 2.5 steps
+    number(file, 0x3ea0_0001, 3); // next above 2.5 steps
+    number(file, 0x42f9_dfff, 999); // next below 999.5 steps
+    number(file, 0x42f9_e001, 1000); // next above 999.5 steps
+    number(file, 0xbd7f_ffff, 0); // next above -0.5 steps
+    number(file, 0xbd80_0001, -1); // next below -0.5 steps
+    number(file, 0xbe3f_ffff, -1); // next above -1.5 steps
+    number(file, 0xc2f9_dfff, -999); // next above -999.5 steps
+    number(file, 0x42f9_ffff, 1000); // next below 125.0
+}
+
+pub fn out_of_range(file: &mut Bytes) {
+    no_number(file, 0x42fa_0001, 9); // next above 125.0
+    no_number(file, 0xc2fa_0001, 9); // next below -125.0
+    no_number(file, 0x42fa_1000, 9); // 1000.25 steps
+    no_number(file, 0xc2fa_1000, 9); // -1000.25 steps
+    no_number(file, 0x42fa_2000, 9); // 1000.5 steps
+    no_number(file, 0x4300_0000, 9); // 128.0
+    no_number(file, 0x7f7f_ffff, 9); // largest finite
+    no_number(file, 0xff7f_ffff, 9); // least finite
+}
+
+pub fn not_finite(file: &mut Bytes) {
+    no_number(file, 0x7f80_0000, 8); // infinity
+    no_number(file, 0xff80_0000, 8); // minus infinity
+    no_number(file, 0x7fc0_0000, 8); // quiet NaN
+    no_number(file, 0x7f80_0001, 8); // signalling NaN
+    no_number(file, 0xffff_ffff, 8); // NaN of all ones
+}
