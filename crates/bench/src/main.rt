@@ -24,7 +24,10 @@ fn main() {
         &mut work,
     );
     match outcome {
-        Outcome::Patch { triangles: _, total } => {
+        Outcome::Patch {
+            triangles: _,
+            total,
+        } => {
             let part = triangulator::part(&triangles, outcome);
             output::print_patch(part, total, &candidates, &weights, &rows);
         }
