@@ -43,7 +43,7 @@ fn weight_of(rows: &[[u32; 3]], outer: u16, inner: u16) -> u32 {
 }
 
 // The row weight of the k-th triangle of the patch. The triangle it hangs on comes earlier in walk order; the first hangs on none, and has 0.
-pub fn row_weight(part: &[u16], k: usize, candidates: &[[u8; 3]], rows: &[[u32; 3]]) -> u32 {
+pub(crate) fn row_weight(part: &[u16], k: usize, candidates: &[[u8; 3]], rows: &[[u32; 3]]) -> u32 {
     if part.len() <= k {
         return 0;
     }

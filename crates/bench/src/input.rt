@@ -1,11 +1,14 @@
-// The input after the longest rim file.
+// The length of the input.
+
+// One byte more than the longest rim file of 8 + 16 * 256 bytes: an input that fills a buffer of this length is too long, and is refused for its length.
+pub(crate) const BUFFER: usize = 4105;
 
 // How often more input is read: 4 GiB in all. A program that is proved to end cannot read without a limit.
 const CHUNKS: u32 = 65536;
 
-// Reads what stands after a file that filled its buffer, so that whoever writes it to a pipe is not stopped half way. It changes no answer.
-pub fn discard_rest(length: usize) {
-    if length < 4105 {
+// Where the input filled its buffer, reads on to its end, so that whoever writes it to a pipe is not stopped half way. It changes no answer.
+pub(crate) fn discard_rest(length: usize) {
+    if length < BUFFER {
         return;
     }
     for _ in 0..CHUNKS {

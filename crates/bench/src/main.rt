@@ -6,8 +6,7 @@ mod output;
 use triangulator::Outcome;
 
 fn main() {
-    // One byte more than the longest rim file of 8 + 16 * 256 bytes: whatever fills it is too long, and refused for its length.
-    let mut file = [0u8; 4105];
+    let mut file = [0u8; input::BUFFER];
     let length = io::read_full(0, &mut file);
     input::discard_rest(length);
     let mut triangles = [0u16; 62];

@@ -45,7 +45,7 @@ fn print_triangles(part: &[u16], candidates: &[[u8; 3]], weights: &[u32], rows: 
 }
 
 // A patch has two vertices more than triangles.
-pub fn print_patch(
+pub(crate) fn print_patch(
     part: &[u16],
     total: u64,
     candidates: &[[u8; 3]],
@@ -63,7 +63,7 @@ pub fn print_patch(
     print_triangles(part, candidates, weights, rows);
 }
 
-pub fn print_refusal(number: u32) {
+pub(crate) fn print_refusal(number: u32) {
     io::write_all(1, b"refused ");
     print_number(number);
     end_line();
