@@ -1,3 +1,4 @@
+-- `bench::hanging::row_weight` is safe and ends: the measure is what is left of the range. Assumes nothing.
 use Prim.Native.Nat.{_-_}
 use borrow.Author.Needs.{needs}
 use Rattle.bench.proofs.hanging.row_weight.Statement.{statement}

@@ -1,3 +1,4 @@
+-- `bench::input::discard_rest` is safe and ends: the measure is what is left of the range. Assumes nothing.
 use Prim.Native.Nat.{_-_}
 use borrow.Author.Needs.{needs}
 use Rattle.bench.proofs.input.discard_rest.Statement.{statement}
