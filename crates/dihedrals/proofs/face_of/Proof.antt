@@ -9,11 +9,6 @@ use Rattle.dihedrals.proofs.Faces.{face-made}
 use borrow.Author.Needs.{needs}
 use Rattle.dihedrals.proofs.face_of.Statement.{statement}
 use Rattle.dihedrals.proofs.face_of.Tie as tie
-use Rattle.dihedrals.proofs.face_of.Reads as reads
-use Rattle.dihedrals.proofs.face_of.Lts as lts
-use Rattle.dihedrals.proofs.wide.Reads as wide-reads
-use Rattle.geometry.proofs.face.normal.Reads as normal-reads
-use Rattle.geometry.proofs.face.normal_length.Reads as normal-length-reads
 
 array-read-wide : tie.Need-array-read-wide
 array-read-wide c = search needs

@@ -11,11 +11,6 @@ use Rattle.geometry.proofs.Faces.{normals-dot, length-bound}
 use Rattle.geometry.proofs.Bends.{bend-bound}
 use Rattle.dihedrals.proofs.hinge_weight.Statement.{statement}
 use Rattle.dihedrals.proofs.hinge_weight.Tie as tie
-use Rattle.dihedrals.proofs.hinge_weight.Reads as reads
-use Rattle.dihedrals.proofs.hinge_weight.Lts as lts
-use Rattle.geometry.proofs.dot.Reads as dot-reads
-use Rattle.geometry.proofs.face.bend.Reads as bend-reads
-use Rattle.geometry.proofs.face.bend_weight.Reads as bend-weight-reads
 
 dot-requires : tie.Need-dot-requires
 dot-requires c κs = let s = c .before .before in products-fit tt tt tt (s .pre .1 .within) (s .pre .2 .within)

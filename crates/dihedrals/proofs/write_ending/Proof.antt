@@ -22,10 +22,6 @@ use Rattle.dihedrals.proofs.Appending.{append-start, append-length, end
 use Rattle.dihedrals.proofs.Faces.{face-measured}
 use Rattle.dihedrals.proofs.write_ending.Statement.{statement}
 use Rattle.dihedrals.proofs.write_ending.Tie as tie
-use Rattle.dihedrals.proofs.write_ending.Reads as reads
-use Rattle.dihedrals.proofs.write_ending.Lts as lts
-use Rattle.dihedrals.proofs.face_of.Reads as face-of-reads
-use Rattle.dihedrals.proofs.hinge_weight.Reads as hinge-weight-reads
 
 abbrev Inv-loop : tie.InvT-loop
 Inv-loop p candidates o lo hi c out₀ start factor outer count₀ i₀ out count i = (lo ≤ i) × (i ≤ hi) × Writing (take start out₀ ++ map (rowAt p candidates o) (endingIn candidates lo hi c)) (map (rowAt p candidates o) (endingIn candidates i hi c)) out₀ start out count

@@ -13,11 +13,6 @@ use Rattle.dihedrals.proofs.Appending.{map-append, rows-of-inners, appe
 use borrow.Author.Needs.{needs}
 use Rattle.dihedrals.proofs.write_on.Statement.{statement}
 use Rattle.dihedrals.proofs.write_on.Tie as tie
-use Rattle.dihedrals.proofs.write_on.Reads as reads
-use Rattle.dihedrals.proofs.write_on.Lts as lts
-use Rattle.dihedrals.proofs.wide.Reads as wide-reads
-use Rattle.dihedrals.proofs.write_ending.Reads as write-ending-reads
-use Rattle.hinges.proofs.block_start.Reads as block-start-reads
 
 mul-t : tie.Need-mul-t
 mul-t c = search needs

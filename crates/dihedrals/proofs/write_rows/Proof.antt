@@ -11,9 +11,6 @@ use Rattle.dihedrals.specs.Weights.{rowsOn, rowsOf}
 use Rattle.dihedrals.proofs.Appending.{append-room, append-part}
 use Rattle.dihedrals.proofs.write_rows.Statement.{statement}
 use Rattle.dihedrals.proofs.write_rows.Tie as tie
-use Rattle.dihedrals.proofs.write_rows.Reads as reads
-use Rattle.dihedrals.proofs.write_rows.Lts as lts
-use Rattle.dihedrals.proofs.write_on.Reads as write-on-reads
 
 abbrev Inv-loop : tie.InvT-loop
 Inv-loop p candidates out₀ count₀ o₀ o-end out count o = (o ≤ length candidates) × Writing (rowsOf p candidates) (over o (length candidates) (rowsOn p candidates)) out₀ 0 out count

@@ -13,10 +13,6 @@ use Rattle.dihedrals.specs.Weights.{faceWeight, weightsOf}
 use Rattle.dihedrals.proofs.Faces.{face-within}
 use Rattle.dihedrals.proofs.write_weights.Statement.{statement}
 use Rattle.dihedrals.proofs.write_weights.Tie as tie
-use Rattle.dihedrals.proofs.write_weights.Reads as reads
-use Rattle.dihedrals.proofs.write_weights.Lts as lts
-use Rattle.dihedrals.proofs.face_of.Reads as face-of-reads
-use Rattle.geometry.proofs.face.area_weight.Reads as area-weight-reads
 
 abbrev Inv-loop : tie.InvT-loop
 Inv-loop p candidates out₀ factor i₀ i-end out i = Writing (weightsOf p candidates) (map (faceWeight p) (drop i candidates)) out₀ 0 out i

@@ -7,9 +7,6 @@ use Rattle.faces.specs.Faces.{has}
 use borrow.Author.Needs.{needs}
 use Rattle.faces.proofs.contains.Statement.{statement}
 use Rattle.faces.proofs.contains.Tie as tie
-use Rattle.faces.proofs.contains.Reads as reads
-use Rattle.faces.proofs.contains.Lts as lts
-use Rattle.faces.proofs.flag_index.Reads as flag-index-reads
 
 flag-index-requires : tie.Need-flag-index-requires
 flag-index-requires c κs = search needs

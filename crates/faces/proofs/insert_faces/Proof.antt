@@ -5,9 +5,6 @@ use lib.ListN.{set}
 use borrow.Author.Needs.{needs}
 use Rattle.faces.proofs.insert_faces.Statement.{statement}
 use Rattle.faces.proofs.insert_faces.Tie as tie
-use Rattle.faces.proofs.insert_faces.Reads as reads
-use Rattle.faces.proofs.insert_faces.Lts as lts
-use Rattle.faces.proofs.flag_index.Reads as flag-index-reads
 
 flag-index-requires : tie.Need-flag-index-requires
 flag-index-requires c κs = search needs

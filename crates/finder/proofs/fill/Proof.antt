@@ -15,12 +15,6 @@ use Rattle.finder.specs.Filling.{fillOr13}
 use borrow.Author.Needs.{needs}
 use Rattle.finder.proofs.fill.Statement.{statement}
 use Rattle.finder.proofs.fill.Tie as tie
-use Rattle.finder.proofs.fill.Reads as reads
-use Rattle.finder.proofs.fill.Lts as lts
-use Rattle.dihedrals.proofs.write_rows.Reads as write-rows-reads
-use Rattle.dihedrals.proofs.write_weights.Reads as write-weights-reads
-use Rattle.finder.proofs.copy.Reads as copy-reads
-use Rattle.hinges.proofs.count_rows.Reads as count-rows-reads
 
 count-rows-requires : tie.Need-count-rows-requires
 count-rows-requires c κs = search needs

@@ -1,15 +1,10 @@
+-- `reader_vectors::pairs::length_with` meets its contract. Assumes nothing.
 use Prim.Native.Nat.{_-_, _≤_}
 use lib.ListN.{length}
 use native.Mathlib.Omega.{arith}
 use borrow.Author.Needs.{needs}
 use Rattle.reader_vectors.proofs.pairs.length_with.Statement.{statement}
 use Rattle.reader_vectors.proofs.pairs.length_with.Tie as tie
-use Rattle.reader_vectors.proofs.pairs.length_with.Reads as reads
-use Rattle.reader_vectors.proofs.pairs.length_with.Lts as lts
-use Rattle.io.proofs.write_all.Reads as write-all-reads
-use Rattle.reader_vectors.proofs.cases.chain.Reads as chain-reads
-use Rattle.reader_vectors.proofs.cases.four_points.Reads as four-points-reads
-use Rattle.reader_vectors.proofs.pairs.cause.Reads as cause-reads
 
 abbrev Inv-loop : tie.InvT-loop
 Inv-loop file₀ code₀ file code = Unit
@@ -17,47 +12,36 @@ Inv-loop file₀ code₀ file code = Unit
 abbrev μ-loop : tie.MeasureT-loop
 μ-loop file₀ code₀ file code = 12 - code
 
--- src/pairs.rt:53:22
 slice-aggregate-write-all : tie.Need-slice-aggregate-write-all Inv-loop μ-loop
 slice-aggregate-write-all c = search needs
 
--- src/pairs.rt:53:5
 write-all-requires : tie.Need-write-all-requires Inv-loop μ-loop
 write-all-requires c κs = search needs
 
--- src/pairs.rt:54:5
 four-points-requires : tie.Need-four-points-requires Inv-loop μ-loop
 four-points-requires c κs = search needs
 
--- src/pairs.rt:55:5
 chain-requires : tie.Need-chain-requires Inv-loop μ-loop
 chain-requires c κs = search needs
 
--- src/pairs.rt:56:5
 loop-holds : tie.Need-loop-holds Inv-loop μ-loop
 loop-holds c = search needs
 
--- src/pairs.rt:58:36
 cause-requires : tie.Need-cause-requires Inv-loop μ-loop
 cause-requires c κs = search needs
 
--- src/pairs.rt:58:13
 four-points-requires-2 : tie.Need-four-points-requires-2 Inv-loop μ-loop
 four-points-requires-2 c κs = search needs
 
--- src/pairs.rt:56:9
 add-code : tie.Need-add-code Inv-loop μ-loop
 add-code c = search needs
 
--- src/pairs.rt:56:5
 loop-less : tie.Need-loop-less Inv-loop μ-loop
 loop-less c = search needs
 
--- src/pairs.rt:56:5
 loop-again : tie.Need-loop-again Inv-loop μ-loop
 loop-again c = search needs
 
--- src/pairs.rt:52:1
 returns : tie.Need-returns Inv-loop μ-loop
 returns c = search needs
 
