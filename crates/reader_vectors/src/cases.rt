@@ -74,7 +74,7 @@ fn finish(file: &mut Bytes, length: usize, changes: [Change; 3]) {
 }
 
 // Rim file P, changed: refused.
-pub fn four_points(file: &mut Bytes, length: usize, changes: [Change; 3], expected: u32) {
+pub(crate) fn four_points(file: &mut Bytes, length: usize, changes: [Change; 3], expected: u32) {
     file::four_points(file);
     io::write_all(1, b"P");
     finish(file, length, changes);
@@ -83,7 +83,7 @@ pub fn four_points(file: &mut Bytes, length: usize, changes: [Change; 3], expect
 }
 
 // Rim file P, changed: accepted, with these vertices.
-pub fn four_points_accepted(
+pub(crate) fn four_points_accepted(
     file: &mut Bytes,
     length: usize,
     changes: [Change; 3],
@@ -97,7 +97,7 @@ pub fn four_points_accepted(
 }
 
 // Rim file P with other factors: accepted.
-pub fn four_points_factors(file: &mut Bytes, area_factor: u32, bend_factor: u32) {
+pub(crate) fn four_points_factors(file: &mut Bytes, area_factor: u32, bend_factor: u32) {
     file::four_points(file);
     io::write_all(1, b"P");
     finish(
@@ -138,7 +138,7 @@ fn compare_answer(file: &Bytes, length: usize, n: u32, expected: u32) {
 }
 
 // A chain of n records among `count`, by steps of `stride`, changed: refused, or accepted where 0 is expected.
-pub fn chain(
+pub(crate) fn chain(
     file: &mut Bytes,
     shape: [u32; 3],
     length: usize,

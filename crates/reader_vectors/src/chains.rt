@@ -8,7 +8,7 @@ use crate::file::Bytes;
 use crate::file::FIRST;
 use crate::file::NEXT;
 
-pub fn links(file: &mut Bytes) {
+pub(crate) fn links(file: &mut Bytes) {
     four_points_accepted(
         file,
         72,
@@ -30,7 +30,7 @@ pub fn links(file: &mut Bytes) {
     );
 }
 
-pub fn repeated(file: &mut Bytes) {
+pub(crate) fn repeated(file: &mut Bytes) {
     four_points(file, 72, [[4, NEXT, 1], NONE, NONE], 4);
     four_points(file, 72, [[4, NEXT, 2], NONE, NONE], 4);
     four_points(file, 72, [[4, NEXT, 4], NONE, NONE], 4);
@@ -38,14 +38,14 @@ pub fn repeated(file: &mut Bytes) {
     four_points(file, 72, [[1, NEXT, 1], NONE, NONE], 4);
 }
 
-pub fn few(file: &mut Bytes) {
+pub(crate) fn few(file: &mut Bytes) {
     four_points(file, 72, [[0, FIRST, 0], NONE, NONE], 10);
     four_points(file, 72, [[0, FIRST, 4], NONE, NONE], 10);
     four_points(file, 72, [[0, FIRST, 3], NONE, NONE], 10);
     chain(file, [3, 3, 1], 56, SAME, 0);
 }
 
-pub fn many(file: &mut Bytes) {
+pub(crate) fn many(file: &mut Bytes) {
     chain(file, [63, 66, 1], 1064, SAME, 0);
     chain(file, [64, 66, 1], 1064, SAME, 0);
     chain(file, [64, 66, 1], 1064, [[64, NEXT, 64], NONE, NONE], 4);
@@ -60,7 +60,7 @@ pub fn many(file: &mut Bytes) {
 
 // Spare records hold junk. In 97 records by steps of 37 position i is record 1 + 37i modulo 97: the 40th
 // is record 86, the 21st record 62, and record 87 is spare.
-pub fn shuffled(file: &mut Bytes) {
+pub(crate) fn shuffled(file: &mut Bytes) {
     chain(file, [64, 64, 63], 1032, SAME, 0);
     chain(file, [10, 11, 4], 184, SAME, 0);
     chain(file, [64, 97, 37], 1560, SAME, 0);

@@ -9,7 +9,7 @@ use crate::file::Bytes;
 use crate::file::COUNT;
 use crate::file::FIRST;
 
-pub fn lengths(file: &mut Bytes) {
+pub(crate) fn lengths(file: &mut Bytes) {
     four_points(file, 0, SAME, 1);
     four_points(file, 1, SAME, 1);
     four_points(file, 3, SAME, 1);
@@ -27,7 +27,7 @@ pub fn lengths(file: &mut Bytes) {
     four_points(file, 88, SAME, 1);
 }
 
-pub fn record_counts(file: &mut Bytes) {
+pub(crate) fn record_counts(file: &mut Bytes) {
     four_points(file, 7, [[0, COUNT, 0], [0, FIRST, 0], NONE], 1);
     four_points(file, 8, [[0, COUNT, 0], [0, FIRST, 0], NONE], 10);
     four_points(file, 8, [[0, COUNT, 0], NONE, NONE], 3);
@@ -50,7 +50,7 @@ pub fn record_counts(file: &mut Bytes) {
     four_points(file, 72, [[0, COUNT, 65535], NONE, NONE], 1);
 }
 
-pub fn factors(file: &mut Bytes) {
+pub(crate) fn factors(file: &mut Bytes) {
     four_points_factors(file, 0, 0);
     four_points_factors(file, 16, 65535);
     four_points_factors(file, 3, 1000);

@@ -59,7 +59,7 @@ fn no_number(file: &mut Bytes, bits: u32, expected: u32) {
     io::write_all(1, b"\n");
 }
 
-pub fn exact(file: &mut Bytes) {
+pub(crate) fn exact(file: &mut Bytes) {
     number(file, 0x0000_0000, 0); // 0
     number(file, 0x8000_0000, 0); // minus zero
     number(file, 0x3e00_0000, 1); // 0.125
@@ -71,7 +71,7 @@ pub fn exact(file: &mut Bytes) {
     number(file, 0xc2fa_0000, -1000); // -125.0
 }
 
-pub fn tiny(file: &mut Bytes) {
+pub(crate) fn tiny(file: &mut Bytes) {
     number(file, 0x0000_0001, 0); // least subnormal
     number(file, 0x8000_0001, 0); // least subnormal below zero
     number(file, 0x007f_ffff, 0); // largest subnormal
@@ -80,7 +80,7 @@ pub fn tiny(file: &mut Bytes) {
 }
 
 // Either neighbour of a half will do by document 01. The reader takes the even one.
-pub fn halves(file: &mut Bytes) {
+pub(crate) fn halves(file: &mut Bytes) {
     number(file, 0x3d80_0000, 0); // 0.5 steps
     number(file, 0x3e40_0000, 2); // 1.5 steps
     number(file, 0x3ea0_0000, 2); // 2.5 steps
@@ -93,7 +93,7 @@ pub fn halves(file: &mut Bytes) {
     number(file, 0xc2f9_e000, -1000); // -999.5 steps
 }
 
-pub fn near_halves(file: &mut Bytes) {
+pub(crate) fn near_halves(file: &mut Bytes) {
     number(file, 0x3d7f_ffff, 0); // next below 0.5 steps
     number(file, 0x3d80_0001, 1); // next above 0.5 steps
     number(file, 0x3e3f_ffff, 1); // next below 1.5 steps
@@ -109,7 +109,7 @@ pub fn near_halves(file: &mut Bytes) {
     number(file, 0x42f9_ffff, 1000); // next below 125.0
 }
 
-pub fn out_of_range(file: &mut Bytes) {
+pub(crate) fn out_of_range(file: &mut Bytes) {
     no_number(file, 0x42fa_0001, 9); // next above 125.0
     no_number(file, 0xc2fa_0001, 9); // next below -125.0
     no_number(file, 0x42fa_1000, 9); // 1000.25 steps
@@ -120,7 +120,7 @@ pub fn out_of_range(file: &mut Bytes) {
     no_number(file, 0xff7f_ffff, 9); // least finite
 }
 
-pub fn not_finite(file: &mut Bytes) {
+pub(crate) fn not_finite(file: &mut Bytes) {
     no_number(file, 0x7f80_0000, 8); // infinity
     no_number(file, 0xff80_0000, 8); // minus infinity
     no_number(file, 0x7fc0_0000, 8); // quiet NaN

@@ -37,7 +37,7 @@ fn cause(code: u32) -> Change {
     }
 }
 
-pub fn alone(file: &mut Bytes) {
+pub(crate) fn alone(file: &mut Bytes) {
     io::write_all(1, b"each number alone\n");
     four_points(file, 73, SAME, 1);
     four_points(file, 72, [[0, AREA_FACTOR, 17], NONE, NONE], 2);
@@ -49,7 +49,7 @@ pub fn alone(file: &mut Bytes) {
     }
 }
 
-pub fn length_with(file: &mut Bytes) {
+pub(crate) fn length_with(file: &mut Bytes) {
     io::write_all(1, b"1 with 2 to 11\n");
     four_points(file, 73, [[0, AREA_FACTOR, 17], NONE, NONE], 1);
     chain(file, [65, 65, 1], 1049, SAME, 1);
@@ -60,7 +60,7 @@ pub fn length_with(file: &mut Bytes) {
     }
 }
 
-pub fn area_factor_with(file: &mut Bytes) {
+pub(crate) fn area_factor_with(file: &mut Bytes) {
     io::write_all(1, b"2 with 3 to 11\n");
     chain(
         file,
@@ -77,7 +77,7 @@ pub fn area_factor_with(file: &mut Bytes) {
 }
 
 // A link is judged when it is followed, so after the record that holds it.
-pub fn link_with(file: &mut Bytes) {
+pub(crate) fn link_with(file: &mut Bytes) {
     io::write_all(1, b"3 with 5 to 11\n");
     chain(file, [64, 66, 1], 1064, [[64, NEXT, 67], NONE, NONE], 3);
     chain(file, [65, 66, 1], 1064, [[65, NEXT, 67], NONE, NONE], 5);
@@ -89,7 +89,7 @@ pub fn link_with(file: &mut Bytes) {
     four_points(file, 72, [[2, X, ZERO], [4, NEXT, 5], NONE], 3);
 }
 
-pub fn repeated_with(file: &mut Bytes) {
+pub(crate) fn repeated_with(file: &mut Bytes) {
     io::write_all(1, b"4 with 5 to 11\n");
     chain(file, [64, 66, 1], 1064, [[64, NEXT, 64], NONE, NONE], 4);
     chain(file, [65, 66, 1], 1064, [[65, NEXT, 65], NONE, NONE], 5);
@@ -103,7 +103,7 @@ pub fn repeated_with(file: &mut Bytes) {
 }
 
 // What the 65th record holds is not looked at.
-pub fn too_many_with(file: &mut Bytes) {
+pub(crate) fn too_many_with(file: &mut Bytes) {
     io::write_all(1, b"5 with 6 to 9 and 11\n");
     chain(file, [65, 65, 1], 1048, [[64, KIND, 3], NONE, NONE], 6);
     chain(file, [65, 65, 1], 1048, [[65, KIND, 3], NONE, NONE], 5);
@@ -131,7 +131,7 @@ pub fn too_many_with(file: &mut Bytes) {
     );
 }
 
-pub fn kind_with(file: &mut Bytes) {
+pub(crate) fn kind_with(file: &mut Bytes) {
     io::write_all(1, b"6 with 7 to 11\n");
     four_points(file, 72, [[1, KIND, 3], [2, KIND, 2], NONE], 6);
     four_points(file, 72, [[1, KIND, 2], [2, KIND, 3], NONE], 7);
@@ -146,7 +146,7 @@ pub fn kind_with(file: &mut Bytes) {
 }
 
 // 7 is due on the first record, so before any other record's number.
-pub fn no_height_with(file: &mut Bytes) {
+pub(crate) fn no_height_with(file: &mut Bytes) {
     io::write_all(1, b"7 with 8 to 11\n");
     four_points(file, 72, [[1, KIND, 2], [1, X, NAN], NONE], 7);
     four_points(file, 72, [[1, KIND, 2], [1, Z, ONE], NONE], 7);
@@ -158,7 +158,7 @@ pub fn no_height_with(file: &mut Bytes) {
 }
 
 // 8 of every number of a record comes before 9 of any.
-pub fn not_finite_with(file: &mut Bytes) {
+pub(crate) fn not_finite_with(file: &mut Bytes) {
     io::write_all(1, b"8 with 9 to 11\n");
     four_points(file, 72, [[2, X, ABOVE_125], [2, Y, NAN], NONE], 8);
     four_points(file, 72, [[2, X, INFINITY], [2, Z, ABOVE_125], NONE], 8);
@@ -170,7 +170,7 @@ pub fn not_finite_with(file: &mut Bytes) {
     four_points(file, 72, [[2, X, ZERO], [3, Z, NAN], NONE], 8);
 }
 
-pub fn last_numbers(file: &mut Bytes) {
+pub(crate) fn last_numbers(file: &mut Bytes) {
     io::write_all(1, b"9 with 10 and 11, 10 with 11\n");
     four_points(file, 72, [[2, X, ABOVE_125], [2, NEXT, 0], NONE], 9);
     four_points(file, 72, [[2, X, ZERO], [3, Z, ABOVE_125], NONE], 9);

@@ -17,7 +17,7 @@ use crate::file::Y;
 use crate::file::Z;
 use crate::file::ZERO;
 
-pub fn kinds(file: &mut Bytes) {
+pub(crate) fn kinds(file: &mut Bytes) {
     four_points(file, 72, [[3, KIND, 0], NONE, NONE], 6);
     four_points(file, 72, [[3, KIND, 3], NONE, NONE], 6);
     four_points(file, 72, [[3, KIND, 256], NONE, NONE], 6);
@@ -26,7 +26,7 @@ pub fn kinds(file: &mut Bytes) {
     four_points(file, 72, [[3, KIND, 65535], NONE, NONE], 6);
 }
 
-pub fn heights(file: &mut Bytes) {
+pub(crate) fn heights(file: &mut Bytes) {
     four_points_accepted(
         file,
         72,
@@ -45,7 +45,7 @@ pub fn heights(file: &mut Bytes) {
 
 // The height of a level point is that of the nearest point before it in the chain, not in the file:
 // chain 3, 2, 1, 4, of which 2 and 4 are level points.
-pub fn heights_in_chain_order(file: &mut Bytes) {
+pub(crate) fn heights_in_chain_order(file: &mut Bytes) {
     file::set_header(file, 3, 4);
     file::set_record(file, 1, 4, 1, [ZERO, ZERO, ONE]);
     file::set_record(file, 2, 1, 2, [ONE, ZERO, ZERO]);
@@ -65,7 +65,7 @@ pub fn heights_in_chain_order(file: &mut Bytes) {
     io::write_all(1, b"\n");
 }
 
-pub fn last_bytes(file: &mut Bytes) {
+pub(crate) fn last_bytes(file: &mut Bytes) {
     four_points(file, 72, [[4, KIND, 2], [4, Z, MINUS_ZERO], NONE], 8);
     four_points(file, 72, [[4, KIND, 2], [4, Z, 0x0000_0001], NONE], 8);
     four_points(file, 72, [[4, KIND, 2], [4, Z, 0x0000_0100], NONE], 8);
@@ -76,7 +76,7 @@ pub fn last_bytes(file: &mut Bytes) {
 }
 
 // 0x3d00_0000 is a quarter of a step, and 0x3dc0_0000 three quarters.
-pub fn shared_points(file: &mut Bytes) {
+pub(crate) fn shared_points(file: &mut Bytes) {
     four_points(file, 72, [[2, X, ZERO], NONE, NONE], 11);
     four_points(file, 72, [[4, Y, ZERO], NONE, NONE], 11);
     four_points(file, 72, [[4, Y, MINUS_ZERO], NONE, NONE], 11);
