@@ -8,20 +8,17 @@ use Rattle.finder.specs.declared.Found.{Found}
 use Rattle.finder.specs.Finding.{Finding, finding, candidateCountOf, rowCountOf}
 use Rattle.finder.specs.Finding as finder
 use Rattle.triangulator.specs.declared.Outcome.{Outcome}
-use Rattle.triangulator.specs.Call.{Result, result, numberOf, trianglesOf, totalOf}
+use Rattle.triangulator.specs.Call.{Result, result}
 use Rattle.pipeline.specs.Patching.{Tables, Patching, patching}
-use Rattle.exports.specs.Answers.{RimPatch, rimPatch, rimPatchOf, JobPatch, jobPatch, jobPatchOf, readAnswerOf, RimLists, rimLists, rimListsOf}
+use Rattle.exports.specs.declared.PatchAnswer.{PatchAnswer}
+use Rattle.exports.specs.Answers.{patchAnswerOf, rimPatch, rimPatchOf, jobPatch, jobPatchOf, readAnswerOf, rimLists, rimListsOf}
 
-module _ {o : Outcome} {number count total : ℕ} (e : number ≡ numberOf o) (f : count ≡ trianglesOf o) (g : total ≡ totalOf o) where
-  pub rim-patched :
-    {left : Tables} → {p : Patching} → patching o left ≡ p → rimPatch (record { number = number; triangles = count; total = total }) left ≡ rimPatchOf p
-  rim-patched {left} h = (λ i. rimPatch (record { number = e i; triangles = f i; total = g i }) left) ∙ ap (λ (p : Patching). rimPatchOf p) h
+module _ {o : Outcome} {a : PatchAnswer} (e : a ≡ patchAnswerOf o) where
+  pub rim-patched : {left : Tables} → {p : Patching} → patching o left ≡ p → rimPatch a left ≡ rimPatchOf p
+  rim-patched {left} h = ap (λ (x : PatchAnswer). rimPatch x left) e ∙ ap (λ (p : Patching). rimPatchOf p) h
 
-  pub job-patched :
-    {triangles work : List ℕ} → {r : Result} → result o triangles work ≡ r →
-    jobPatch (record { number = number; triangles = count; total = total }) triangles work ≡ jobPatchOf r
-  job-patched {triangles} {work} h =
-      (λ i. jobPatch (record { number = e i; triangles = f i; total = g i }) triangles work) ∙ ap (λ (r : Result). jobPatchOf r) h
+  pub job-patched : {triangles work : List ℕ} → {r : Result} → result o triangles work ≡ r → jobPatch a triangles work ≡ jobPatchOf r
+  job-patched {triangles} {work} h = ap (λ (x : PatchAnswer). jobPatch x triangles work) e ∙ ap (λ (r : Result). jobPatchOf r) h
 
 module _ {r s : Reading} {number : ℕ} where
   pub rim-read : number ≡ statusNumber (r .status) → r ≡ s → record { number = number; vertices = r .polygon .n } ≡ readAnswerOf s
@@ -29,7 +26,7 @@ module _ {r s : Reading} {number : ℕ} where
 
 module _ {a : Found} {number count row-count : ℕ} (e : number ≡ finder.numberOf a) (f : count ≡ candidateCountOf a) (g : row-count ≡ rowCountOf a) where
   pub rim-found :
-    {candidates rows : List (List ℕ)} → {weights : List ℕ} → {l : Finding} → finding a candidates weights rows ≡ l →
-    rimLists (record { number = number; candidates = count; rows = row-count }) candidates weights rows ≡ rimListsOf l
+      {candidates rows : List (List ℕ)} → {weights : List ℕ} → {l : Finding} → finding a candidates weights rows ≡ l →
+      rimLists (record { number = number; candidates = count; rows = row-count }) candidates weights rows ≡ rimListsOf l
   rim-found {candidates} {rows} {weights} h =
       (λ i. rimLists (record { number = e i; candidates = f i; rows = g i }) candidates weights rows) ∙ ap (λ (l : Finding). rimListsOf l) h

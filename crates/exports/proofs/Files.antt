@@ -18,10 +18,10 @@ module _ (s : List ℕ) (candidates : List (List ℕ)) (weights : List ℕ) (row
       ∙ ap (λ (x : Reading). findAfter (x .status) (x .polygon) candidates weights rows) e
 
   pub file-refused :
-    {k : ℕ} → r .status ≡ status.Refused k → r ≡ readingOf s → finding (Refused k) candidates weights rows ≡ findFile s candidates weights rows
+      {k : ℕ} → r .status ≡ status.Refused k → r ≡ readingOf s → finding (Refused k) candidates weights rows ≡ findFile s candidates weights rows
   file-refused d e = after d e
 
   pub file-read :
-    {x : Finding} → r .status ≡ status.Complete → r ≡ readingOf s → x ≡ findCall (r .polygon) candidates weights rows →
-    x ≡ findFile s candidates weights rows
+      {x : Finding} → r .status ≡ status.Complete → r ≡ readingOf s → x ≡ findCall (r .polygon) candidates weights rows →
+      x ≡ findFile s candidates weights rows
   file-read d e f = f ∙ after d e

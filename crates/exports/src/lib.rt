@@ -2,12 +2,13 @@
 // and the counts and the total, which are 0 in a refusal.
 use finder::Found;
 use reader::Status;
+use triangulator::Outcome;
 ghost use mathlib.Core.Path.{_≡_};
 ghost use Rattle.reader.specs.Reading.{readingOf};
 ghost use Rattle.finder.specs.Finding.{finding};
 ghost use Rattle.triangulator.specs.Call.{triangulated};
 ghost use Rattle.pipeline.specs.Patching.{tables, patchFile};
-ghost use Rattle.exports.specs.Answers.{rimPatch, rimPatchOf, jobPatch, jobPatchOf, readAnswerOf, findFile, rimLists, rimListsOf};
+ghost use Rattle.exports.specs.Answers.{patchAnswerOf, rimPatch, rimPatchOf, jobPatch, jobPatchOf, readAnswerOf, findFile, rimLists, rimListsOf};
 
 // A patch where the number is 0 and there are triangles, 'none' where both are 0.
 #[repr(C)]
@@ -30,6 +31,19 @@ pub struct FindAnswer {
     pub rows: usize,
 }
 
+fn patch_answer(outcome: Outcome) -> PatchAnswer
+    ensures { λ r. ⌜ r ≡ patchAnswerOf outcome ⌝ }
+{
+    let number = outcome.number();
+    let triangles = outcome.triangles();
+    let total = outcome.total();
+    PatchAnswer {
+        number,
+        triangles,
+        total,
+    }
+}
+
 // The one call over the three stages.
 #[no_mangle]
 pub extern "C" fn patch_rim(
@@ -43,14 +57,7 @@ pub extern "C" fn patch_rim(
     ensures { λ r. ⌜ rimPatch r (tables (now (triangles .exit)) (now (candidates .exit)) (now (weights .exit)) (now (rows .exit)) (now (work .exit))) ≡ rimPatchOf (patchFile (now (file .entry)) (tables (now (triangles .entry)) (now (candidates .entry)) (now (weights .entry)) (now (rows .entry)) (now (work .entry)))) ⌝ }
 {
     let outcome = pipeline::patch_file(file, triangles, candidates, weights, rows, work);
-    let number = outcome.number();
-    let count = outcome.triangles();
-    let total = outcome.total();
-    PatchAnswer {
-        number,
-        triangles: count,
-        total,
-    }
+    patch_answer(outcome)
 }
 
 // The tiler alone, for a direct job.
@@ -66,14 +73,7 @@ pub extern "C" fn patch_job(
     ensures { λ r. ⌜ jobPatch r (now (triangles .exit)) (now (work .exit)) ≡ jobPatchOf (triangulated n (now (candidates .entry)) (now (weights .entry)) (now (rows .entry)) (now (triangles .entry)) (now (work .entry))) ⌝ }
 {
     let outcome = triangulator::triangulate(n, candidates, weights, rows, triangles, work);
-    let number = outcome.number();
-    let count = outcome.triangles();
-    let total = outcome.total();
-    PatchAnswer {
-        number,
-        triangles: count,
-        total,
-    }
+    patch_answer(outcome)
 }
 
 // The reader alone.

@@ -7,14 +7,8 @@ use Rattle.exports.proofs.patch_rim.Tie as tie
 patch-file-requires : tie.Need-patch-file-requires
 patch-file-requires c κs = search needs
 
-number-requires : tie.Need-number-requires
-number-requires c κs = search needs
-
-triangles-requires : tie.Need-triangles-requires
-triangles-requires c κs = search needs
-
-total-requires : tie.Need-total-requires
-total-requires c κs = search needs
+patch-answer-requires : tie.Need-patch-answer-requires
+patch-answer-requires c κs = search needs
 
 same-length : tie.Need-same-length
 same-length c = search needs
@@ -32,16 +26,14 @@ same-length-5 : tie.Need-same-length-5
 same-length-5 c = search needs
 
 returns : tie.Need-returns
-returns c = rim-patched (c .before .before .number .ensures) (c .before .triangles2 .ensures) (c .total .ensures) (c .before .before .before .before .before .before .before .before .before .before .before .patch-file .ensures)
+returns c = rim-patched (c .patch-answer .ensures) (c .before .before .before .before .before .before .before .before .before .patch-file .ensures)
 
 pub patch-rim-spec : {M : Type 1} → statement M
 patch-rim-spec =
     tie.close
     (tie.spec
     patch-file-requires
-    number-requires
-    triangles-requires
-    total-requires
+    patch-answer-requires
     same-length
     same-length-2
     same-length-3
