@@ -7,10 +7,10 @@ use Rattle.reader_vectors.proofs.numbers.number.Statement.{statement}
 use Rattle.reader_vectors.proofs.numbers.number.Tie as tie
 
 abbrev Inv-loop : tie.InvT-loop
-Inv-loop file₀ bits expected place₀ t6 file place = Unit
+Inv-loop file₀ bits size place₀ t6 file place = Unit
 
 abbrev μ-loop : tie.MeasureT-loop
-μ-loop file₀ bits expected place₀ t6 file place = 5 - place
+μ-loop file₀ bits size place₀ t6 file place = 5 - place
 
 print-hex-requires : tie.Need-print-hex-requires Inv-loop μ-loop
 print-hex-requires c κs = search needs
