@@ -16,5 +16,6 @@ fn main() {
     chains::run_chains(&mut file);
     records::run_records(&mut file);
     numbers::run_numbers(&mut file);
-    pairs::run_pairs(&mut file);
+    pairs::run_to_5(&mut file);
+    pairs::run_from_6(&mut file);
 }

@@ -65,96 +65,103 @@ fn no_number(file: &mut Bytes, bits: u32, expected: u32) {
     io::write_all(1, b"\n");
 }
 
-// Rows of bits and the absolute value of their grid number.
-fn accepted(file: &mut Bytes, rows: &[[u32; 2]]) {
-    for i in 0..rows.len() {
-        let row = rows[i];
-        number(file, row[0], row[1]);
+// Bits, and the absolute values of their grid numbers.
+fn accepted(file: &mut Bytes, bits: &[u32], sizes: &[u32]) {
+    for i in 0..bits.len() {
+        if i < sizes.len() {
+            number(file, bits[i], sizes[i]);
+        }
     }
 }
 
-// Rows of bits and the error code.
-fn refused(file: &mut Bytes, rows: &[[u32; 2]]) {
-    for i in 0..rows.len() {
-        let row = rows[i];
-        no_number(file, row[0], row[1]);
+fn refused(file: &mut Bytes, bits: &[u32], expected: u32) {
+    for i in 0..bits.len() {
+        no_number(file, bits[i], expected);
     }
 }
 
-const EXACT: [[u32; 2]; 9] = [
-    [0x0000_0000, 0], // 0
-    [0x8000_0000, 0], // minus zero
-    [0x3e00_0000, 1], // 0.125
-    [0xbe00_0000, 1], // -0.125
-    [0x3f40_0000, 6], // 0.75
-    [0x3f80_0000, 8], // 1.0
-    [0xc2c8_8000, 802], // -100.25
-    [0x42fa_0000, 1000], // 125.0
-    [0xc2fa_0000, 1000], // -125.0
+const EXACT: [u32; 9] = [
+    0x0000_0000, // 0
+    0x8000_0000, // minus zero
+    0x3e00_0000, // 0.125
+    0xbe00_0000, // -0.125
+    0x3f40_0000, // 0.75
+    0x3f80_0000, // 1.0
+    0xc2c8_8000, // -100.25
+    0x42fa_0000, // 125.0
+    0xc2fa_0000, // -125.0
 ];
 
-const TINY: [[u32; 2]; 5] = [
-    [0x0000_0001, 0], // least subnormal
-    [0x8000_0001, 0], // least subnormal below zero
-    [0x007f_ffff, 0], // largest subnormal
-    [0x807f_ffff, 0], // largest subnormal below zero
-    [0x0080_0000, 0], // least normal
+const EXACT_SIZES: [u32; 9] = [0, 0, 1, 1, 6, 8, 802, 1000, 1000];
+
+const TINY: [u32; 5] = [
+    0x0000_0001, // least subnormal
+    0x8000_0001, // least subnormal below zero
+    0x007f_ffff, // largest subnormal
+    0x807f_ffff, // largest subnormal below zero
+    0x0080_0000, // least normal
 ];
+
+const TINY_SIZES: [u32; 5] = [0, 0, 0, 0, 0];
 
 // Either neighbour of a half will do by document 01. The reader takes the even one.
-const HALVES: [[u32; 2]; 10] = [
-    [0x3d80_0000, 0], // 0.5 steps
-    [0x3e40_0000, 2], // 1.5 steps
-    [0x3ea0_0000, 2], // 2.5 steps
-    [0x3ee0_0000, 4], // 3.5 steps
-    [0xbd80_0000, 0], // -0.5 steps
-    [0xbe40_0000, 2], // -1.5 steps
-    [0xbea0_0000, 2], // -2.5 steps
-    [0x42f9_a000, 998], // 998.5 steps
-    [0x42f9_e000, 1000], // 999.5 steps
-    [0xc2f9_e000, 1000], // -999.5 steps
+const HALVES: [u32; 10] = [
+    0x3d80_0000, // 0.5 steps
+    0x3e40_0000, // 1.5 steps
+    0x3ea0_0000, // 2.5 steps
+    0x3ee0_0000, // 3.5 steps
+    0xbd80_0000, // -0.5 steps
+    0xbe40_0000, // -1.5 steps
+    0xbea0_0000, // -2.5 steps
+    0x42f9_a000, // 998.5 steps
+    0x42f9_e000, // 999.5 steps
+    0xc2f9_e000, // -999.5 steps
 ];
 
-const NEAR_HALVES: [[u32; 2]; 13] = [
-    [0x3d7f_ffff, 0], // next below 0.5 steps
-    [0x3d80_0001, 1], // next above 0.5 steps
-    [0x3e3f_ffff, 1], // next below 1.5 steps
-    [0x3e40_0001, 2], // next above 1.5 steps
-    [0x3e9f_ffff, 2], // next below 2.5 steps
-    [0x3ea0_0001, 3], // next above 2.5 steps
-    [0x42f9_dfff, 999], // next below 999.5 steps
-    [0x42f9_e001, 1000], // next above 999.5 steps
-    [0xbd7f_ffff, 0], // next above -0.5 steps
-    [0xbd80_0001, 1], // next below -0.5 steps
-    [0xbe3f_ffff, 1], // next above -1.5 steps
-    [0xc2f9_dfff, 999], // next above -999.5 steps
-    [0x42f9_ffff, 1000], // next below 125.0
+const HALVES_SIZES: [u32; 10] = [0, 2, 2, 4, 0, 2, 2, 998, 1000, 1000];
+
+const NEAR_HALVES: [u32; 13] = [
+    0x3d7f_ffff, // next below 0.5 steps
+    0x3d80_0001, // next above 0.5 steps
+    0x3e3f_ffff, // next below 1.5 steps
+    0x3e40_0001, // next above 1.5 steps
+    0x3e9f_ffff, // next below 2.5 steps
+    0x3ea0_0001, // next above 2.5 steps
+    0x42f9_dfff, // next below 999.5 steps
+    0x42f9_e001, // next above 999.5 steps
+    0xbd7f_ffff, // next above -0.5 steps
+    0xbd80_0001, // next below -0.5 steps
+    0xbe3f_ffff, // next above -1.5 steps
+    0xc2f9_dfff, // next above -999.5 steps
+    0x42f9_ffff, // next below 125.0
 ];
 
-const OUT_OF_RANGE: [[u32; 2]; 8] = [
-    [0x42fa_0001, 9], // next above 125.0
-    [0xc2fa_0001, 9], // next below -125.0
-    [0x42fa_1000, 9], // 1000.25 steps
-    [0xc2fa_1000, 9], // -1000.25 steps
-    [0x42fa_2000, 9], // 1000.5 steps
-    [0x4300_0000, 9], // 128.0
-    [0x7f7f_ffff, 9], // largest finite
-    [0xff7f_ffff, 9], // least finite
+const NEAR_HALVES_SIZES: [u32; 13] = [0, 1, 1, 2, 2, 3, 999, 1000, 0, 1, 1, 999, 1000];
+
+const OUT_OF_RANGE: [u32; 8] = [
+    0x42fa_0001, // next above 125.0
+    0xc2fa_0001, // next below -125.0
+    0x42fa_1000, // 1000.25 steps
+    0xc2fa_1000, // -1000.25 steps
+    0x42fa_2000, // 1000.5 steps
+    0x4300_0000, // 128.0
+    0x7f7f_ffff, // largest finite
+    0xff7f_ffff, // least finite
 ];
 
-const NOT_FINITE: [[u32; 2]; 5] = [
-    [0x7f80_0000, 8], // infinity
-    [0xff80_0000, 8], // minus infinity
-    [0x7fc0_0000, 8], // quiet NaN
-    [0x7f80_0001, 8], // signalling NaN
-    [0xffff_ffff, 8], // NaN of all ones
+const NOT_FINITE: [u32; 5] = [
+    0x7f80_0000, // infinity
+    0xff80_0000, // minus infinity
+    0x7fc0_0000, // quiet NaN
+    0x7f80_0001, // signalling NaN
+    0xffff_ffff, // NaN of all ones
 ];
 
 pub(crate) fn run_numbers(file: &mut Bytes) {
-    accepted(file, &EXACT);
-    accepted(file, &TINY);
-    accepted(file, &HALVES);
-    accepted(file, &NEAR_HALVES);
-    refused(file, &OUT_OF_RANGE);
-    refused(file, &NOT_FINITE);
+    accepted(file, &EXACT, &EXACT_SIZES);
+    accepted(file, &TINY, &TINY_SIZES);
+    accepted(file, &HALVES, &HALVES_SIZES);
+    accepted(file, &NEAR_HALVES, &NEAR_HALVES_SIZES);
+    refused(file, &OUT_OF_RANGE, 9);
+    refused(file, &NOT_FINITE, 8);
 }

@@ -190,65 +190,23 @@ const LAST_NUMBERS: [Case; 3] = [
     [P, 72, 2, X, ZERO, 2, NEXT, 0, 0, NONE, 0, 10],
 ];
 
-fn alone(file: &mut Bytes) {
-    io::write_all(1, b"each number alone\n");
-    run(file, &ALONE);
+fn run_group(file: &mut Bytes, title: &[u8], cases: &[Case]) {
+    io::write_all(1, title);
+    run(file, cases);
 }
 
-fn length_with(file: &mut Bytes) {
-    io::write_all(1, b"1 with 2 to 11\n");
-    run(file, &LENGTH_WITH);
+pub(crate) fn run_to_5(file: &mut Bytes) {
+    run_group(file, b"each number alone\n", &ALONE);
+    run_group(file, b"1 with 2 to 11\n", &LENGTH_WITH);
+    run_group(file, b"2 with 3 to 11\n", &AREA_FACTOR_WITH);
+    run_group(file, b"3 with 5 to 11\n", &LINK_WITH);
+    run_group(file, b"4 with 5 to 11\n", &REPEATED_WITH);
+    run_group(file, b"5 with 6 to 9 and 11\n", &TOO_MANY_WITH);
 }
 
-fn area_factor_with(file: &mut Bytes) {
-    io::write_all(1, b"2 with 3 to 11\n");
-    run(file, &AREA_FACTOR_WITH);
-}
-
-fn link_with(file: &mut Bytes) {
-    io::write_all(1, b"3 with 5 to 11\n");
-    run(file, &LINK_WITH);
-}
-
-fn repeated_with(file: &mut Bytes) {
-    io::write_all(1, b"4 with 5 to 11\n");
-    run(file, &REPEATED_WITH);
-}
-
-fn too_many_with(file: &mut Bytes) {
-    io::write_all(1, b"5 with 6 to 9 and 11\n");
-    run(file, &TOO_MANY_WITH);
-}
-
-fn kind_with(file: &mut Bytes) {
-    io::write_all(1, b"6 with 7 to 11\n");
-    run(file, &KIND_WITH);
-}
-
-fn no_height_with(file: &mut Bytes) {
-    io::write_all(1, b"7 with 8 to 11\n");
-    run(file, &NO_HEIGHT_WITH);
-}
-
-fn not_finite_with(file: &mut Bytes) {
-    io::write_all(1, b"8 with 9 to 11\n");
-    run(file, &NOT_FINITE_WITH);
-}
-
-fn last_numbers(file: &mut Bytes) {
-    io::write_all(1, b"9 with 10 and 11, 10 with 11\n");
-    run(file, &LAST_NUMBERS);
-}
-
-pub(crate) fn run_pairs(file: &mut Bytes) {
-    alone(file);
-    length_with(file);
-    area_factor_with(file);
-    link_with(file);
-    repeated_with(file);
-    too_many_with(file);
-    kind_with(file);
-    no_height_with(file);
-    not_finite_with(file);
-    last_numbers(file);
+pub(crate) fn run_from_6(file: &mut Bytes) {
+    run_group(file, b"6 with 7 to 11\n", &KIND_WITH);
+    run_group(file, b"7 with 8 to 11\n", &NO_HEIGHT_WITH);
+    run_group(file, b"8 with 9 to 11\n", &NOT_FINITE_WITH);
+    run_group(file, b"9 with 10 and 11, 10 with 11\n", &LAST_NUMBERS);
 }

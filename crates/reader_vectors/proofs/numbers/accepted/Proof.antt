@@ -5,25 +5,25 @@ use Rattle.reader_vectors.proofs.numbers.accepted.Statement.{statement}
 use Rattle.reader_vectors.proofs.numbers.accepted.Tie as tie
 
 abbrev Inv-loop : tie.InvT-loop
-Inv-loop file₀ rows i₀ i-end file i = Unit
+Inv-loop file₀ bits sizes i₀ i-end file i = Unit
 
 abbrev μ-loop : tie.MeasureT-loop
-μ-loop file₀ rows i₀ i-end file i = i-end - i
+μ-loop file₀ bits sizes i₀ i-end file i = i-end - i
 
 loop-holds : tie.Need-loop-holds Inv-loop μ-loop
 loop-holds c = search needs
 
-mul-row : tie.Need-mul-row Inv-loop μ-loop
-mul-row c = search needs
+mul-number : tie.Need-mul-number Inv-loop μ-loop
+mul-number c = search needs
 
-shared-slice-copy-out-row : tie.Need-shared-slice-copy-out-row Inv-loop μ-loop
-shared-slice-copy-out-row c = search needs
+shared-slice-read-number : tie.Need-shared-slice-read-number Inv-loop μ-loop
+shared-slice-read-number c = search needs
 
-array-read-number : tie.Need-array-read-number Inv-loop μ-loop
-array-read-number c = search needs
+mul-number-2 : tie.Need-mul-number-2 Inv-loop μ-loop
+mul-number-2 c = search needs
 
-array-read-number-2 : tie.Need-array-read-number-2 Inv-loop μ-loop
-array-read-number-2 c = search needs
+shared-slice-read-number-2 : tie.Need-shared-slice-read-number-2 Inv-loop μ-loop
+shared-slice-read-number-2 c = search needs
 
 number-requires : tie.Need-number-requires Inv-loop μ-loop
 number-requires c κs = search needs
@@ -47,10 +47,10 @@ accepted-spec =
     Inv-loop
     μ-loop
     loop-holds
-    mul-row
-    shared-slice-copy-out-row
-    array-read-number
-    array-read-number-2
+    mul-number
+    shared-slice-read-number
+    mul-number-2
+    shared-slice-read-number-2
     number-requires
     add-i
     loop-less

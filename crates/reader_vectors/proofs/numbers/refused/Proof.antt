@@ -5,25 +5,19 @@ use Rattle.reader_vectors.proofs.numbers.refused.Statement.{statement}
 use Rattle.reader_vectors.proofs.numbers.refused.Tie as tie
 
 abbrev Inv-loop : tie.InvT-loop
-Inv-loop file₀ rows i₀ i-end file i = Unit
+Inv-loop file₀ bits expected i₀ i-end file i = Unit
 
 abbrev μ-loop : tie.MeasureT-loop
-μ-loop file₀ rows i₀ i-end file i = i-end - i
+μ-loop file₀ bits expected i₀ i-end file i = i-end - i
 
 loop-holds : tie.Need-loop-holds Inv-loop μ-loop
 loop-holds c = search needs
 
-mul-row : tie.Need-mul-row Inv-loop μ-loop
-mul-row c = search needs
+mul-no-number : tie.Need-mul-no-number Inv-loop μ-loop
+mul-no-number c = search needs
 
-shared-slice-copy-out-row : tie.Need-shared-slice-copy-out-row Inv-loop μ-loop
-shared-slice-copy-out-row c = search needs
-
-array-read-no-number : tie.Need-array-read-no-number Inv-loop μ-loop
-array-read-no-number c = search needs
-
-array-read-no-number-2 : tie.Need-array-read-no-number-2 Inv-loop μ-loop
-array-read-no-number-2 c = search needs
+shared-slice-read-no-number : tie.Need-shared-slice-read-no-number Inv-loop μ-loop
+shared-slice-read-no-number c = search needs
 
 no-number-requires : tie.Need-no-number-requires Inv-loop μ-loop
 no-number-requires c κs = search needs
@@ -47,10 +41,8 @@ refused-spec =
     Inv-loop
     μ-loop
     loop-holds
-    mul-row
-    shared-slice-copy-out-row
-    array-read-no-number
-    array-read-no-number-2
+    mul-no-number
+    shared-slice-read-no-number
     no-number-requires
     add-i
     loop-less
