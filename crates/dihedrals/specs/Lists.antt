@@ -1,14 +1,14 @@
 -- What the functions here ask of a list of candidates, and say to each other. Definitions only.
-use mathlib.Core.List.{List, _++_}
+use mathlib.Core.List.{List}
 use mathlib.Core.Path.{_≡_}
 use Prim.Native.Nat.{ℕ, _<_}
-use lib.ListN.{length, take}
+use lib.ListN.{length}
+use Rattle.grid.specs.declared.GridPoint.{GridPoint}
 use Rattle.polygon.specs.declared.Polygon.{Polygon}
 use Rattle.polygon.specs.Polygon.{Valid}
 use Rattle.geometry.specs.Vectors.{Within}
-use Rattle.geometry.specs.Faces.{lengthOf}
+use Rattle.geometry.specs.Faces.{normalOf, lengthOf}
 use Rattle.jobs.specs.Job.{entryAt, vertexA, vertexB, vertexC}
-use Rattle.lists.specs.Lists.{filled}
 use Rattle.hinges.specs.Hinges.{Sorted}
 use Rattle.dihedrals.specs.declared.Face.{Face}
 use Rattle.dihedrals.specs.Weights.{faceNormal}
@@ -26,12 +26,8 @@ pub record Solid (p : Polygon) (candidates : List (List ℕ)) : Type 0 where
   pub corners : (i : ℕ) → i < length candidates → Corners p (entryAt candidates i)
   pub normals : (i : ℕ) → i < length candidates → 0 < lengthOf (faceNormal p (entryAt candidates i))
 
-abbrev pub faceOf : Polygon → List ℕ → Face
-faceOf p t = record { normal = faceNormal p t; length = lengthOf (faceNormal p t) }
-
--- a table whose first n places stay, and l after them
-abbrev pub appended : {A : Type 0} → List A → ℕ → List A → List A
-appended t n l = filled (take n t ++ l) t
+abbrev pub faceOf : GridPoint → GridPoint → GridPoint → Face
+faceOf a b c = record { normal = normalOf a b c; length = lengthOf (normalOf a b c) }
 
 -- a face whose length is that of its normal and not 0
 pub record Measured (f : Face) : Type 0 where

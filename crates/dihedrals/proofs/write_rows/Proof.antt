@@ -1,71 +1,417 @@
--- `dihedrals::write_rows` meets its contract, by what is left to write. Assumes nothing.
-use mathlib.Core.Path.{_≡_, _∙_}
-use mathlib.Core.List.{List, _++_}
-use Prim.Native.Nat.{ℕ, _+_, _-_, _≤_, _<_}
+-- `dihedrals::write_rows` meets its contract, by what is left to write at each loop's head. Assumes nothing.
+use mathlib.Core.Path.{_≡_, refl, sym, _∙_, ap}
+use mathlib.Core.Bool.{Bool, true, false}
+use mathlib.Core.List.{List, [], _∷_, _++_, map}
+use mathlib.Core.Logic.{⊎-elim}
+use Prim.Native.Nat.{ℕ, zero, suc, _+_, _*_, _-_, _^_, _≤_, _<_}
 use native.Mathlib.Omega.{arith}
-use lib.ListN.{length}
-use Rattle.lists.specs.Lists.{over}
-use Rattle.lists.proofs.Ranges.{over-step, over-end}
-use Rattle.lists.proofs.Writing.{Writing, start, turn, all}
-use Rattle.dihedrals.specs.Weights.{rowsOn, rowsOf}
-use Rattle.dihedrals.proofs.Appending.{append-room, append-part}
+use borrow.Author.Needs.{needs}
+use borrow.Author.Tests.{eq-eqb, ne-eqb}
+use lib.Dec.{eqb}
+use lib.ListN.{length, getD}
+use Rattle.grid.specs.declared.GridPoint.{GridPoint}
+use Rattle.polygon.specs.declared.Polygon.{Polygon}
+use Rattle.geometry.specs.Faces.{bendBetween, bendWeightOf}
+use Rattle.jobs.specs.Job.{entryAt, vertexC}
+use Rattle.lists.specs.Lists.{over, when}
+use Rattle.lists.proofs.Ranges.{over-step, over-more, over-none, over-end}
+use Rattle.lists.proofs.Writing.{Writing, start, turn, enter, leave, place, push, moved, all}
+use Rattle.hinges.specs.Hinges.{Sorted, endingIn, BlockStart}
+use Rattle.hinges.proofs.Blocks.{start-order, start-at, edge-block}
+use Rattle.dihedrals.specs.declared.Face.{Face}
+use Rattle.dihedrals.specs.Weights.{rowAt, rowsOn, rowsOf}
+use Rattle.dihedrals.proofs.Faces.{Read, a<64, b<64, c<64, on-grid, face-normal, face-measured}
+use Rattle.dihedrals.proofs.Rows.{rowsAt, edge-rows, ending-step, ending-end}
 use Rattle.dihedrals.proofs.write_rows.Statement.{statement}
 use Rattle.dihedrals.proofs.write_rows.Tie as tie
 use Rattle.dihedrals.proofs.write_rows.Reads as reads
 use Rattle.dihedrals.proofs.write_rows.Lts as lts
-use Rattle.dihedrals.proofs.write_on.Reads as write-on-reads
+use Rattle.dihedrals.proofs.face_of.Reads as face-of-reads
+use Rattle.dihedrals.proofs.row.Reads as row-reads
+use Rattle.dihedrals.proofs.wide.Reads as wide-reads
+use Rattle.hinges.proofs.block_start.Reads as block-start-reads
+
+-- of the polygon the loops keep what the rows need
+abbrev kept : ℕ → List GridPoint → Polygon
+kept factor vertices = record { n = 0; «area_factor» = 0; «bend_factor» = factor; vertices = vertices }
+
+edge-small : (cs : List (List ℕ)) → Sorted cs → (o e : ℕ) → o < length cs → e < 2 → getD (entryAt cs o) e 0 < 64
+edge-small cs s o zero h k = omega (arith, s .a<b o h, s .b<c o h, s .c<64 o h)
+edge-small cs s o (suc zero) h k = omega (arith, s .b<c o h, s .c<64 o h)
+edge-small cs s o (suc (suc e)) h k = absurd (omega arith)
+
+abbrev Inv-loop3 : tie.InvT-loop3
+Inv-loop3 candidates out₀ factor vertices count₀ o t a b c outer edge first last start end i₀ o-end out count i = (i ≤ end) × (end ≤ length candidates) × Writing (rowsOf (kept factor vertices) candidates) (map (rowAt (kept factor vertices) candidates o) (endingIn candidates i end last) ++ (over (edge + 1) 2 (rowsAt (kept factor vertices) candidates o) ++ over (o + 1) (length candidates) (rowsOn (kept factor vertices) candidates))) out₀ count₀ out count
+
+abbrev μ-loop3 : tie.MeasureT-loop3
+μ-loop3 candidates out₀ factor vertices count₀ o t a b c outer edge first last start end i₀ o-end out count i = end - i
+
+abbrev Inv-loop2 : tie.InvT-loop2
+Inv-loop2 candidates out₀ factor vertices count₀ o t a b c outer edge₀ o-end out count edge = (edge ≤ 2) × Writing (rowsOf (kept factor vertices) candidates) (over edge 2 (rowsAt (kept factor vertices) candidates o) ++ over (o + 1) (length candidates) (rowsOn (kept factor vertices) candidates)) out₀ count₀ out count
+
+abbrev μ-loop2 : tie.MeasureT-loop2
+μ-loop2 candidates out₀ factor vertices count₀ o t a b c outer edge₀ o-end out count edge = 2 - edge
 
 abbrev Inv-loop : tie.InvT-loop
-Inv-loop p candidates out₀ count₀ o₀ o-end out count o = (o ≤ length candidates) × Writing (rowsOf p candidates) (over o (length candidates) (rowsOn p candidates)) out₀ 0 out count
+Inv-loop candidates out₀ factor vertices count₀ o₀ o-end out count o = (o ≤ length candidates) × Writing (rowsOf (kept factor vertices) candidates) (over o (length candidates) (rowsOn (kept factor vertices) candidates)) out₀ count₀ out count
 
 abbrev μ-loop : tie.MeasureT-loop
-μ-loop p candidates out₀ count₀ o₀ o-end out count o = length candidates - o
+μ-loop candidates out₀ factor vertices count₀ o₀ o-end out count o = length candidates - o
 
-loop-holds : tie.Need-loop-holds Inv-loop μ-loop
-loop-holds c = (omega arith, start _ _ (c .pre .1))
+loop-holds : tie.Need-loop-holds Inv-loop3 μ-loop3 Inv-loop2 μ-loop2 Inv-loop μ-loop
+loop-holds c = (omega arith, start _ _ (c .before .pre .1))
 
--- the rows of outer o come next
-next : (g : tie.In-loop Inv-loop μ-loop) →
-    let s = g .before .before in
-    let p = s .args .p in
-    let cs = s .args .candidates .now in
-    Writing (rowsOf p cs) (rowsOn p cs (g .before .loop .o) ++ over (g .before .loop .o + 1) (length cs) (rowsOn p cs)) (s .args .out .now) 0 (g .before .loop .out) (g .before .loop .count)
-next g =
-    let s = g .before .before in
-    turn (over-step (g .before .loop .o) (length (s .args .candidates .now)) (rowsOn (s .args .p) (s .args .candidates .now)) (g .loop-test .taken)) (g .before .loop .inv .1)
+mul-t : tie.Need-mul-t Inv-loop3 μ-loop3 Inv-loop2 μ-loop2 Inv-loop μ-loop
+mul-t c = omega arith
 
-write-on-requires : tie.Need-write-on-requires Inv-loop μ-loop
-write-on-requires c κs =
-    let g = c .before in
-    let s = g .before .before in
-    (s .pre .0, g .loop-test .taken, append-room (rowsOn (s .args .p) (s .args .candidates .now) (g .before .loop .o)) _ (next g))
+shared-slice-copy-out-t :
+    tie.Need-shared-slice-copy-out-t Inv-loop3 μ-loop3 Inv-loop2 μ-loop2 Inv-loop μ-loop
+shared-slice-copy-out-t c = omega arith
 
-add-o : tie.Need-add-o Inv-loop μ-loop
-add-o c = omega arith
+array-read-wide : tie.Need-array-read-wide Inv-loop3 μ-loop3 Inv-loop2 μ-loop2 Inv-loop μ-loop
+array-read-wide c = search needs
 
-loop-less : tie.Need-loop-less Inv-loop μ-loop
-loop-less c = omega arith
+wide-requires : tie.Need-wide-requires Inv-loop3 μ-loop3 Inv-loop2 μ-loop2 Inv-loop μ-loop
+wide-requires c κs = search needs
 
-loop-again : tie.Need-loop-again Inv-loop μ-loop
+array-read-wide-2 : tie.Need-array-read-wide-2 Inv-loop3 μ-loop3 Inv-loop2 μ-loop2 Inv-loop μ-loop
+array-read-wide-2 c = search needs
+
+wide-requires-2 : tie.Need-wide-requires-2 Inv-loop3 μ-loop3 Inv-loop2 μ-loop2 Inv-loop μ-loop
+wide-requires-2 c κs = search needs
+
+array-read-wide-3 : tie.Need-array-read-wide-3 Inv-loop3 μ-loop3 Inv-loop2 μ-loop2 Inv-loop μ-loop
+array-read-wide-3 c = search needs
+
+wide-requires-3 : tie.Need-wide-requires-3 Inv-loop3 μ-loop3 Inv-loop2 μ-loop2 Inv-loop μ-loop
+wide-requires-3 c κs = search needs
+
+-- at an outer candidate
+module _ (g : tie.In-loop Inv-loop3 μ-loop3 Inv-loop2 μ-loop2 Inv-loop μ-loop) where
+  abbrev p : Polygon
+  p = g .before .before .before .args .p
+
+  abbrev cs : List (List ℕ)
+  cs = g .before .before .before .args .candidates .now
+
+  abbrev O : ℕ
+  O = g .before .loop .o
+
+  o-in : O < length cs
+  o-in = g .loop-test .taken
+
+  few : length cs ≤ 41664
+  few = g .before .before .before .pre .0 .sorted .few
+
+  abbrev rest : List (List ℕ)
+  rest = over (O + 1) (length cs) (rowsOn p cs)
+
+corners : (w : tie.After-wide3 Inv-loop3 μ-loop3 Inv-loop2 μ-loop2 Inv-loop μ-loop) → let g = w .before .before .before .before in Read (p g) (entryAt (cs g) (O g)) (w .before .before .wide .result) (w .before .wide2 .result) (w .wide3 .result)
+corners w = let g = w .before .before .before .before in let s = g .before .before .before in record { valid = s .pre .0 .valid; corners = s .pre .0 .corners (O g) (o-in g); a-is = w .before .before .wide .ensures; b-is = w .before .wide2 .ensures; c-is = w .wide3 .ensures }
+
+mul-face-of : tie.Need-mul-face-of Inv-loop3 μ-loop3 Inv-loop2 μ-loop2 Inv-loop μ-loop
+mul-face-of c = let h = a<64 (corners c) in omega arith
+
+array-copy-out-face-of :
+    tie.Need-array-copy-out-face-of Inv-loop3 μ-loop3 Inv-loop2 μ-loop2 Inv-loop μ-loop
+array-copy-out-face-of c = a<64 (corners c)
+
+mul-face-of-2 : tie.Need-mul-face-of-2 Inv-loop3 μ-loop3 Inv-loop2 μ-loop2 Inv-loop μ-loop
+mul-face-of-2 c = let h = b<64 (corners (c .before)) in omega arith
+
+array-copy-out-face-of-2 :
+    tie.Need-array-copy-out-face-of-2 Inv-loop3 μ-loop3 Inv-loop2 μ-loop2 Inv-loop μ-loop
+array-copy-out-face-of-2 c = b<64 (corners (c .before))
+
+mul-face-of-3 : tie.Need-mul-face-of-3 Inv-loop3 μ-loop3 Inv-loop2 μ-loop2 Inv-loop μ-loop
+mul-face-of-3 c = let h = c<64 (corners (c .before .before)) in omega arith
+
+array-copy-out-face-of-3 :
+    tie.Need-array-copy-out-face-of-3 Inv-loop3 μ-loop3 Inv-loop2 μ-loop2 Inv-loop μ-loop
+array-copy-out-face-of-3 c = c<64 (corners (c .before .before))
+
+face-of-requires : tie.Need-face-of-requires Inv-loop3 μ-loop3 Inv-loop2 μ-loop2 Inv-loop μ-loop
+face-of-requires c κs = on-grid (corners (c .before .before .before))
+
+loop2-holds : tie.Need-loop2-holds Inv-loop3 μ-loop3 Inv-loop2 μ-loop2 Inv-loop μ-loop
+loop2-holds c =
+    let g = c .before .before .before .before .before .before .before .before in
+    (omega arith, enter (over-step (O g) (length (cs g)) (rowsOn (p g) (cs g)) (o-in g) ∙ ap (λ (l : List (List ℕ)). l ++ rest g) (edge-rows (p g) (cs g) (g .before .before .before .pre .0 .sorted) (O g) (o-in g))) (g .before .loop .inv .1))
+
+array-read-wide-4 : tie.Need-array-read-wide-4 Inv-loop3 μ-loop3 Inv-loop2 μ-loop2 Inv-loop μ-loop
+array-read-wide-4 c = omega (arith, c .loop2-test .taken)
+
+wide-requires-4 : tie.Need-wide-requires-4 Inv-loop3 μ-loop3 Inv-loop2 μ-loop2 Inv-loop μ-loop
+wide-requires-4 c κs = search needs
+
+add-last : tie.Need-add-last Inv-loop3 μ-loop3 Inv-loop2 μ-loop2 Inv-loop μ-loop
+add-last c = omega (arith, c .before .loop2-test .taken)
+
+array-read-last : tie.Need-array-read-last Inv-loop3 μ-loop3 Inv-loop2 μ-loop2 Inv-loop μ-loop
+array-read-last c = omega (arith, c .before .loop2-test .taken)
+
+block-start-requires :
+    tie.Need-block-start-requires Inv-loop3 μ-loop3 Inv-loop2 μ-loop2 Inv-loop μ-loop
+block-start-requires c κs = c .before .before .before .before .before .before .before .before .before .before .before .before .before .before .pre .0 .sorted
+
+-- at one of its edges
+module _ (m : tie.In-loop2 Inv-loop3 μ-loop3 Inv-loop2 μ-loop2 Inv-loop μ-loop) where
+  abbrev outer-at : tie.In-loop Inv-loop3 μ-loop3 Inv-loop2 μ-loop2 Inv-loop μ-loop
+  outer-at = m .before .before .before .before .before .before .before .before .before .before
+
+  abbrev E : ℕ
+  E = m .before .loop2 .edge
+
+  first-small : getD (entryAt (cs outer-at) (O outer-at)) E 0 < 64
+  first-small = edge-small (cs outer-at) (outer-at .before .before .before .pre .0 .sorted) (O outer-at) E (o-in outer-at) (m .loop2-test .taken)
+
+  abbrev others : List (List ℕ)
+  others = over (E + 1) 2 (rowsAt (p outer-at) (cs outer-at) (O outer-at)) ++ rest outer-at
+
+add-block-start : tie.Need-add-block-start Inv-loop3 μ-loop3 Inv-loop2 μ-loop2 Inv-loop μ-loop
+add-block-start c = let m = c .before .before in omega (arith, c .before .wide4 .ensures, first-small m)
+
+block-start-requires-2 :
+    tie.Need-block-start-requires-2 Inv-loop3 μ-loop3 Inv-loop2 μ-loop2 Inv-loop μ-loop
+block-start-requires-2 c κs = c .before .before .before .before .before .before .before .before .before .before .before .before .before .before .before .pre .0 .sorted
+
+loop3-holds : tie.Need-loop3-holds Inv-loop3 μ-loop3 Inv-loop2 μ-loop2 Inv-loop μ-loop
+loop3-holds c =
+    let m = c .before .before .before in
+    let g = outer-at m in
+    let e = c .before .before .wide4 .ensures in
+    (start-order (cs g) (c .before .block-start .ensures) (c .block-start2 .ensures) (omega arith), c .block-start2 .ensures .within,
+    enter (over-more (E m) 2 (rowsAt (p g) (cs g) (O g)) (rest g) (m .loop2-test .taken)
+      ∙ ap (λ (l : List ℕ). map (rowAt (p g) (cs g) (O g)) l ++ others m)
+        (edge-block (cs g) (O g) (E m) (c .before .block-start .result) (c .block-start2 .result) (start-at (cs g) e (c .before .block-start .ensures)) (start-at (cs g) (ap (λ (k : ℕ). k + 1) e) (c .block-start2 .ensures))))
+    (m .before .loop2 .inv .1))
+
+-- at a candidate of the block
+module _ (n : tie.In-loop3 Inv-loop3 μ-loop3 Inv-loop2 μ-loop2 Inv-loop μ-loop) where
+  abbrev edge-at : tie.In-loop2 Inv-loop3 μ-loop3 Inv-loop2 μ-loop2 Inv-loop μ-loop
+  edge-at = n .before .before .before .before .before
+
+  abbrev face-at : tie.In-loop Inv-loop3 μ-loop3 Inv-loop2 μ-loop2 Inv-loop μ-loop
+  face-at = outer-at edge-at
+
+  abbrev I : ℕ
+  I = n .before .loop3 .i
+
+  i-in : I < length (cs face-at)
+  i-in = omega (arith, n .loop3-test .taken, n .before .loop3 .inv .1)
+
+  abbrev last-vertex : ℕ
+  last-vertex = getD (entryAt (cs face-at) (O face-at)) (E edge-at + 1) 0
+
+  -- what is left, with the candidate taken by its test
+  after : (b : Bool) → eqb (vertexC (entryAt (cs face-at) I)) last-vertex ≡ b →
+      Writing (rowsOf (p face-at) (cs face-at)) (map (rowAt (p face-at) (cs face-at) (O face-at)) (when b I) ++ (map (rowAt (p face-at) (cs face-at) (O face-at)) (endingIn (cs face-at) (I + 1) (n .before .before .block-start2 .result) last-vertex) ++ others edge-at)) (edge-at .before .loop2 .out) (edge-at .before .loop2 .count) (n .before .loop3 .out) (n .before .loop3 .count)
+  after b e = turn (ending-step (rowAt (p face-at) (cs face-at) (O face-at)) (cs face-at) I (n .before .before .block-start2 .result) last-vertex (others edge-at) b (n .loop3-test .taken) e) (n .before .loop3 .inv .2)
+
+mul-s : tie.Need-mul-s Inv-loop3 μ-loop3 Inv-loop2 μ-loop2 Inv-loop μ-loop
+mul-s c = omega (arith, i-in c, few (face-at c))
+
+shared-slice-copy-out-s :
+    tie.Need-shared-slice-copy-out-s Inv-loop3 μ-loop3 Inv-loop2 μ-loop2 Inv-loop μ-loop
+shared-slice-copy-out-s c = i-in c
+
+array-read-if1 : tie.Need-array-read-if1 Inv-loop3 μ-loop3 Inv-loop2 μ-loop2 Inv-loop μ-loop
+array-read-if1 c = search needs
+
+array-read-wide-5 : tie.Need-array-read-wide-5 Inv-loop3 μ-loop3 Inv-loop2 μ-loop2 Inv-loop μ-loop
+array-read-wide-5 c = search needs
+
+wide-requires-5 : tie.Need-wide-requires-5 Inv-loop3 μ-loop3 Inv-loop2 μ-loop2 Inv-loop μ-loop
+wide-requires-5 c κs = search needs
+
+array-read-wide-6 : tie.Need-array-read-wide-6 Inv-loop3 μ-loop3 Inv-loop2 μ-loop2 Inv-loop μ-loop
+array-read-wide-6 c = search needs
+
+wide-requires-6 : tie.Need-wide-requires-6 Inv-loop3 μ-loop3 Inv-loop2 μ-loop2 Inv-loop μ-loop
+wide-requires-6 c κs = search needs
+
+array-read-wide-7 : tie.Need-array-read-wide-7 Inv-loop3 μ-loop3 Inv-loop2 μ-loop2 Inv-loop μ-loop
+array-read-wide-7 c = search needs
+
+wide-requires-7 : tie.Need-wide-requires-7 Inv-loop3 μ-loop3 Inv-loop2 μ-loop2 Inv-loop μ-loop
+wide-requires-7 c κs = search needs
+
+corners2 : (w : tie.After-wide7 Inv-loop3 μ-loop3 Inv-loop2 μ-loop2 Inv-loop μ-loop) → let n = w .before .before .before .before .before in Read (p (face-at n)) (entryAt (cs (face-at n)) (I n)) (w .before .before .wide5 .result) (w .before .wide6 .result) (w .wide7 .result)
+corners2 w = let n = w .before .before .before .before .before in let s = face-at n .before .before .before in record { valid = s .pre .0 .valid; corners = s .pre .0 .corners (I n) (i-in n); a-is = w .before .before .wide5 .ensures; b-is = w .before .wide6 .ensures; c-is = w .wide7 .ensures }
+
+mul-face-of-4 : tie.Need-mul-face-of-4 Inv-loop3 μ-loop3 Inv-loop2 μ-loop2 Inv-loop μ-loop
+mul-face-of-4 c = let h = a<64 (corners2 c) in omega arith
+
+array-copy-out-face-of-4 :
+    tie.Need-array-copy-out-face-of-4 Inv-loop3 μ-loop3 Inv-loop2 μ-loop2 Inv-loop μ-loop
+array-copy-out-face-of-4 c = a<64 (corners2 c)
+
+mul-face-of-5 : tie.Need-mul-face-of-5 Inv-loop3 μ-loop3 Inv-loop2 μ-loop2 Inv-loop μ-loop
+mul-face-of-5 c = let h = b<64 (corners2 (c .before)) in omega arith
+
+array-copy-out-face-of-5 :
+    tie.Need-array-copy-out-face-of-5 Inv-loop3 μ-loop3 Inv-loop2 μ-loop2 Inv-loop μ-loop
+array-copy-out-face-of-5 c = b<64 (corners2 (c .before))
+
+mul-face-of-6 : tie.Need-mul-face-of-6 Inv-loop3 μ-loop3 Inv-loop2 μ-loop2 Inv-loop μ-loop
+mul-face-of-6 c = let h = c<64 (corners2 (c .before .before)) in omega arith
+
+array-copy-out-face-of-6 :
+    tie.Need-array-copy-out-face-of-6 Inv-loop3 μ-loop3 Inv-loop2 μ-loop2 Inv-loop μ-loop
+array-copy-out-face-of-6 c = c<64 (corners2 (c .before .before))
+
+face-of-requires-2 :
+    tie.Need-face-of-requires-2 Inv-loop3 μ-loop3 Inv-loop2 μ-loop2 Inv-loop μ-loop
+face-of-requires-2 c κs = on-grid (corners2 (c .before .before .before))
+
+row-requires : tie.Need-row-requires Inv-loop3 μ-loop3 Inv-loop2 μ-loop2 Inv-loop μ-loop
+row-requires c κs =
+    let w = c .before .before .before .before in
+    let n = w .before .before .before .before .before in
+    let g = face-at n in
+    let s = g .before .before .before in
+    (s .pre .0 .valid .bend-factor, omega (arith, o-in g, few g), face-measured (corners (n .before .before .before .before .before .before .before .before .before .before .before)) (n .before .before .before .before .before .before .before .face-of .ensures) (s .pre .0 .normals (O g) (o-in g)), omega (arith, i-in n, few g), face-measured (corners2 w) (c .face-of2 .ensures) (s .pre .0 .normals (I n) (i-in n)))
+
+-- the row that is written next
+next : (r : tie.After-row Inv-loop3 μ-loop3 Inv-loop2 μ-loop2 Inv-loop μ-loop) →
+    let n = r .before .before .before .before .before .before .before .before .before .before in
+    let g = face-at n in
+    Writing (rowsOf (p g) (cs g)) (r .row .result ∷ (map (rowAt (p g) (cs g) (O g)) (endingIn (cs g) (I n + 1) (n .before .before .block-start2 .result) (last-vertex n)) ++ others (edge-at n))) (edge-at n .before .loop2 .out) (edge-at n .before .loop2 .count) (n .before .loop3 .out) (n .before .loop3 .count)
+next r =
+    let n = r .before .before .before .before .before .before .before .before .before .before in
+    let g = face-at n in
+    let e = r .row .ensures ∙ (λ h. O g ∷ I n ∷ bendWeightOf (p g .«bend_factor») (bendBetween (face-normal (corners2 (r .before .before .before .before .before)) (r .before .face-of2 .ensures) h) (face-normal (corners (n .before .before .before .before .before .before .before .before .before .before .before)) (n .before .before .before .before .before .before .before .face-of .ensures) h)) ∷ []) in
+    turn (ap (λ (l : List ℕ). l ∷ (map (rowAt (p g) (cs g) (O g)) (endingIn (cs g) (I n + 1) (n .before .before .block-start2 .result) (last-vertex n)) ++ others (edge-at n))) (sym e)) (after n true (eq-eqb _ _ (r .before .before .before .before .before .before .before .before .if1 .taken)))
+
+count-fits : (r : tie.After-row Inv-loop3 μ-loop3 Inv-loop2 μ-loop2 Inv-loop μ-loop) → r .before .before .before .before .before .before .before .before .before .before .before .loop3 .count * 12 + 12 < 2 ^ 63
+count-fits r =
+    let n = r .before .before .before .before .before .before .before .before .before .before in
+    let g = face-at n in
+    let h = place (next r) in
+    omega (arith, h, n .before .loop3 .inv .2 .long, edge-at n .before .loop2 .inv .1 .long, g .before .loop .inv .1 .long, g .before .before .before)
+
+mul-t68 : tie.Need-mul-t68 Inv-loop3 μ-loop3 Inv-loop2 μ-loop2 Inv-loop μ-loop
+mul-t68 c = omega (arith, count-fits c)
+
+slice-set-from-out :
+    tie.Need-slice-set-from-out Inv-loop3 μ-loop3 Inv-loop2 μ-loop2 Inv-loop μ-loop
+slice-set-from-out c = place (next c)
+
+add-count : tie.Need-add-count Inv-loop3 μ-loop3 Inv-loop2 μ-loop2 Inv-loop μ-loop
+add-count c = omega (arith, count-fits c)
+
+add-i : tie.Need-add-i Inv-loop3 μ-loop3 Inv-loop2 μ-loop2 Inv-loop μ-loop
+add-i c = let n = c .before .before in omega (arith, i-in n, few (face-at n))
+
+loop3-less : tie.Need-loop3-less Inv-loop3 μ-loop3 Inv-loop2 μ-loop2 Inv-loop μ-loop
+loop3-less c = omega (arith, c .before .before .loop3-test .taken)
+
+loop3-again : tie.Need-loop3-again Inv-loop3 μ-loop3 Inv-loop2 μ-loop2 Inv-loop μ-loop
+loop3-again c =
+    let n = c .before .before in
+    let h = n .loop3-test .taken in
+    (omega arith, n .before .loop3 .inv .1,
+    ⊎-elim
+    (λ w. moved (w .9) (w .10) (push (next (record {
+      before = record {
+        before = record { before = record { before = record { before = record { before = record { before = record { before = record { before = c .before; if1 = w .0 }; wide5 = w .1 }; wide6 = w .2 }; wide7 = w .3 }; face-of-arg4 = w .4 }; face-of-arg5 = w .5 }; face-of-arg6 = w .6 };
+        face-of2 = w .7;
+      };
+      row = w .8;
+    }))))
+    (λ w. moved (w .1) (w .2) (after n false (ne-eqb _ _ (w .0 .left))))
+    (c .if1 .came))
+
+add-edge : tie.Need-add-edge Inv-loop3 μ-loop3 Inv-loop2 μ-loop2 Inv-loop μ-loop
+add-edge c = omega (arith, c .before .before .before .before .before .loop2-test .taken)
+
+loop2-less : tie.Need-loop2-less Inv-loop3 μ-loop3 Inv-loop2 μ-loop2 Inv-loop μ-loop
+loop2-less c = omega (arith, c .before .before .before .before .before .loop2-test .taken)
+
+loop2-again : tie.Need-loop2-again Inv-loop3 μ-loop3 Inv-loop2 μ-loop2 Inv-loop μ-loop
+loop2-again c =
+    let m = c .before .before .before .before .before in
+    let g = outer-at m in
+    (omega (arith, m .loop2-test .taken), leave (ending-end (rowAt (p g) (cs g) (O g)) (cs g) (c .before .loop3 .i) (c .before .before .block-start2 .result) (getD (entryAt (cs g) (O g)) (E m + 1) 0) (others m) (c .loop3-test .left)) (m .before .loop2 .inv .1) (c .before .loop3 .inv .2))
+
+add-o : tie.Need-add-o Inv-loop3 μ-loop3 Inv-loop2 μ-loop2 Inv-loop μ-loop
+add-o c = let g = c .before .before .before .before .before .before .before .before .before .before in omega (arith, o-in g, few g)
+
+loop-less : tie.Need-loop-less Inv-loop3 μ-loop3 Inv-loop2 μ-loop2 Inv-loop μ-loop
+loop-less c = omega (arith, c .before .before .before .before .before .before .before .before .before .before .loop-test .taken)
+
+loop-again : tie.Need-loop-again Inv-loop3 μ-loop3 Inv-loop2 μ-loop2 Inv-loop μ-loop
 loop-again c =
-    let g = c .before .before .before in
-    let s = g .before .before in
-    (omega (arith, g .loop-test .taken), append-part (rowsOn (s .args .p) (s .args .candidates .now) (g .before .loop .o)) (next g) (c .before .write-on .ensures .0) (c .before .write-on .ensures .1))
+    let g = c .before .before .before .before .before .before .before .before .before .before in
+    (omega (arith, o-in g), leave (over-none (c .before .loop2 .edge) 2 (rowsAt (p g) (cs g) (O g)) (rest g) (c .loop2-test .left)) (g .before .loop .inv .1) (c .before .loop2 .inv .1))
 
-same-length : tie.Need-same-length Inv-loop μ-loop
+same-length : tie.Need-same-length Inv-loop3 μ-loop3 Inv-loop2 μ-loop2 Inv-loop μ-loop
 same-length c = c .before .loop .inv .1 .long
 
-returns : tie.Need-returns Inv-loop μ-loop
+returns : tie.Need-returns Inv-loop3 μ-loop3 Inv-loop2 μ-loop2 Inv-loop μ-loop
 returns c = all (turn (over-end _ _ _ (c .loop-test .left)) (c .before .loop .inv .1)) .1
 
 pub write-rows-spec : {M : Type 1} → statement M
 write-rows-spec =
     tie.close
     (tie.spec
+    Inv-loop3
+    μ-loop3
+    Inv-loop2
+    μ-loop2
     Inv-loop
     μ-loop
     loop-holds
-    write-on-requires
+    mul-t
+    shared-slice-copy-out-t
+    array-read-wide
+    wide-requires
+    array-read-wide-2
+    wide-requires-2
+    array-read-wide-3
+    wide-requires-3
+    mul-face-of
+    array-copy-out-face-of
+    mul-face-of-2
+    array-copy-out-face-of-2
+    mul-face-of-3
+    array-copy-out-face-of-3
+    face-of-requires
+    loop2-holds
+    array-read-wide-4
+    wide-requires-4
+    add-last
+    array-read-last
+    block-start-requires
+    add-block-start
+    block-start-requires-2
+    loop3-holds
+    mul-s
+    shared-slice-copy-out-s
+    array-read-if1
+    array-read-wide-5
+    wide-requires-5
+    array-read-wide-6
+    wide-requires-6
+    array-read-wide-7
+    wide-requires-7
+    mul-face-of-4
+    array-copy-out-face-of-4
+    mul-face-of-5
+    array-copy-out-face-of-5
+    mul-face-of-6
+    array-copy-out-face-of-6
+    face-of-requires-2
+    row-requires
+    mul-t68
+    slice-set-from-out
+    add-count
+    add-i
+    loop3-less
+    loop3-again
+    add-edge
+    loop2-less
+    loop2-again
     add-o
     loop-less
     loop-again

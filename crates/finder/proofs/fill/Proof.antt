@@ -8,7 +8,7 @@ use borrow.Author.Tests.{le-ltb, lt-ltb}
 use lib.ListN.{length}
 use Rattle.lists.proofs.Choice.{yes, no, gt-via, ge-via}
 use Rattle.dihedrals.specs.Weights.{rowsOf}
-use Rattle.dihedrals.proofs.Appending.{row-count}
+use Rattle.dihedrals.proofs.Rows.{row-count}
 use Rattle.finder.specs.declared.Found.the-variants.{Lists}
 use Rattle.finder.specs.Finding.{finding}
 use Rattle.finder.specs.Filling.{fillOr13}
