@@ -1,20 +1,20 @@
 -- A candidate's face as it is computed. Assumes nothing.
 use mathlib.Core.Path.{_≡_, refl, sym, _∙_, ap, subst}
-use mathlib.Core.List.{List}
-use Prim.Native.Nat.{ℕ, _<_}
+use mathlib.Core.List.{List, [], _∷_, map}
+use Prim.Native.Nat.{ℕ, zero, suc, _≤_, _<_}
 use native.Mathlib.Omega.{arith}
-use lib.ListN.{length}
+use lib.ListN.{length, getD}
 use Rattle.grid.specs.Point.{PointOnGrid}
 use Rattle.polygon.specs.declared.Polygon.{Polygon}
 use Rattle.polygon.specs.Polygon.{vertexAt, Valid}
 use Rattle.geometry.specs.declared.Vector.{Vector}
 use Rattle.geometry.specs.Vectors.{Within}
-use Rattle.geometry.specs.Faces.{lengthOf}
-use Rattle.geometry.proofs.Faces.{normal-within}
+use Rattle.geometry.specs.Faces.{normalOf, lengthOf}
+use Rattle.geometry.proofs.Vectors.{within-as}
+use Rattle.geometry.proofs.Faces.{normal-within, length-bound}
 use Rattle.jobs.specs.Job.{entryAt, vertexA, vertexB, vertexC}
-use Rattle.dihedrals.specs.declared.Face.{Face}
-use Rattle.dihedrals.specs.Weights.{faceNormal}
-use Rattle.dihedrals.specs.Lists.{Corners, Solid, Measured, faceOf}
+use Rattle.dihedrals.specs.Weights.{faceNormal, faceWeight, lengthsOf, weightsOf}
+use Rattle.dihedrals.specs.Lists.{Corners, Solid, Measured}
 
 pub face-within : {p : Polygon} {t : List ℕ} → Valid p → Corners p t → Within 8000000 (faceNormal p t)
 face-within {p} {t} v c = normal-within (v .on-grid (vertexA t) (c .a<n)) (v .on-grid (vertexB t) (c .b<n)) (v .on-grid (vertexC t) (c .c<n))
@@ -40,13 +40,29 @@ module _ {p : Polygon} {t : List ℕ} {a b c : ℕ} (r : Read p t a b c) where
   pub on-grid : (PointOnGrid (vertexAt (p .vertices) a)) × (PointOnGrid (vertexAt (p .vertices) b)) × (PointOnGrid (vertexAt (p .vertices) c))
   on-grid = (r .valid .on-grid a (omega (arith, r .a-is, r .corners .a<n)), r .valid .on-grid b (omega (arith, r .b-is, r .corners .b<n)), r .valid .on-grid c (omega (arith, r .c-is, r .corners .c<n)))
 
-  module _ {f : Face} (e : f ≡ faceOf (vertexAt (p .vertices) a) (vertexAt (p .vertices) b) (vertexAt (p .vertices) c)) where
-    pub face-is : f ≡ faceOf (vertexAt (p .vertices) (vertexA t)) (vertexAt (p .vertices) (vertexB t)) (vertexAt (p .vertices) (vertexC t))
-    face-is = e ∙ (λ h. faceOf (vertexAt (p .vertices) (r .a-is h)) (vertexAt (p .vertices) (r .b-is h)) (vertexAt (p .vertices) (r .c-is h)))
+  -- the normal as it is computed
+  pub normal-is : {n : Vector} → n ≡ normalOf (vertexAt (p .vertices) a) (vertexAt (p .vertices) b) (vertexAt (p .vertices) c) → n ≡ faceNormal p t
+  normal-is e = e ∙ (λ h. normalOf (vertexAt (p .vertices) (r .a-is h)) (vertexAt (p .vertices) (r .b-is h)) (vertexAt (p .vertices) (r .c-is h)))
 
-    pub face-normal : f .normal ≡ faceNormal p t
-    face-normal = ap (λ (f : Face). f .normal) face-is
+map-at : {A B : Type 0} (f : A → B) (l : List A) (d : A) (e : B) (i : ℕ) → i < length l → getD (map f l) i e ≡ f (getD l i d)
+map-at f [] d e i h = absurd (omega arith)
+map-at f (x ∷ l) d e zero h = refl
+map-at f (x ∷ l) d e (suc i) h = map-at f l d e i (omega arith)
 
-    -- its bend can be computed
-    pub face-measured : 0 < lengthOf (faceNormal p t) → Measured f
-    face-measured h = subst (λ (f : Face). Measured f) (sym face-is) (record { within = face-within (r .valid) (r .corners); is = refl; above-0 = h })
+pub length-at : (p : Polygon) (cs : List (List ℕ)) (i : ℕ) → i < length cs → getD (lengthsOf p cs) i 0 ≡ lengthOf (faceNormal p (entryAt cs i))
+length-at p cs i h = map-at (λ t. lengthOf (faceNormal p t)) cs [] 0 i h
+
+pub weight-at : (p : Polygon) (cs : List (List ℕ)) (i : ℕ) → i < length cs → getD (weightsOf p cs) i 0 ≡ faceWeight p (entryAt cs i)
+weight-at p cs i h = map-at (faceWeight p) cs [] 0 i h
+
+-- the bend with a candidate can be computed
+pub face-measured : {p : Polygon} {cs : List (List ℕ)} (s : Solid p cs) (i : ℕ) → i < length cs → {n : Vector} {m : ℕ} → n ≡ faceNormal p (entryAt cs i) → m ≡ lengthOf (faceNormal p (entryAt cs i)) → Measured n m
+face-measured {p} {cs} s i h {n} {m} en em = record {
+  within = within-as en (face-within (s .valid) (s .corners i h));
+  is = em ∙ ap lengthOf (sym en);
+  above-0 = subst (λ (k : ℕ). 0 < k) (sym em) (s .normals i h);
+}
+
+-- what is written can be lengths
+pub lengths-below : {p : Polygon} {cs : List (List ℕ)} → Solid p cs → (i : ℕ) → i < length cs → lengthOf (faceNormal p (entryAt cs i)) ≤ 13856406
+lengths-below s i h = length-bound (face-within (s .valid) (s .corners i h))

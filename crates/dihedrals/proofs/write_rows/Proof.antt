@@ -8,27 +8,26 @@ use native.Mathlib.Omega.{arith}
 use borrow.Author.Needs.{needs}
 use borrow.Author.Tests.{eq-eqb, ne-eqb}
 use lib.Dec.{eqb}
-use lib.ListN.{length, getD}
+use lib.ListN.{length, getD, length-map}
 use Rattle.grid.specs.declared.GridPoint.{GridPoint}
 use Rattle.polygon.specs.declared.Polygon.{Polygon}
-use Rattle.geometry.specs.Faces.{bendBetween, bendWeightOf}
+use Rattle.geometry.specs.Faces.{lengthOf, bendBetween, bendWeightOf}
 use Rattle.jobs.specs.Job.{entryAt, vertexC}
 use Rattle.lists.specs.Lists.{over, when}
 use Rattle.lists.proofs.Ranges.{over-step, over-more, over-none, over-end}
 use Rattle.lists.proofs.Writing.{Writing, start, turn, enter, leave, place, push, moved, all}
-use Rattle.hinges.specs.Hinges.{Sorted, endingIn, BlockStart}
+use Rattle.hinges.specs.Hinges.{Sorted, endingIn}
 use Rattle.hinges.proofs.Blocks.{start-order, start-at, edge-block}
-use Rattle.dihedrals.specs.declared.Face.{Face}
-use Rattle.dihedrals.specs.Weights.{rowAt, rowsOn, rowsOf}
-use Rattle.dihedrals.proofs.Faces.{Read, a<64, b<64, c<64, on-grid, face-normal, face-measured}
+use Rattle.dihedrals.specs.Weights.{faceNormal, lengthsOf, rowAt, rowsOn, rowsOf}
+use Rattle.dihedrals.proofs.Faces.{Read, a<64, b<64, c<64, on-grid, normal-is, length-at, face-measured}
 use Rattle.dihedrals.proofs.Rows.{rowsAt, edge-rows, ending-step, ending-end}
 use Rattle.dihedrals.proofs.write_rows.Statement.{statement}
 use Rattle.dihedrals.proofs.write_rows.Tie as tie
 use Rattle.dihedrals.proofs.write_rows.Reads as reads
 use Rattle.dihedrals.proofs.write_rows.Lts as lts
-use Rattle.dihedrals.proofs.face_of.Reads as face-of-reads
 use Rattle.dihedrals.proofs.row.Reads as row-reads
 use Rattle.dihedrals.proofs.wide.Reads as wide-reads
+use Rattle.geometry.proofs.face.normal.Reads as normal-reads
 use Rattle.hinges.proofs.block_start.Reads as block-start-reads
 
 -- of the polygon the loops keep what the rows need
@@ -41,32 +40,65 @@ edge-small cs s o (suc zero) h k = omega (arith, s .b<c o h, s .c<64 o h)
 edge-small cs s o (suc (suc e)) h k = absurd (omega arith)
 
 abbrev Inv-loop3 : tie.InvT-loop3
-Inv-loop3 candidates out₀ factor vertices count₀ o t a b c outer edge first last start end i₀ o-end out count i = (i ≤ end) × (end ≤ length candidates) × Writing (rowsOf (kept factor vertices) candidates) (map (rowAt (kept factor vertices) candidates o) (endingIn candidates i end last) ++ (over (edge + 1) 2 (rowsAt (kept factor vertices) candidates o) ++ over (o + 1) (length candidates) (rowsOn (kept factor vertices) candidates))) out₀ count₀ out count
+Inv-loop3 candidates lengths out₀ factor vertices count₀ o t m a b c outer edge first last start end i₀ o-end out count i = (i ≤ end) × (end ≤ length candidates) × Writing (rowsOf (kept factor vertices) candidates) (map (rowAt (kept factor vertices) candidates o) (endingIn candidates i end last) ++ (over (edge + 1) 2 (rowsAt (kept factor vertices) candidates o) ++ over (o + 1) (length candidates) (rowsOn (kept factor vertices) candidates))) out₀ count₀ out count
 
 abbrev μ-loop3 : tie.MeasureT-loop3
-μ-loop3 candidates out₀ factor vertices count₀ o t a b c outer edge first last start end i₀ o-end out count i = end - i
+μ-loop3 candidates lengths out₀ factor vertices count₀ o t m a b c outer edge first last start end i₀ o-end out count i = end - i
 
 abbrev Inv-loop2 : tie.InvT-loop2
-Inv-loop2 candidates out₀ factor vertices count₀ o t a b c outer edge₀ o-end out count edge = (edge ≤ 2) × Writing (rowsOf (kept factor vertices) candidates) (over edge 2 (rowsAt (kept factor vertices) candidates o) ++ over (o + 1) (length candidates) (rowsOn (kept factor vertices) candidates)) out₀ count₀ out count
+Inv-loop2 candidates lengths out₀ factor vertices count₀ o t m a b c outer edge₀ o-end out count edge = (edge ≤ 2) × Writing (rowsOf (kept factor vertices) candidates) (over edge 2 (rowsAt (kept factor vertices) candidates o) ++ over (o + 1) (length candidates) (rowsOn (kept factor vertices) candidates)) out₀ count₀ out count
 
 abbrev μ-loop2 : tie.MeasureT-loop2
-μ-loop2 candidates out₀ factor vertices count₀ o t a b c outer edge₀ o-end out count edge = 2 - edge
+μ-loop2 candidates lengths out₀ factor vertices count₀ o t m a b c outer edge₀ o-end out count edge = 2 - edge
 
 abbrev Inv-loop : tie.InvT-loop
-Inv-loop candidates out₀ factor vertices count₀ o₀ o-end out count o = (o ≤ length candidates) × Writing (rowsOf (kept factor vertices) candidates) (over o (length candidates) (rowsOn (kept factor vertices) candidates)) out₀ count₀ out count
+Inv-loop candidates lengths out₀ factor vertices count₀ o₀ o-end out count o = (o ≤ length candidates) × Writing (rowsOf (kept factor vertices) candidates) (over o (length candidates) (rowsOn (kept factor vertices) candidates)) out₀ count₀ out count
 
 abbrev μ-loop : tie.MeasureT-loop
-μ-loop candidates out₀ factor vertices count₀ o₀ o-end out count o = length candidates - o
+μ-loop candidates lengths out₀ factor vertices count₀ o₀ o-end out count o = length candidates - o
 
 loop-holds : tie.Need-loop-holds Inv-loop3 μ-loop3 Inv-loop2 μ-loop2 Inv-loop μ-loop
-loop-holds c = (omega arith, start _ _ (c .before .pre .1))
+loop-holds c = (omega arith, start _ _ (c .before .before .pre .2))
+
+-- at an outer candidate
+module _ (g : tie.In-loop Inv-loop3 μ-loop3 Inv-loop2 μ-loop2 Inv-loop μ-loop) where
+  abbrev p : Polygon
+  p = g .before .before .before .before .args .p
+
+  abbrev cs : List (List ℕ)
+  cs = g .before .before .before .before .args .candidates .now
+
+  abbrev O : ℕ
+  O = g .before .loop .o
+
+  o-in : O < length cs
+  o-in = g .loop-test .taken
+
+  few : length cs ≤ 41664
+  few = g .before .before .before .before .pre .0 .sorted .few
+
+  lengths-there : length (g .before .before .before .before .args .lengths .now) ≡ length cs
+  lengths-there = ap length (g .before .before .before .before .pre .1) ∙ length-map cs (λ t. lengthOf (faceNormal p t))
+
+  length-is : (i : ℕ) → i < length cs → getD (g .before .before .before .before .args .lengths .now) i 0 ≡ lengthOf (faceNormal p (entryAt cs i))
+  length-is i h = ap (λ (l : List ℕ). getD l i 0) (g .before .before .before .before .pre .1) ∙ length-at p cs i h
+
+  abbrev rest : List (List ℕ)
+  rest = over (O + 1) (length cs) (rowsOn p cs)
 
 mul-t : tie.Need-mul-t Inv-loop3 μ-loop3 Inv-loop2 μ-loop2 Inv-loop μ-loop
-mul-t c = omega arith
+mul-t c = omega (arith, o-in c, few c)
 
 shared-slice-copy-out-t :
     tie.Need-shared-slice-copy-out-t Inv-loop3 μ-loop3 Inv-loop2 μ-loop2 Inv-loop μ-loop
-shared-slice-copy-out-t c = omega arith
+shared-slice-copy-out-t c = o-in c
+
+mul-m : tie.Need-mul-m Inv-loop3 μ-loop3 Inv-loop2 μ-loop2 Inv-loop μ-loop
+mul-m c = omega (arith, o-in (c .before), few (c .before))
+
+shared-slice-read-m :
+    tie.Need-shared-slice-read-m Inv-loop3 μ-loop3 Inv-loop2 μ-loop2 Inv-loop μ-loop
+shared-slice-read-m c = let g = c .before .before in omega (arith, o-in g, lengths-there g)
 
 array-read-wide : tie.Need-array-read-wide Inv-loop3 μ-loop3 Inv-loop2 μ-loop2 Inv-loop μ-loop
 array-read-wide c = search needs
@@ -86,57 +118,37 @@ array-read-wide-3 c = search needs
 wide-requires-3 : tie.Need-wide-requires-3 Inv-loop3 μ-loop3 Inv-loop2 μ-loop2 Inv-loop μ-loop
 wide-requires-3 c κs = search needs
 
--- at an outer candidate
-module _ (g : tie.In-loop Inv-loop3 μ-loop3 Inv-loop2 μ-loop2 Inv-loop μ-loop) where
-  abbrev p : Polygon
-  p = g .before .before .before .args .p
+corners : (w : tie.After-wide3 Inv-loop3 μ-loop3 Inv-loop2 μ-loop2 Inv-loop μ-loop) → let g = w .before .before .before .before .before in Read (p g) (entryAt (cs g) (O g)) (w .before .before .wide .result) (w .before .wide2 .result) (w .wide3 .result)
+corners w = let g = w .before .before .before .before .before in let s = g .before .before .before .before in record { valid = s .pre .0 .valid; corners = s .pre .0 .corners (O g) (o-in g); a-is = w .before .before .wide .ensures; b-is = w .before .wide2 .ensures; c-is = w .wide3 .ensures }
 
-  abbrev cs : List (List ℕ)
-  cs = g .before .before .before .args .candidates .now
+mul-normal : tie.Need-mul-normal Inv-loop3 μ-loop3 Inv-loop2 μ-loop2 Inv-loop μ-loop
+mul-normal c = let h = a<64 (corners c) in omega arith
 
-  abbrev O : ℕ
-  O = g .before .loop .o
+array-copy-out-normal :
+    tie.Need-array-copy-out-normal Inv-loop3 μ-loop3 Inv-loop2 μ-loop2 Inv-loop μ-loop
+array-copy-out-normal c = a<64 (corners c)
 
-  o-in : O < length cs
-  o-in = g .loop-test .taken
+mul-normal-2 : tie.Need-mul-normal-2 Inv-loop3 μ-loop3 Inv-loop2 μ-loop2 Inv-loop μ-loop
+mul-normal-2 c = let h = b<64 (corners (c .before)) in omega arith
 
-  few : length cs ≤ 41664
-  few = g .before .before .before .pre .0 .sorted .few
+array-copy-out-normal-2 :
+    tie.Need-array-copy-out-normal-2 Inv-loop3 μ-loop3 Inv-loop2 μ-loop2 Inv-loop μ-loop
+array-copy-out-normal-2 c = b<64 (corners (c .before))
 
-  abbrev rest : List (List ℕ)
-  rest = over (O + 1) (length cs) (rowsOn p cs)
+mul-normal-3 : tie.Need-mul-normal-3 Inv-loop3 μ-loop3 Inv-loop2 μ-loop2 Inv-loop μ-loop
+mul-normal-3 c = let h = c<64 (corners (c .before .before)) in omega arith
 
-corners : (w : tie.After-wide3 Inv-loop3 μ-loop3 Inv-loop2 μ-loop2 Inv-loop μ-loop) → let g = w .before .before .before .before in Read (p g) (entryAt (cs g) (O g)) (w .before .before .wide .result) (w .before .wide2 .result) (w .wide3 .result)
-corners w = let g = w .before .before .before .before in let s = g .before .before .before in record { valid = s .pre .0 .valid; corners = s .pre .0 .corners (O g) (o-in g); a-is = w .before .before .wide .ensures; b-is = w .before .wide2 .ensures; c-is = w .wide3 .ensures }
+array-copy-out-normal-3 :
+    tie.Need-array-copy-out-normal-3 Inv-loop3 μ-loop3 Inv-loop2 μ-loop2 Inv-loop μ-loop
+array-copy-out-normal-3 c = c<64 (corners (c .before .before))
 
-mul-face-of : tie.Need-mul-face-of Inv-loop3 μ-loop3 Inv-loop2 μ-loop2 Inv-loop μ-loop
-mul-face-of c = let h = a<64 (corners c) in omega arith
-
-array-copy-out-face-of :
-    tie.Need-array-copy-out-face-of Inv-loop3 μ-loop3 Inv-loop2 μ-loop2 Inv-loop μ-loop
-array-copy-out-face-of c = a<64 (corners c)
-
-mul-face-of-2 : tie.Need-mul-face-of-2 Inv-loop3 μ-loop3 Inv-loop2 μ-loop2 Inv-loop μ-loop
-mul-face-of-2 c = let h = b<64 (corners (c .before)) in omega arith
-
-array-copy-out-face-of-2 :
-    tie.Need-array-copy-out-face-of-2 Inv-loop3 μ-loop3 Inv-loop2 μ-loop2 Inv-loop μ-loop
-array-copy-out-face-of-2 c = b<64 (corners (c .before))
-
-mul-face-of-3 : tie.Need-mul-face-of-3 Inv-loop3 μ-loop3 Inv-loop2 μ-loop2 Inv-loop μ-loop
-mul-face-of-3 c = let h = c<64 (corners (c .before .before)) in omega arith
-
-array-copy-out-face-of-3 :
-    tie.Need-array-copy-out-face-of-3 Inv-loop3 μ-loop3 Inv-loop2 μ-loop2 Inv-loop μ-loop
-array-copy-out-face-of-3 c = c<64 (corners (c .before .before))
-
-face-of-requires : tie.Need-face-of-requires Inv-loop3 μ-loop3 Inv-loop2 μ-loop2 Inv-loop μ-loop
-face-of-requires c κs = on-grid (corners (c .before .before .before))
+normal-requires : tie.Need-normal-requires Inv-loop3 μ-loop3 Inv-loop2 μ-loop2 Inv-loop μ-loop
+normal-requires c κs = on-grid (corners (c .before .before .before))
 
 loop2-holds : tie.Need-loop2-holds Inv-loop3 μ-loop3 Inv-loop2 μ-loop2 Inv-loop μ-loop
 loop2-holds c =
-    let g = c .before .before .before .before .before .before .before .before in
-    (omega arith, enter (over-step (O g) (length (cs g)) (rowsOn (p g) (cs g)) (o-in g) ∙ ap (λ (l : List (List ℕ)). l ++ rest g) (edge-rows (p g) (cs g) (g .before .before .before .pre .0 .sorted) (O g) (o-in g))) (g .before .loop .inv .1))
+    let g = c .before .before .before .before .before .before .before .before .before in
+    (omega arith, enter (over-step (O g) (length (cs g)) (rowsOn (p g) (cs g)) (o-in g) ∙ ap (λ (l : List (List ℕ)). l ++ rest g) (edge-rows (p g) (cs g) (g .before .before .before .before .pre .0 .sorted) (O g) (o-in g))) (g .before .loop .inv .1))
 
 array-read-wide-4 : tie.Need-array-read-wide-4 Inv-loop3 μ-loop3 Inv-loop2 μ-loop2 Inv-loop μ-loop
 array-read-wide-4 c = omega (arith, c .loop2-test .taken)
@@ -152,18 +164,18 @@ array-read-last c = omega (arith, c .before .loop2-test .taken)
 
 block-start-requires :
     tie.Need-block-start-requires Inv-loop3 μ-loop3 Inv-loop2 μ-loop2 Inv-loop μ-loop
-block-start-requires c κs = c .before .before .before .before .before .before .before .before .before .before .before .before .before .before .pre .0 .sorted
+block-start-requires c κs = c .before .before .before .before .before .before .before .before .before .before .before .before .before .before .before .before .pre .0 .sorted
 
 -- at one of its edges
 module _ (m : tie.In-loop2 Inv-loop3 μ-loop3 Inv-loop2 μ-loop2 Inv-loop μ-loop) where
   abbrev outer-at : tie.In-loop Inv-loop3 μ-loop3 Inv-loop2 μ-loop2 Inv-loop μ-loop
-  outer-at = m .before .before .before .before .before .before .before .before .before .before
+  outer-at = m .before .before .before .before .before .before .before .before .before .before .before
 
   abbrev E : ℕ
   E = m .before .loop2 .edge
 
   first-small : getD (entryAt (cs outer-at) (O outer-at)) E 0 < 64
-  first-small = edge-small (cs outer-at) (outer-at .before .before .before .pre .0 .sorted) (O outer-at) E (o-in outer-at) (m .loop2-test .taken)
+  first-small = edge-small (cs outer-at) (outer-at .before .before .before .before .pre .0 .sorted) (O outer-at) E (o-in outer-at) (m .loop2-test .taken)
 
   abbrev others : List (List ℕ)
   others = over (E + 1) 2 (rowsAt (p outer-at) (cs outer-at) (O outer-at)) ++ rest outer-at
@@ -173,7 +185,7 @@ add-block-start c = let m = c .before .before in omega (arith, c .before .wide4 
 
 block-start-requires-2 :
     tie.Need-block-start-requires-2 Inv-loop3 μ-loop3 Inv-loop2 μ-loop2 Inv-loop μ-loop
-block-start-requires-2 c κs = c .before .before .before .before .before .before .before .before .before .before .before .before .before .before .before .pre .0 .sorted
+block-start-requires-2 c κs = c .before .before .before .before .before .before .before .before .before .before .before .before .before .before .before .before .before .pre .0 .sorted
 
 loop3-holds : tie.Need-loop3-holds Inv-loop3 μ-loop3 Inv-loop2 μ-loop2 Inv-loop μ-loop
 loop3-holds c =
@@ -218,6 +230,13 @@ shared-slice-copy-out-s c = i-in c
 array-read-if1 : tie.Need-array-read-if1 Inv-loop3 μ-loop3 Inv-loop2 μ-loop2 Inv-loop μ-loop
 array-read-if1 c = search needs
 
+mul-k : tie.Need-mul-k Inv-loop3 μ-loop3 Inv-loop2 μ-loop2 Inv-loop μ-loop
+mul-k c = let n = c .before .before in omega (arith, i-in n, few (face-at n))
+
+shared-slice-read-k :
+    tie.Need-shared-slice-read-k Inv-loop3 μ-loop3 Inv-loop2 μ-loop2 Inv-loop μ-loop
+shared-slice-read-k c = let n = c .before .before .before in omega (arith, i-in n, lengths-there (face-at n))
+
 array-read-wide-5 : tie.Need-array-read-wide-5 Inv-loop3 μ-loop3 Inv-loop2 μ-loop2 Inv-loop μ-loop
 array-read-wide-5 c = search needs
 
@@ -236,62 +255,61 @@ array-read-wide-7 c = search needs
 wide-requires-7 : tie.Need-wide-requires-7 Inv-loop3 μ-loop3 Inv-loop2 μ-loop2 Inv-loop μ-loop
 wide-requires-7 c κs = search needs
 
-corners2 : (w : tie.After-wide7 Inv-loop3 μ-loop3 Inv-loop2 μ-loop2 Inv-loop μ-loop) → let n = w .before .before .before .before .before in Read (p (face-at n)) (entryAt (cs (face-at n)) (I n)) (w .before .before .wide5 .result) (w .before .wide6 .result) (w .wide7 .result)
-corners2 w = let n = w .before .before .before .before .before in let s = face-at n .before .before .before in record { valid = s .pre .0 .valid; corners = s .pre .0 .corners (I n) (i-in n); a-is = w .before .before .wide5 .ensures; b-is = w .before .wide6 .ensures; c-is = w .wide7 .ensures }
+corners2 : (w : tie.After-wide7 Inv-loop3 μ-loop3 Inv-loop2 μ-loop2 Inv-loop μ-loop) → let n = w .before .before .before .before .before .before in Read (p (face-at n)) (entryAt (cs (face-at n)) (I n)) (w .before .before .wide5 .result) (w .before .wide6 .result) (w .wide7 .result)
+corners2 w = let n = w .before .before .before .before .before .before in let s = face-at n .before .before .before .before in record { valid = s .pre .0 .valid; corners = s .pre .0 .corners (I n) (i-in n); a-is = w .before .before .wide5 .ensures; b-is = w .before .wide6 .ensures; c-is = w .wide7 .ensures }
 
-mul-face-of-4 : tie.Need-mul-face-of-4 Inv-loop3 μ-loop3 Inv-loop2 μ-loop2 Inv-loop μ-loop
-mul-face-of-4 c = let h = a<64 (corners2 c) in omega arith
+mul-normal-4 : tie.Need-mul-normal-4 Inv-loop3 μ-loop3 Inv-loop2 μ-loop2 Inv-loop μ-loop
+mul-normal-4 c = let h = a<64 (corners2 c) in omega arith
 
-array-copy-out-face-of-4 :
-    tie.Need-array-copy-out-face-of-4 Inv-loop3 μ-loop3 Inv-loop2 μ-loop2 Inv-loop μ-loop
-array-copy-out-face-of-4 c = a<64 (corners2 c)
+array-copy-out-normal-4 :
+    tie.Need-array-copy-out-normal-4 Inv-loop3 μ-loop3 Inv-loop2 μ-loop2 Inv-loop μ-loop
+array-copy-out-normal-4 c = a<64 (corners2 c)
 
-mul-face-of-5 : tie.Need-mul-face-of-5 Inv-loop3 μ-loop3 Inv-loop2 μ-loop2 Inv-loop μ-loop
-mul-face-of-5 c = let h = b<64 (corners2 (c .before)) in omega arith
+mul-normal-5 : tie.Need-mul-normal-5 Inv-loop3 μ-loop3 Inv-loop2 μ-loop2 Inv-loop μ-loop
+mul-normal-5 c = let h = b<64 (corners2 (c .before)) in omega arith
 
-array-copy-out-face-of-5 :
-    tie.Need-array-copy-out-face-of-5 Inv-loop3 μ-loop3 Inv-loop2 μ-loop2 Inv-loop μ-loop
-array-copy-out-face-of-5 c = b<64 (corners2 (c .before))
+array-copy-out-normal-5 :
+    tie.Need-array-copy-out-normal-5 Inv-loop3 μ-loop3 Inv-loop2 μ-loop2 Inv-loop μ-loop
+array-copy-out-normal-5 c = b<64 (corners2 (c .before))
 
-mul-face-of-6 : tie.Need-mul-face-of-6 Inv-loop3 μ-loop3 Inv-loop2 μ-loop2 Inv-loop μ-loop
-mul-face-of-6 c = let h = c<64 (corners2 (c .before .before)) in omega arith
+mul-normal-6 : tie.Need-mul-normal-6 Inv-loop3 μ-loop3 Inv-loop2 μ-loop2 Inv-loop μ-loop
+mul-normal-6 c = let h = c<64 (corners2 (c .before .before)) in omega arith
 
-array-copy-out-face-of-6 :
-    tie.Need-array-copy-out-face-of-6 Inv-loop3 μ-loop3 Inv-loop2 μ-loop2 Inv-loop μ-loop
-array-copy-out-face-of-6 c = c<64 (corners2 (c .before .before))
+array-copy-out-normal-6 :
+    tie.Need-array-copy-out-normal-6 Inv-loop3 μ-loop3 Inv-loop2 μ-loop2 Inv-loop μ-loop
+array-copy-out-normal-6 c = c<64 (corners2 (c .before .before))
 
-face-of-requires-2 :
-    tie.Need-face-of-requires-2 Inv-loop3 μ-loop3 Inv-loop2 μ-loop2 Inv-loop μ-loop
-face-of-requires-2 c κs = on-grid (corners2 (c .before .before .before))
+normal-requires-2 : tie.Need-normal-requires-2 Inv-loop3 μ-loop3 Inv-loop2 μ-loop2 Inv-loop μ-loop
+normal-requires-2 c κs = on-grid (corners2 (c .before .before .before))
 
 row-requires : tie.Need-row-requires Inv-loop3 μ-loop3 Inv-loop2 μ-loop2 Inv-loop μ-loop
 row-requires c κs =
     let w = c .before .before .before .before in
-    let n = w .before .before .before .before .before in
+    let n = w .before .before .before .before .before .before in
     let g = face-at n in
-    let s = g .before .before .before in
-    (s .pre .0 .valid .bend-factor, omega (arith, o-in g, few g), face-measured (corners (n .before .before .before .before .before .before .before .before .before .before .before)) (n .before .before .before .before .before .before .before .face-of .ensures) (s .pre .0 .normals (O g) (o-in g)), omega (arith, i-in n, few g), face-measured (corners2 w) (c .face-of2 .ensures) (s .pre .0 .normals (I n) (i-in n)))
+    let s = g .before .before .before .before .pre .0 in
+    (s .valid .bend-factor, omega (arith, o-in g, few g), face-measured s (O g) (o-in g) (normal-is (corners (n .before .before .before .before .before .before .before .before .before .before .before)) (n .before .before .before .before .before .before .before .normal .ensures)) (length-is g (O g) (o-in g)), omega (arith, i-in n, few g), face-measured s (I n) (i-in n) (normal-is (corners2 w) (c .normal2 .ensures)) (length-is g (I n) (i-in n)))
 
 -- the row that is written next
 next : (r : tie.After-row Inv-loop3 μ-loop3 Inv-loop2 μ-loop2 Inv-loop μ-loop) →
-    let n = r .before .before .before .before .before .before .before .before .before .before in
+    let n = r .before .before .before .before .before .before .before .before .before .before .before in
     let g = face-at n in
     Writing (rowsOf (p g) (cs g)) (r .row .result ∷ (map (rowAt (p g) (cs g) (O g)) (endingIn (cs g) (I n + 1) (n .before .before .block-start2 .result) (last-vertex n)) ++ others (edge-at n))) (edge-at n .before .loop2 .out) (edge-at n .before .loop2 .count) (n .before .loop3 .out) (n .before .loop3 .count)
 next r =
-    let n = r .before .before .before .before .before .before .before .before .before .before in
+    let n = r .before .before .before .before .before .before .before .before .before .before .before in
     let g = face-at n in
-    let e = r .row .ensures ∙ (λ h. O g ∷ I n ∷ bendWeightOf (p g .«bend_factor») (bendBetween (face-normal (corners2 (r .before .before .before .before .before)) (r .before .face-of2 .ensures) h) (face-normal (corners (n .before .before .before .before .before .before .before .before .before .before .before)) (n .before .before .before .before .before .before .before .face-of .ensures) h)) ∷ []) in
-    turn (ap (λ (l : List ℕ). l ∷ (map (rowAt (p g) (cs g) (O g)) (endingIn (cs g) (I n + 1) (n .before .before .block-start2 .result) (last-vertex n)) ++ others (edge-at n))) (sym e)) (after n true (eq-eqb _ _ (r .before .before .before .before .before .before .before .before .if1 .taken)))
+    let e = r .row .ensures ∙ (λ h. O g ∷ I n ∷ bendWeightOf (p g .«bend_factor») (bendBetween (normal-is (corners2 (r .before .before .before .before .before)) (r .before .normal2 .ensures) h) (normal-is (corners (n .before .before .before .before .before .before .before .before .before .before .before)) (n .before .before .before .before .before .before .before .normal .ensures) h)) ∷ []) in
+    turn (ap (λ (l : List ℕ). l ∷ (map (rowAt (p g) (cs g) (O g)) (endingIn (cs g) (I n + 1) (n .before .before .block-start2 .result) (last-vertex n)) ++ others (edge-at n))) (sym e)) (after n true (eq-eqb _ _ (r .before .before .before .before .before .before .before .before .before .if1 .taken)))
 
-count-fits : (r : tie.After-row Inv-loop3 μ-loop3 Inv-loop2 μ-loop2 Inv-loop μ-loop) → r .before .before .before .before .before .before .before .before .before .before .before .loop3 .count * 12 + 12 < 2 ^ 63
+count-fits : (r : tie.After-row Inv-loop3 μ-loop3 Inv-loop2 μ-loop2 Inv-loop μ-loop) → r .before .before .before .before .before .before .before .before .before .before .before .before .loop3 .count * 12 + 12 < 2 ^ 63
 count-fits r =
-    let n = r .before .before .before .before .before .before .before .before .before .before in
+    let n = r .before .before .before .before .before .before .before .before .before .before .before in
     let g = face-at n in
     let h = place (next r) in
-    omega (arith, h, n .before .loop3 .inv .2 .long, edge-at n .before .loop2 .inv .1 .long, g .before .loop .inv .1 .long, g .before .before .before)
+    omega (arith, h, n .before .loop3 .inv .2 .long, edge-at n .before .loop2 .inv .1 .long, g .before .loop .inv .1 .long, g .before .before .before .before)
 
-mul-t68 : tie.Need-mul-t68 Inv-loop3 μ-loop3 Inv-loop2 μ-loop2 Inv-loop μ-loop
-mul-t68 c = omega (arith, count-fits c)
+mul-t66 : tie.Need-mul-t66 Inv-loop3 μ-loop3 Inv-loop2 μ-loop2 Inv-loop μ-loop
+mul-t66 c = omega (arith, count-fits c)
 
 slice-set-from-out :
     tie.Need-slice-set-from-out Inv-loop3 μ-loop3 Inv-loop2 μ-loop2 Inv-loop μ-loop
@@ -312,12 +330,12 @@ loop3-again c =
     let h = n .loop3-test .taken in
     (omega arith, n .before .loop3 .inv .1,
     ⊎-elim
-    (λ w. moved (w .9) (w .10) (push (next (record {
+    (λ w. moved (w .10) (w .11) (push (next (record {
       before = record {
-        before = record { before = record { before = record { before = record { before = record { before = record { before = record { before = c .before; if1 = w .0 }; wide5 = w .1 }; wide6 = w .2 }; wide7 = w .3 }; face-of-arg4 = w .4 }; face-of-arg5 = w .5 }; face-of-arg6 = w .6 };
-        face-of2 = w .7;
+        before = record { before = record { before = record { before = record { before = record { before = record { before = record { before = record { before = c .before; if1 = w .0 }; shared-slice-known3 = w .1 }; wide5 = w .2 }; wide6 = w .3 }; wide7 = w .4 }; normal-arg4 = w .5 }; normal-arg5 = w .6 }; normal-arg6 = w .7 };
+        normal2 = w .8;
       };
-      row = w .8;
+      row = w .9;
     }))))
     (λ w. moved (w .1) (w .2) (after n false (ne-eqb _ _ (w .0 .left))))
     (c .if1 .came))
@@ -335,14 +353,14 @@ loop2-again c =
     (omega (arith, m .loop2-test .taken), leave (ending-end (rowAt (p g) (cs g) (O g)) (cs g) (c .before .loop3 .i) (c .before .before .block-start2 .result) (getD (entryAt (cs g) (O g)) (E m + 1) 0) (others m) (c .loop3-test .left)) (m .before .loop2 .inv .1) (c .before .loop3 .inv .2))
 
 add-o : tie.Need-add-o Inv-loop3 μ-loop3 Inv-loop2 μ-loop2 Inv-loop μ-loop
-add-o c = let g = c .before .before .before .before .before .before .before .before .before .before in omega (arith, o-in g, few g)
+add-o c = let g = c .before .before .before .before .before .before .before .before .before .before .before in omega (arith, o-in g, few g)
 
 loop-less : tie.Need-loop-less Inv-loop3 μ-loop3 Inv-loop2 μ-loop2 Inv-loop μ-loop
-loop-less c = omega (arith, c .before .before .before .before .before .before .before .before .before .before .loop-test .taken)
+loop-less c = omega (arith, c .before .before .before .before .before .before .before .before .before .before .before .loop-test .taken)
 
 loop-again : tie.Need-loop-again Inv-loop3 μ-loop3 Inv-loop2 μ-loop2 Inv-loop μ-loop
 loop-again c =
-    let g = c .before .before .before .before .before .before .before .before .before .before in
+    let g = c .before .before .before .before .before .before .before .before .before .before .before in
     (omega (arith, o-in g), leave (over-none (c .before .loop2 .edge) 2 (rowsAt (p g) (cs g) (O g)) (rest g) (c .loop2-test .left)) (g .before .loop .inv .1) (c .before .loop2 .inv .1))
 
 same-length : tie.Need-same-length Inv-loop3 μ-loop3 Inv-loop2 μ-loop2 Inv-loop μ-loop
@@ -364,19 +382,21 @@ write-rows-spec =
     loop-holds
     mul-t
     shared-slice-copy-out-t
+    mul-m
+    shared-slice-read-m
     array-read-wide
     wide-requires
     array-read-wide-2
     wide-requires-2
     array-read-wide-3
     wide-requires-3
-    mul-face-of
-    array-copy-out-face-of
-    mul-face-of-2
-    array-copy-out-face-of-2
-    mul-face-of-3
-    array-copy-out-face-of-3
-    face-of-requires
+    mul-normal
+    array-copy-out-normal
+    mul-normal-2
+    array-copy-out-normal-2
+    mul-normal-3
+    array-copy-out-normal-3
+    normal-requires
     loop2-holds
     array-read-wide-4
     wide-requires-4
@@ -389,21 +409,23 @@ write-rows-spec =
     mul-s
     shared-slice-copy-out-s
     array-read-if1
+    mul-k
+    shared-slice-read-k
     array-read-wide-5
     wide-requires-5
     array-read-wide-6
     wide-requires-6
     array-read-wide-7
     wide-requires-7
-    mul-face-of-4
-    array-copy-out-face-of-4
-    mul-face-of-5
-    array-copy-out-face-of-5
-    mul-face-of-6
-    array-copy-out-face-of-6
-    face-of-requires-2
+    mul-normal-4
+    array-copy-out-normal-4
+    mul-normal-5
+    array-copy-out-normal-5
+    mul-normal-6
+    array-copy-out-normal-6
+    normal-requires-2
     row-requires
-    mul-t68
+    mul-t66
     slice-set-from-out
     add-count
     add-i
