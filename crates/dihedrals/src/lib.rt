@@ -9,6 +9,7 @@ ghost use Prim.Native.Nat.{_<_, _≤_};
 ghost use lib.ListN.{length, take};
 ghost use Rattle.lists.specs.Lists.{filled};
 ghost use Rattle.geometry.specs.Faces.{areaWeightOf, bendBetween, bendWeightOf};
+ghost use Rattle.hinges.specs.Hinges.{Starts};
 ghost use Rattle.dihedrals.specs.Weights.{lengthsOf, rowsOf};
 ghost use Rattle.dihedrals.specs.Lists.{Solid, Lengths, Measured};
 
@@ -57,8 +58,14 @@ fn row(factor: u32, o: usize, outer: Vector, m: u32, i: usize, inner: Vector, k:
 
 // The rows. An inner candidate begins and ends where the outer's edge (a, b) or (b, c) does, so it stands in the block of that edge's first vertex.
 // The loops stand in one function, which holds the vertices: a function for the inner one would take them by value for each outer candidate.
-pub fn write_rows(p: Polygon, candidates: &[[u8; 3]], lengths: &[u32], out: &mut [[u32; 3]])
-    requires { ⌜ (Solid p (now candidates)) × (now lengths ≡ lengthsOf p (now candidates)) × (length (rowsOf p (now candidates)) ≤ length (now out)) ⌝ }
+pub fn write_rows(
+    p: Polygon,
+    candidates: &[[u8; 3]],
+    starts: &[usize; 65],
+    lengths: &[u32],
+    out: &mut [[u32; 3]],
+)
+    requires { ⌜ (Solid p (now candidates)) × (Starts (now candidates) (now starts)) × (now lengths ≡ lengthsOf p (now candidates)) × (length (rowsOf p (now candidates)) ≤ length (now out)) ⌝ }
     ensures { λ _. ⌜ now (out .exit) ≡ filled (rowsOf p (now (candidates .entry))) (now (out .entry)) ⌝ }
 {
     let factor = p.bend_factor;
@@ -74,8 +81,8 @@ pub fn write_rows(p: Polygon, candidates: &[[u8; 3]], lengths: &[u32], out: &mut
         for edge in 0..2 {
             let first = wide(t[edge]);
             let last = t[edge + 1];
-            let start = hinges::block_start(candidates, first);
-            let end = hinges::block_start(candidates, first + 1);
+            let start = starts[first];
+            let end = starts[first + 1];
             for i in start..end {
                 let s = candidates[i];
                 if s[2] == last {

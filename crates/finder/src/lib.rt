@@ -80,7 +80,8 @@ fn fill(
     ensures { λ r. ⌜ finding r (now (candidates .exit)) (now (weights .exit)) (now (rows .exit)) ≡ fillOr13 p (now (found .entry)) «triangle_places» «work_places» (now (candidates .entry)) (now (weights .entry)) (now (rows .entry)) ⌝ }
 {
     let count = found.len();
-    let row_count = hinges::count_rows(found);
+    let starts = hinges::block_starts(found);
+    let row_count = hinges::count_rows(found, &starts);
     let n = p.n;
     if triangle_places < n - 2 {
         return Found::Refused(codes::TABLE_TOO_SHORT);
@@ -99,7 +100,7 @@ fn fill(
     }
     copy(found, candidates);
     dihedrals::write_lengths(p, found, weights);
-    dihedrals::write_rows(p, found, &weights[..count], rows);
+    dihedrals::write_rows(p, found, &starts, &weights[..count], rows);
     let factor = p.area_factor;
     dihedrals::scale_lengths(factor, weights, count);
     Found::Lists {

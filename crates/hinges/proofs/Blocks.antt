@@ -7,7 +7,8 @@ use native.Mathlib.Nat.{le-trans}
 use native.Mathlib.Omega.{arith}
 use borrow.Author.Tests.{eq-eqb, ne-eqb, ltb-true, ltb-false}
 use lib.Dec.{eqb, ltb}
-use lib.ListN.{length, getD, length-append}
+use lib.ListN.{length, getD, set, length-append, length-set}
+use lib.Seq.{getD-set-same, getD-set-other}
 use Rattle.lists.specs.Lists.{over, upFrom, when, both, either}
 use Rattle.lists.proofs.Choice.{Truth, holds, fails, truth}
 use Rattle.lists.proofs.Ranges.{up-bound, when-bound}
@@ -206,3 +207,17 @@ two-edges cs s o h =
     let hb = start-of cs s (vertexB (entryAt cs o) + 1) in
     two-blocks cs o (la .at) (ha .at) (lb .at) (hb .at) (s .a<b o h) (la .is) (ha .is) (lb .is) (hb .is)
     ∙ sym (λ i. edge-block cs o 0 (la .at) (ha .at) (la .is) (ha .is) i ++ edge-block cs o 1 (lb .at) (hb .at) (lb .is) (hb .is) i)
+
+-- the starts that are known, up to the one that comes next
+pub record StartsTo (cs : List (List ℕ)) (k : ℕ) (starts : List ℕ) : Type 0 where
+  pub long : length starts ≡ 65
+  pub at : (j : ℕ) → j < k → BlockStart cs j (getD starts j 0)
+
+pub starts-more : {cs : List (List ℕ)} {k : ℕ} {starts : List ℕ} (r : ℕ) → k < 65 → BlockStart cs k r → StartsTo cs k starts → StartsTo cs (k + 1) (set starts k r)
+starts-more {cs} {k} {starts} r h b f = record { long = length-set starts k r ∙ f .long; at = λ j m. go j (k - j) m refl }
+  where
+    go : (j d : ℕ) → j < k + 1 → k - j ≡ d → BlockStart cs j (getD (set starts k r) j 0)
+    go j zero m z =
+        let w : k ≡ j = omega arith in
+        subst (λ (j : ℕ). BlockStart cs j (getD (set starts k r) j 0)) w (subst (λ (v : ℕ). BlockStart cs k v) (sym (getD-set-same starts k r 0 (omega (arith, f .long)))) b)
+    go j (suc d) m z = subst (λ (v : ℕ). BlockStart cs j v) (sym (getD-set-other starts k j r 0 (λ w. omega arith))) (f .at j (omega arith))

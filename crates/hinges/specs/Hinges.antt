@@ -35,3 +35,7 @@ pub record BlockStart (candidates : List (List ℕ)) (k r : ℕ) : Type 0 where
   pub within : r ≤ length candidates
   pub below : (i : ℕ) → i < r → vertexA (entryAt candidates i) < k
   pub above : (i : ℕ) → r ≤ i → i < length candidates → k ≤ vertexA (entryAt candidates i)
+
+-- place k holds how many candidates have a first vertex below k
+pub record Starts (candidates : List (List ℕ)) (starts : List ℕ) : Type 0 where
+  pub at : (k : ℕ) → k < 65 → BlockStart candidates k (getD starts k 0)

@@ -16,7 +16,7 @@ use Rattle.jobs.specs.Job.{entryAt, vertexC}
 use Rattle.lists.specs.Lists.{over, when}
 use Rattle.lists.proofs.Ranges.{over-step, over-more, over-none, over-end}
 use Rattle.lists.proofs.Writing.{Writing, start, turn, enter, leave, place, push, moved, all}
-use Rattle.hinges.specs.Hinges.{Sorted, endingIn}
+use Rattle.hinges.specs.Hinges.{Sorted, endingIn, BlockStart}
 use Rattle.hinges.proofs.Blocks.{start-order, start-at, edge-block}
 use Rattle.dihedrals.specs.Weights.{faceNormal, lengthsOf, rowAt, rowsOn, rowsOf}
 use Rattle.dihedrals.proofs.Faces.{Read, a<64, b<64, c<64, on-grid, normal-is, length-at, face-measured}
@@ -28,7 +28,6 @@ use Rattle.dihedrals.proofs.write_rows.Lts as lts
 use Rattle.dihedrals.proofs.row.Reads as row-reads
 use Rattle.dihedrals.proofs.wide.Reads as wide-reads
 use Rattle.geometry.proofs.face.normal.Reads as normal-reads
-use Rattle.hinges.proofs.block_start.Reads as block-start-reads
 
 -- of the polygon the loops keep what the rows need
 abbrev kept : ℕ → List GridPoint → Polygon
@@ -40,25 +39,25 @@ edge-small cs s o (suc zero) h k = omega (arith, s .b<c o h, s .c<64 o h)
 edge-small cs s o (suc (suc e)) h k = absurd (omega arith)
 
 abbrev Inv-loop3 : tie.InvT-loop3
-Inv-loop3 candidates lengths out₀ factor vertices count₀ o t m a b c outer edge first last start end i₀ o-end out count i = (i ≤ end) × (end ≤ length candidates) × Writing (rowsOf (kept factor vertices) candidates) (map (rowAt (kept factor vertices) candidates o) (endingIn candidates i end last) ++ (over (edge + 1) 2 (rowsAt (kept factor vertices) candidates o) ++ over (o + 1) (length candidates) (rowsOn (kept factor vertices) candidates))) out₀ count₀ out count
+Inv-loop3 candidates starts lengths out₀ factor vertices count₀ o t m a b c outer edge first last start end i₀ o-end out count i = (i ≤ end) × (end ≤ length candidates) × Writing (rowsOf (kept factor vertices) candidates) (map (rowAt (kept factor vertices) candidates o) (endingIn candidates i end last) ++ (over (edge + 1) 2 (rowsAt (kept factor vertices) candidates o) ++ over (o + 1) (length candidates) (rowsOn (kept factor vertices) candidates))) out₀ count₀ out count
 
 abbrev μ-loop3 : tie.MeasureT-loop3
-μ-loop3 candidates lengths out₀ factor vertices count₀ o t m a b c outer edge first last start end i₀ o-end out count i = end - i
+μ-loop3 candidates starts lengths out₀ factor vertices count₀ o t m a b c outer edge first last start end i₀ o-end out count i = end - i
 
 abbrev Inv-loop2 : tie.InvT-loop2
-Inv-loop2 candidates lengths out₀ factor vertices count₀ o t m a b c outer edge₀ o-end out count edge = (edge ≤ 2) × Writing (rowsOf (kept factor vertices) candidates) (over edge 2 (rowsAt (kept factor vertices) candidates o) ++ over (o + 1) (length candidates) (rowsOn (kept factor vertices) candidates)) out₀ count₀ out count
+Inv-loop2 candidates starts lengths out₀ factor vertices count₀ o t m a b c outer edge₀ o-end out count edge = (edge ≤ 2) × Writing (rowsOf (kept factor vertices) candidates) (over edge 2 (rowsAt (kept factor vertices) candidates o) ++ over (o + 1) (length candidates) (rowsOn (kept factor vertices) candidates)) out₀ count₀ out count
 
 abbrev μ-loop2 : tie.MeasureT-loop2
-μ-loop2 candidates lengths out₀ factor vertices count₀ o t m a b c outer edge₀ o-end out count edge = 2 - edge
+μ-loop2 candidates starts lengths out₀ factor vertices count₀ o t m a b c outer edge₀ o-end out count edge = 2 - edge
 
 abbrev Inv-loop : tie.InvT-loop
-Inv-loop candidates lengths out₀ factor vertices count₀ o₀ o-end out count o = (o ≤ length candidates) × Writing (rowsOf (kept factor vertices) candidates) (over o (length candidates) (rowsOn (kept factor vertices) candidates)) out₀ count₀ out count
+Inv-loop candidates starts lengths out₀ factor vertices count₀ o₀ o-end out count o = (o ≤ length candidates) × Writing (rowsOf (kept factor vertices) candidates) (over o (length candidates) (rowsOn (kept factor vertices) candidates)) out₀ count₀ out count
 
 abbrev μ-loop : tie.MeasureT-loop
-μ-loop candidates lengths out₀ factor vertices count₀ o₀ o-end out count o = length candidates - o
+μ-loop candidates starts lengths out₀ factor vertices count₀ o₀ o-end out count o = length candidates - o
 
 loop-holds : tie.Need-loop-holds Inv-loop3 μ-loop3 Inv-loop2 μ-loop2 Inv-loop μ-loop
-loop-holds c = (omega arith, start _ _ (c .before .before .pre .2))
+loop-holds c = (omega arith, start _ _ (c .before .before .pre .3))
 
 -- at an outer candidate
 module _ (g : tie.In-loop Inv-loop3 μ-loop3 Inv-loop2 μ-loop2 Inv-loop μ-loop) where
@@ -78,10 +77,10 @@ module _ (g : tie.In-loop Inv-loop3 μ-loop3 Inv-loop2 μ-loop2 Inv-loop μ-loop
   few = g .before .before .before .before .pre .0 .sorted .few
 
   lengths-there : length (g .before .before .before .before .args .lengths .now) ≡ length cs
-  lengths-there = ap length (g .before .before .before .before .pre .1) ∙ length-map cs (λ t. lengthOf (faceNormal p t))
+  lengths-there = ap length (g .before .before .before .before .pre .2) ∙ length-map cs (λ t. lengthOf (faceNormal p t))
 
   length-is : (i : ℕ) → i < length cs → getD (g .before .before .before .before .args .lengths .now) i 0 ≡ lengthOf (faceNormal p (entryAt cs i))
-  length-is i h = ap (λ (l : List ℕ). getD l i 0) (g .before .before .before .before .pre .1) ∙ length-at p cs i h
+  length-is i h = ap (λ (l : List ℕ). getD l i 0) (g .before .before .before .before .pre .2) ∙ length-at p cs i h
 
   abbrev rest : List (List ℕ)
   rest = over (O + 1) (length cs) (rowsOn p cs)
@@ -162,10 +161,6 @@ add-last c = omega (arith, c .before .loop2-test .taken)
 array-read-last : tie.Need-array-read-last Inv-loop3 μ-loop3 Inv-loop2 μ-loop2 Inv-loop μ-loop
 array-read-last c = omega (arith, c .before .loop2-test .taken)
 
-block-start-requires :
-    tie.Need-block-start-requires Inv-loop3 μ-loop3 Inv-loop2 μ-loop2 Inv-loop μ-loop
-block-start-requires c κs = c .before .before .before .before .before .before .before .before .before .before .before .before .before .before .before .before .pre .0 .sorted
-
 -- at one of its edges
 module _ (m : tie.In-loop2 Inv-loop3 μ-loop3 Inv-loop2 μ-loop2 Inv-loop μ-loop) where
   abbrev outer-at : tie.In-loop Inv-loop3 μ-loop3 Inv-loop2 μ-loop2 Inv-loop μ-loop
@@ -180,22 +175,50 @@ module _ (m : tie.In-loop2 Inv-loop3 μ-loop3 Inv-loop2 μ-loop2 Inv-loop μ-loo
   abbrev others : List (List ℕ)
   others = over (E + 1) 2 (rowsAt (p outer-at) (cs outer-at) (O outer-at)) ++ rest outer-at
 
-add-block-start : tie.Need-add-block-start Inv-loop3 μ-loop3 Inv-loop2 μ-loop2 Inv-loop μ-loop
-add-block-start c = let m = c .before .before in omega (arith, c .before .wide4 .ensures, first-small m)
+mul-start : tie.Need-mul-start Inv-loop3 μ-loop3 Inv-loop2 μ-loop2 Inv-loop μ-loop
+mul-start c = omega (arith, c .wide4 .ensures, first-small (c .before))
 
-block-start-requires-2 :
-    tie.Need-block-start-requires-2 Inv-loop3 μ-loop3 Inv-loop2 μ-loop2 Inv-loop μ-loop
-block-start-requires-2 c κs = c .before .before .before .before .before .before .before .before .before .before .before .before .before .before .before .before .before .pre .0 .sorted
+element-copy-out-start :
+    tie.Need-element-copy-out-start Inv-loop3 μ-loop3 Inv-loop2 μ-loop2 Inv-loop μ-loop
+element-copy-out-start c = omega (arith, c .wide4 .ensures, first-small (c .before))
+
+add-end : tie.Need-add-end Inv-loop3 μ-loop3 Inv-loop2 μ-loop2 Inv-loop μ-loop
+add-end c = omega (arith, c .before .wide4 .ensures, first-small (c .before .before))
+
+mul-end : tie.Need-mul-end Inv-loop3 μ-loop3 Inv-loop2 μ-loop2 Inv-loop μ-loop
+mul-end c = omega (arith, c .before .wide4 .ensures, first-small (c .before .before))
+
+element-copy-out-end :
+    tie.Need-element-copy-out-end Inv-loop3 μ-loop3 Inv-loop2 μ-loop2 Inv-loop μ-loop
+element-copy-out-end c = omega (arith, c .before .wide4 .ensures, first-small (c .before .before))
+
+-- the block of an edge
+module _ (q : tie.After-wide4 Inv-loop3 μ-loop3 Inv-loop2 μ-loop2 Inv-loop μ-loop) where
+  abbrev at-edge : tie.In-loop2 Inv-loop3 μ-loop3 Inv-loop2 μ-loop2 Inv-loop μ-loop
+  at-edge = q .before
+
+  abbrev from : ℕ
+  from = getD (outer-at at-edge .before .before .before .before .args .starts .now) (q .wide4 .result) 0
+
+  abbrev to : ℕ
+  to = getD (outer-at at-edge .before .before .before .before .args .starts .now) (q .wide4 .result + 1) 0
+
+  block-from : BlockStart (cs (outer-at at-edge)) (q .wide4 .result) from
+  block-from = outer-at at-edge .before .before .before .before .pre .1 .at (q .wide4 .result) (omega (arith, q .wide4 .ensures, first-small at-edge))
+
+  block-to : BlockStart (cs (outer-at at-edge)) (q .wide4 .result + 1) to
+  block-to = outer-at at-edge .before .before .before .before .pre .1 .at (q .wide4 .result + 1) (omega (arith, q .wide4 .ensures, first-small at-edge))
 
 loop3-holds : tie.Need-loop3-holds Inv-loop3 μ-loop3 Inv-loop2 μ-loop2 Inv-loop μ-loop
 loop3-holds c =
     let m = c .before .before .before in
     let g = outer-at m in
-    let e = c .before .before .wide4 .ensures in
-    (start-order (cs g) (c .before .block-start .ensures) (c .block-start2 .ensures) (omega arith), c .block-start2 .ensures .within,
+    let q = c .before .before in
+    let e = q .wide4 .ensures in
+    (start-order (cs g) (block-from q) (block-to q) (omega arith), block-to q .within,
     enter (over-more (E m) 2 (rowsAt (p g) (cs g) (O g)) (rest g) (m .loop2-test .taken)
       ∙ ap (λ (l : List ℕ). map (rowAt (p g) (cs g) (O g)) l ++ others m)
-        (edge-block (cs g) (O g) (E m) (c .before .block-start .result) (c .block-start2 .result) (start-at (cs g) e (c .before .block-start .ensures)) (start-at (cs g) (ap (λ (k : ℕ). k + 1) e) (c .block-start2 .ensures))))
+        (edge-block (cs g) (O g) (E m) (from q) (to q) (start-at (cs g) e (block-from q)) (start-at (cs g) (ap (λ (k : ℕ). k + 1) e) (block-to q))))
     (m .before .loop2 .inv .1))
 
 -- at a candidate of the block
@@ -217,8 +240,8 @@ module _ (n : tie.In-loop3 Inv-loop3 μ-loop3 Inv-loop2 μ-loop2 Inv-loop μ-loo
 
   -- what is left, with the candidate taken by its test
   after : (b : Bool) → eqb (vertexC (entryAt (cs face-at) I)) last-vertex ≡ b →
-      Writing (rowsOf (p face-at) (cs face-at)) (map (rowAt (p face-at) (cs face-at) (O face-at)) (when b I) ++ (map (rowAt (p face-at) (cs face-at) (O face-at)) (endingIn (cs face-at) (I + 1) (n .before .before .block-start2 .result) last-vertex) ++ others edge-at)) (edge-at .before .loop2 .out) (edge-at .before .loop2 .count) (n .before .loop3 .out) (n .before .loop3 .count)
-  after b e = turn (ending-step (rowAt (p face-at) (cs face-at) (O face-at)) (cs face-at) I (n .before .before .block-start2 .result) last-vertex (others edge-at) b (n .loop3-test .taken) e) (n .before .loop3 .inv .2)
+      Writing (rowsOf (p face-at) (cs face-at)) (map (rowAt (p face-at) (cs face-at) (O face-at)) (when b I) ++ (map (rowAt (p face-at) (cs face-at) (O face-at)) (endingIn (cs face-at) (I + 1) (to (n .before .before .before .before)) last-vertex) ++ others edge-at)) (edge-at .before .loop2 .out) (edge-at .before .loop2 .count) (n .before .loop3 .out) (n .before .loop3 .count)
+  after b e = turn (ending-step (rowAt (p face-at) (cs face-at) (O face-at)) (cs face-at) I (to (n .before .before .before .before)) last-vertex (others edge-at) b (n .loop3-test .taken) e) (n .before .loop3 .inv .2)
 
 mul-s : tie.Need-mul-s Inv-loop3 μ-loop3 Inv-loop2 μ-loop2 Inv-loop μ-loop
 mul-s c = omega (arith, i-in c, few (face-at c))
@@ -294,12 +317,12 @@ row-requires c κs =
 next : (r : tie.After-row Inv-loop3 μ-loop3 Inv-loop2 μ-loop2 Inv-loop μ-loop) →
     let n = r .before .before .before .before .before .before .before .before .before .before .before in
     let g = face-at n in
-    Writing (rowsOf (p g) (cs g)) (r .row .result ∷ (map (rowAt (p g) (cs g) (O g)) (endingIn (cs g) (I n + 1) (n .before .before .block-start2 .result) (last-vertex n)) ++ others (edge-at n))) (edge-at n .before .loop2 .out) (edge-at n .before .loop2 .count) (n .before .loop3 .out) (n .before .loop3 .count)
+    Writing (rowsOf (p g) (cs g)) (r .row .result ∷ (map (rowAt (p g) (cs g) (O g)) (endingIn (cs g) (I n + 1) (to (n .before .before .before .before)) (last-vertex n)) ++ others (edge-at n))) (edge-at n .before .loop2 .out) (edge-at n .before .loop2 .count) (n .before .loop3 .out) (n .before .loop3 .count)
 next r =
     let n = r .before .before .before .before .before .before .before .before .before .before .before in
     let g = face-at n in
     let e = r .row .ensures ∙ (λ h. O g ∷ I n ∷ bendWeightOf (p g .«bend_factor») (bendBetween (normal-is (corners2 (r .before .before .before .before .before)) (r .before .normal2 .ensures) h) (normal-is (corners (n .before .before .before .before .before .before .before .before .before .before .before)) (n .before .before .before .before .before .before .before .normal .ensures) h)) ∷ []) in
-    turn (ap (λ (l : List ℕ). l ∷ (map (rowAt (p g) (cs g) (O g)) (endingIn (cs g) (I n + 1) (n .before .before .block-start2 .result) (last-vertex n)) ++ others (edge-at n))) (sym e)) (after n true (eq-eqb _ _ (r .before .before .before .before .before .before .before .before .before .if1 .taken)))
+    turn (ap (λ (l : List ℕ). l ∷ (map (rowAt (p g) (cs g) (O g)) (endingIn (cs g) (I n + 1) (to (n .before .before .before .before)) (last-vertex n)) ++ others (edge-at n))) (sym e)) (after n true (eq-eqb _ _ (r .before .before .before .before .before .before .before .before .before .if1 .taken)))
 
 count-fits : (r : tie.After-row Inv-loop3 μ-loop3 Inv-loop2 μ-loop2 Inv-loop μ-loop) → r .before .before .before .before .before .before .before .before .before .before .before .before .loop3 .count * 12 + 12 < 2 ^ 63
 count-fits r =
@@ -308,8 +331,8 @@ count-fits r =
     let h = place (next r) in
     omega (arith, h, n .before .loop3 .inv .2 .long, edge-at n .before .loop2 .inv .1 .long, g .before .loop .inv .1 .long, g .before .before .before .before)
 
-mul-t66 : tie.Need-mul-t66 Inv-loop3 μ-loop3 Inv-loop2 μ-loop2 Inv-loop μ-loop
-mul-t66 c = omega (arith, count-fits c)
+mul-t73 : tie.Need-mul-t73 Inv-loop3 μ-loop3 Inv-loop2 μ-loop2 Inv-loop μ-loop
+mul-t73 c = omega (arith, count-fits c)
 
 slice-set-from-out :
     tie.Need-slice-set-from-out Inv-loop3 μ-loop3 Inv-loop2 μ-loop2 Inv-loop μ-loop
@@ -350,7 +373,7 @@ loop2-again : tie.Need-loop2-again Inv-loop3 μ-loop3 Inv-loop2 μ-loop2 Inv-loo
 loop2-again c =
     let m = c .before .before .before .before .before in
     let g = outer-at m in
-    (omega (arith, m .loop2-test .taken), leave (ending-end (rowAt (p g) (cs g) (O g)) (cs g) (c .before .loop3 .i) (c .before .before .block-start2 .result) (getD (entryAt (cs g) (O g)) (E m + 1) 0) (others m) (c .loop3-test .left)) (m .before .loop2 .inv .1) (c .before .loop3 .inv .2))
+    (omega (arith, m .loop2-test .taken), leave (ending-end (rowAt (p g) (cs g) (O g)) (cs g) (c .before .loop3 .i) (to (c .before .before .before .before)) (getD (entryAt (cs g) (O g)) (E m + 1) 0) (others m) (c .loop3-test .left)) (m .before .loop2 .inv .1) (c .before .loop3 .inv .2))
 
 add-o : tie.Need-add-o Inv-loop3 μ-loop3 Inv-loop2 μ-loop2 Inv-loop μ-loop
 add-o c = let g = c .before .before .before .before .before .before .before .before .before .before .before in omega (arith, o-in g, few g)
@@ -402,9 +425,11 @@ write-rows-spec =
     wide-requires-4
     add-last
     array-read-last
-    block-start-requires
-    add-block-start
-    block-start-requires-2
+    mul-start
+    element-copy-out-start
+    add-end
+    mul-end
+    element-copy-out-end
     loop3-holds
     mul-s
     shared-slice-copy-out-s
@@ -425,7 +450,7 @@ write-rows-spec =
     array-copy-out-normal-6
     normal-requires-2
     row-requires
-    mul-t66
+    mul-t73
     slice-set-from-out
     add-count
     add-i

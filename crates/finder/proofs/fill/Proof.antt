@@ -26,7 +26,11 @@ use Rattle.dihedrals.proofs.scale_lengths.Reads as scale-lengths-reads
 use Rattle.dihedrals.proofs.write_lengths.Reads as write-lengths-reads
 use Rattle.dihedrals.proofs.write_rows.Reads as write-rows-reads
 use Rattle.finder.proofs.copy.Reads as copy-reads
+use Rattle.hinges.proofs.block_starts.Reads as block-starts-reads
 use Rattle.hinges.proofs.count_rows.Reads as count-rows-reads
+
+block-starts-requires : tie.Need-block-starts-requires
+block-starts-requires c κs = search needs
 
 count-rows-requires : tie.Need-count-rows-requires
 count-rows-requires c κs = search needs
@@ -34,8 +38,8 @@ count-rows-requires c κs = search needs
 sub-if1 : tie.Need-sub-if1
 sub-if1 c = search needs
 
-rows-are : (g : tie.After-count-rows) → g .count-rows .result ≡ length (rowsOf (g .before .before .args .p) (g .before .before .args .found .now))
-rows-are g = g .count-rows .ensures ∙ sym (row-count (g .before .before .args .p) (g .before .before .args .found .now))
+rows-are : (g : tie.After-count-rows) → g .count-rows .result ≡ length (rowsOf (g .before .before .before .before .args .p) (g .before .before .before .before .args .found .now))
+rows-are g = g .count-rows .ensures ∙ sym (row-count (g .before .before .before .before .args .p) (g .before .before .before .before .args .found .now))
 
 returns : tie.Need-returns
 unfolding fillOr13
@@ -72,7 +76,7 @@ module _ (w : tie.After-write-lengths) where
   tested = w .before .before .before .before .before
 
   abbrev begin : tie.Start
-  begin = w .before .before .before .before .before .before .before .before .before .before .before .before
+  begin = w .before .before .before .before .before .before .before .before .before .before .before .before .before .before
 
   abbrev table : List ℕ
   table = w .write-lengths .last .1 .1 .0
@@ -87,17 +91,18 @@ module _ (w : tie.After-write-lengths) where
       omega (arith, ap length made, filled-length L (begin .args .weights .now) (omega (arith, n, tested .before .if4 .left)), tested .before .if4 .left)
 
 slice-aggregate-write-rows : tie.Need-slice-aggregate-write-rows
-slice-aggregate-write-rows c = let w = c .before .before .before in sym (length-take-le (length (begin w .args .found .now)) (table w) (room w))
+slice-aggregate-write-rows c = let w = c .before .before .before .before in sym (length-take-le (length (begin w .args .found .now)) (table w) (room w))
 
 write-rows-requires : tie.Need-write-rows-requires
 write-rows-requires c κs =
-    let w = c .before .before .before .before in
+    let w = c .before .before .before .before .before in
     let s = begin w in
-    (s .pre, first-lengths (s .args .p) (s .args .found .now) (s .args .weights .now) (made w), omega (arith, rows-are (tested w .before .before .before .before .before), tested w .if5 .left))
+    let g = tested w .before .before .before .before .before in
+    (s .pre, g .before .before .block-starts .ensures, first-lengths (s .args .p) (s .args .found .now) (s .args .weights .now) (made w), omega (arith, rows-are g, tested w .if5 .left))
 
 scale-lengths-requires : tie.Need-scale-lengths-requires
 scale-lengths-requires c κs =
-    let w = c .before .before .before .before .before .before .before in
+    let w = c .before .before .before .before .before .before .before .before in
     let s = begin w in
     (s .pre .valid .area-factor, room w, lengths-there (s .args .p) (s .args .found .now) (s .args .weights .now) (made w) (s .pre))
 
@@ -113,17 +118,18 @@ same-length-3 c = search needs
 returns-6 : tie.Need-returns-6
 unfolding fillOr13
 returns-6 c =
-    let w = c .before .before .before .before .before .before .before .before .before .before in
+    let w = c .before .before .before .before .before .before .before .before .before .before .before in
     let s = begin w in
     let e = tested w in
     let r = rows-are (e .before .before .before .before .before) in
-    (λ i. finding (Lists (length (s .args .found .now)) (r i)) (c .before .before .before .before .before .before .before .before .before .before .before .before .before .copy .ensures i) (weights-made (s .args .p) (s .args .found .now) (s .args .weights .now) (made w) (c .before .before .scale-lengths .ensures) i) (c .before .before .before .before .before .write-rows .ensures i))
+    (λ i. finding (Lists (length (s .args .found .now)) (r i)) (c .before .before .before .before .before .before .before .before .before .before .before .before .before .before .copy .ensures i) (weights-made (s .args .p) (s .args .found .now) (s .args .weights .now) (made w) (c .before .before .scale-lengths .ensures) i) (c .before .before .before .before .before .write-rows .ensures i))
     ∙ sym (no _ _ (le-ltb _ _ (e .before .before .before .before .if1 .left)) ∙ no _ _ (le-ltb _ _ (e .before .before .before .if2 .left)) ∙ no _ _ (le-ltb _ _ (e .before .before .if3 .left)) ∙ no _ _ (le-ltb _ _ (e .before .if4 .left)) ∙ no _ _ (ge-via r (e .if5 .left)))
 
 pub fill-spec : {M : Type 1} → statement M
 fill-spec =
     tie.close
     (tie.spec
+    block-starts-requires
     count-rows-requires
     sub-if1
     returns
