@@ -2,7 +2,6 @@
 use geometry::Vector;
 use geometry::face;
 use polygon::Polygon;
-
 ghost use mathlib.Core.Path.{_≡_};
 ghost use mathlib.Core.List.{[], _∷_, map};
 ghost use Prim.Native.Nat.{_<_, _≤_};

@@ -37,8 +37,8 @@ bit-set mask c z =
     ap (λ (n : ℕ). eqb (n % 2) 1) (or-shr mask (2 ^ c) z)
     ∙ ap (λ (n : ℕ). eqb n 1) (or-mod (mask / 2 ^ z) (2 ^ c / 2 ^ z) 1)
     ∙ or-bits (mask / 2 ^ z % 2) (2 ^ c / 2 ^ z % 2) (mod-lt (mask / 2 ^ z) (omega arith)) (eqb c z)
-      (λ e. ap (λ (n : ℕ). 2 ^ c / 2 ^ n % 2) (sym (eqb-true c z e)) ∙ same-bit c)
-      (λ e. other-bit c z (eqb-false c z e))
+    (λ e. ap (λ (n : ℕ). 2 ^ c / 2 ^ n % 2) (sym (eqb-true c z e)) ∙ same-bit c)
+    (λ e. other-bit c z (eqb-false c z e))
 
 -- no bit of 0 is set
 pub bit-none : (z : ℕ) → hasVertex 0 z ≡ false

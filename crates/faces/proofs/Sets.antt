@@ -66,12 +66,12 @@ module _ (masks : List ℕ) {a b c d x y z : ℕ} (long : length masks ≡ 4096)
       let l3 : length f3 ≡ 4096 = length-set f2 _ _ ∙ l2 in
       put-in f3 c l3 ha hb k
       ∙ ap (λ (t : Bool). either (sameTriple a b c x y z) t)
-        (put-in f2 d l2 ha hb k
-        ∙ ap (λ (t : Bool). either (sameTriple a b d x y z) t)
-          (put-in f1 d l1 ha hc k
-          ∙ ap (λ (t : Bool). either (sameTriple a c d x y z) t) (put-in masks d long hb hc k)
-          ∙ either-assoc (sameTriple a c d x y z) (sameTriple b c d x y z) (has masks x y z))
-        ∙ either-assoc (sameTriple a b d x y z) (either (sameTriple a c d x y z) (sameTriple b c d x y z)) (has masks x y z))
+      (put-in f2 d l2 ha hb k
+      ∙ ap (λ (t : Bool). either (sameTriple a b d x y z) t)
+      (put-in f1 d l1 ha hc k
+      ∙ ap (λ (t : Bool). either (sameTriple a c d x y z) t) (put-in masks d long hb hc k)
+      ∙ either-assoc (sameTriple a c d x y z) (sameTriple b c d x y z) (has masks x y z))
+      ∙ either-assoc (sameTriple a b d x y z) (either (sameTriple a c d x y z) (sameTriple b c d x y z)) (has masks x y z))
       ∙ either-assoc (sameTriple a b c x y z) (either (sameTriple a b d x y z) (either (sameTriple a c d x y z) (sameTriple b c d x y z))) (has masks x y z)
 
 pub faces-long : (masks : List ℕ) (a b c d : ℕ) → length (withFaces masks a b c d) ≡ length masks

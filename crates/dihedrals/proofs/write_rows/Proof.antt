@@ -214,12 +214,14 @@ loop3-holds c =
     let m = c .before .before .before in
     let g = outer-at m in
     let q = c .before .before in
-    let e = q .wide4 .ensures in
-    (start-order (cs g) (block-from q) (block-to q) (omega arith), block-to q .within,
-    enter (over-more (E m) 2 (rowsAt (p g) (cs g) (O g)) (rest g) (m .loop2-test .taken)
-      ∙ ap (λ (l : List ℕ). map (rowAt (p g) (cs g) (O g)) l ++ others m)
-        (edge-block (cs g) (O g) (E m) (from q) (to q) (start-at (cs g) e (block-from q)) (start-at (cs g) (ap (λ (k : ℕ). k + 1) e) (block-to q))))
-    (m .before .loop2 .inv .1))
+    let e = q .wide4 .ensures in (
+      start-order (cs g) (block-from q) (block-to q) (omega arith),
+      block-to q .within,
+      enter (over-more (E m) 2 (rowsAt (p g) (cs g) (O g)) (rest g) (m .loop2-test .taken)
+          ∙ ap (λ (l : List ℕ). map (rowAt (p g) (cs g) (O g)) l ++ others m)
+          (edge-block (cs g) (O g) (E m) (from q) (to q) (start-at (cs g) e (block-from q)) (start-at (cs g) (ap (λ (k : ℕ). k + 1) e) (block-to q))))
+          (m .before .loop2 .inv .1),
+    )
 
 -- at a candidate of the block
 module _ (n : tie.In-loop3 Inv-loop3 μ-loop3 Inv-loop2 μ-loop2 Inv-loop μ-loop) where
@@ -350,18 +352,20 @@ loop3-less c = omega (arith, c .before .before .loop3-test .taken)
 loop3-again : tie.Need-loop3-again Inv-loop3 μ-loop3 Inv-loop2 μ-loop2 Inv-loop μ-loop
 loop3-again c =
     let n = c .before .before in
-    let h = n .loop3-test .taken in
-    (omega arith, n .before .loop3 .inv .1,
-    ⊎-elim
-    (λ w. moved (w .10) (w .11) (push (next (record {
-      before = record {
-        before = record { before = record { before = record { before = record { before = record { before = record { before = record { before = record { before = c .before; if1 = w .0 }; shared-slice-known3 = w .1 }; wide5 = w .2 }; wide6 = w .3 }; wide7 = w .4 }; normal-arg4 = w .5 }; normal-arg5 = w .6 }; normal-arg6 = w .7 };
-        normal2 = w .8;
-      };
-      row = w .9;
-    }))))
-    (λ w. moved (w .1) (w .2) (after n false (ne-eqb _ _ (w .0 .left))))
-    (c .if1 .came))
+    let h = n .loop3-test .taken in (
+      omega arith,
+      n .before .loop3 .inv .1,
+      ⊎-elim
+          (λ w. moved (w .10) (w .11) (push (next (record {
+            before = record {
+              before = record { before = record { before = record { before = record { before = record { before = record { before = record { before = record { before = c .before; if1 = w .0 }; shared-slice-known3 = w .1 }; wide5 = w .2 }; wide6 = w .3 }; wide7 = w .4 }; normal-arg4 = w .5 }; normal-arg5 = w .6 }; normal-arg6 = w .7 };
+              normal2 = w .8;
+            };
+            row = w .9;
+          }))))
+          (λ w. moved (w .1) (w .2) (after n false (ne-eqb _ _ (w .0 .left))))
+          (c .if1 .came),
+    )
 
 add-edge : tie.Need-add-edge Inv-loop3 μ-loop3 Inv-loop2 μ-loop2 Inv-loop μ-loop
 add-edge c = omega (arith, c .before .before .before .before .before .loop2-test .taken)
