@@ -8,9 +8,6 @@ use Rattle.delaunay.proofs.Fifth.{not-on, now-on}
 use borrow.Author.Needs.{needs}
 use Rattle.delaunay.proofs.fifth_found.Statement.{statement}
 use Rattle.delaunay.proofs.fifth_found.Tie as tie
-use Rattle.delaunay.proofs.fifth_found.Reads as reads
-use Rattle.delaunay.proofs.fifth_found.Lts as lts
-use Rattle.delaunay.proofs.is_corner.Reads as is-corner-reads
 
 returns : tie.Need-returns
 returns c = search needs

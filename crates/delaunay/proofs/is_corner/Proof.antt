@@ -5,8 +5,6 @@ use borrow.Author.Tests.{eq-eqb, ne-eqb}
 use Rattle.lists.proofs.Choice.{yes, no}
 use Rattle.delaunay.proofs.is_corner.Statement.{statement}
 use Rattle.delaunay.proofs.is_corner.Tie as tie
-use Rattle.delaunay.proofs.is_corner.Reads as reads
-use Rattle.delaunay.proofs.is_corner.Lts as lts
 
 returns : tie.Need-returns
 returns c = sym (yes true _ (eq-eqb _ _ (c .if1 .taken)))

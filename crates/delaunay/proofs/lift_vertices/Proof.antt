@@ -5,9 +5,6 @@ use native.Mathlib.Omega.{arith}
 use Rattle.delaunay.proofs.Lifting.{LiftedTo, lifted-more}
 use Rattle.delaunay.proofs.lift_vertices.Statement.{statement}
 use Rattle.delaunay.proofs.lift_vertices.Tie as tie
-use Rattle.delaunay.proofs.lift_vertices.Reads as reads
-use Rattle.delaunay.proofs.lift_vertices.Lts as lts
-use Rattle.geometry.proofs.sphere.lift.Reads as lift-reads
 
 abbrev Inv-loop : tie.InvT-loop
 Inv-loop a n vertices base lifted₀ v₀ lifted v = (v ≤ n) × LiftedTo base vertices v lifted

@@ -16,10 +16,6 @@ use Rattle.delaunay.proofs.Marking.{listed-are}
 use borrow.Author.Needs.{needs}
 use Rattle.delaunay.proofs.list_candidates.Statement.{statement}
 use Rattle.delaunay.proofs.list_candidates.Tie as tie
-use Rattle.delaunay.proofs.list_candidates.Reads as reads
-use Rattle.delaunay.proofs.list_candidates.Lts as lts
-use Rattle.delaunay.proofs.mark_candidates.Reads as mark-candidates-reads
-use Rattle.faces.proofs.list.Reads as list-reads
 
 mark-candidates-requires : tie.Need-mark-candidates-requires
 mark-candidates-requires c κs = search needs

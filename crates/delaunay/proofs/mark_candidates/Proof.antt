@@ -28,14 +28,6 @@ use Rattle.delaunay.proofs.Marking.{hasFifth, Kept, kept-start, kept-tu
 use Rattle.delaunay.proofs.Scanning.{Scanned, scan-start, scan-on, not-counts-flat, not-counts-inside, scanned-counts, scanned-fifth, flat-is, is-inside, is-clear, is-fifth, not-tagged}
 use Rattle.delaunay.proofs.mark_candidates.Statement.{statement}
 use Rattle.delaunay.proofs.mark_candidates.Tie as tie
-use Rattle.delaunay.proofs.mark_candidates.Reads as reads
-use Rattle.delaunay.proofs.mark_candidates.Lts as lts
-use Rattle.delaunay.proofs.fifth_found.Reads as fifth-found-reads
-use Rattle.delaunay.proofs.lift_vertices.Reads as lift-vertices-reads
-use Rattle.faces.proofs.insert_faces.Reads as insert-faces-reads
-use Rattle.geometry.proofs.sphere.circumsphere.Reads as circumsphere-reads
-use Rattle.geometry.proofs.sphere.locate.Reads as locate-reads
-use Rattle.geometry.proofs.sphere.pencil_through.Reads as pencil-through-reads
 
 -- in the scan: the four is the same
 record Scan (p : Polygon) (a b c d₀ d v : ℕ) (last : ℕ) (fifth : Bool) : Type 0 where

@@ -4,9 +4,6 @@ use lib.Seq.{length-take-le}
 use borrow.Author.Needs.{needs}
 use Rattle.delaunay_cases.proofs.find_in.Statement.{statement}
 use Rattle.delaunay_cases.proofs.find_in.Tie as tie
-use Rattle.delaunay_cases.proofs.find_in.Reads as reads
-use Rattle.delaunay_cases.proofs.find_in.Lts as lts
-use Rattle.finder.proofs.find.Reads as find-reads
 
 slice-relend-prefix-find : tie.Need-slice-relend-prefix-find
 slice-relend-prefix-find c = search needs

@@ -4,8 +4,6 @@ use native.Mathlib.Omega.{arith}
 use borrow.Author.Needs.{needs}
 use Rattle.delaunay_cases.proofs.polygon.Statement.{statement}
 use Rattle.delaunay_cases.proofs.polygon.Tie as tie
-use Rattle.delaunay_cases.proofs.polygon.Reads as reads
-use Rattle.delaunay_cases.proofs.polygon.Lts as lts
 
 abbrev Inv-loop : tie.InvT-loop
 Inv-loop n area-factor bend-factor points vertices₀ i₀ vertices i = i ≤ 6

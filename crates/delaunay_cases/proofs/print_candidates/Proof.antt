@@ -5,10 +5,6 @@ use borrow.Author.Needs.{needs}
 use lib.ListN.{length}
 use Rattle.delaunay_cases.proofs.print_candidates.Statement.{statement}
 use Rattle.delaunay_cases.proofs.print_candidates.Tie as tie
-use Rattle.delaunay_cases.proofs.print_candidates.Reads as reads
-use Rattle.delaunay_cases.proofs.print_candidates.Lts as lts
-use Rattle.delaunay_cases.proofs.print_candidate.Reads as print-candidate-reads
-use Rattle.io.proofs.write_all.Reads as write-all-reads
 
 abbrev Inv-loop : tie.InvT-loop
 Inv-loop candidates i₀ i-end i = i ≤ length candidates

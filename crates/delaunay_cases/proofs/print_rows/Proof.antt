@@ -5,10 +5,6 @@ use borrow.Author.Needs.{needs}
 use lib.ListN.{length}
 use Rattle.delaunay_cases.proofs.print_rows.Statement.{statement}
 use Rattle.delaunay_cases.proofs.print_rows.Tie as tie
-use Rattle.delaunay_cases.proofs.print_rows.Reads as reads
-use Rattle.delaunay_cases.proofs.print_rows.Lts as lts
-use Rattle.delaunay_cases.proofs.print_row.Reads as print-row-reads
-use Rattle.io.proofs.write_all.Reads as write-all-reads
 
 abbrev Inv-loop : tie.InvT-loop
 Inv-loop rows i₀ i-end i = i ≤ length rows

@@ -5,10 +5,6 @@ use borrow.Author.Needs.{needs}
 use lib.ListN.{length}
 use Rattle.delaunay_cases.proofs.print_weights.Statement.{statement}
 use Rattle.delaunay_cases.proofs.print_weights.Tie as tie
-use Rattle.delaunay_cases.proofs.print_weights.Reads as reads
-use Rattle.delaunay_cases.proofs.print_weights.Lts as lts
-use Rattle.delaunay_cases.proofs.print_weight.Reads as print-weight-reads
-use Rattle.io.proofs.write_all.Reads as write-all-reads
 
 abbrev Inv-loop : tie.InvT-loop
 Inv-loop weights i₀ i-end i = i ≤ length weights

@@ -13,11 +13,6 @@ use Rattle.geometry.proofs.Bends.{bend-bound}
 use borrow.Author.Needs.{needs}
 use Rattle.dihedrals.proofs.row.Statement.{statement}
 use Rattle.dihedrals.proofs.row.Tie as tie
-use Rattle.dihedrals.proofs.row.Reads as reads
-use Rattle.dihedrals.proofs.row.Lts as lts
-use Rattle.geometry.proofs.dot.Reads as dot-reads
-use Rattle.geometry.proofs.face.bend.Reads as bend-reads
-use Rattle.geometry.proofs.face.bend_weight.Reads as bend-weight-reads
 
 dot-requires : tie.Need-dot-requires
 dot-requires c κs = products-fit tt tt tt (c .pre .4 .within) (c .pre .2 .within)

@@ -10,9 +10,6 @@ use Rattle.geometry.specs.Faces.{areaWeightOf}
 use Rattle.lists.proofs.Writing.{Writing, start, turn, place, push, all, rest-step, rest-end}
 use Rattle.dihedrals.proofs.scale_lengths.Statement.{statement}
 use Rattle.dihedrals.proofs.scale_lengths.Tie as tie
-use Rattle.dihedrals.proofs.scale_lengths.Reads as reads
-use Rattle.dihedrals.proofs.scale_lengths.Lts as lts
-use Rattle.geometry.proofs.face.area_weight.Reads as area-weight-reads
 
 same-place : (i : ℕ) (x y : List ℕ) → drop i x ≡ drop i y → getD x i 0 ≡ getD y i 0
 same-place i x y e =

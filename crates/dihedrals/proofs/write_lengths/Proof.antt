@@ -15,11 +15,6 @@ use Rattle.dihedrals.specs.Weights.{faceNormal, lengthsOf}
 use Rattle.dihedrals.proofs.Faces.{face-within, Read, a<64, b<64, c<64, on-grid, normal-is}
 use Rattle.dihedrals.proofs.write_lengths.Statement.{statement}
 use Rattle.dihedrals.proofs.write_lengths.Tie as tie
-use Rattle.dihedrals.proofs.write_lengths.Reads as reads
-use Rattle.dihedrals.proofs.write_lengths.Lts as lts
-use Rattle.dihedrals.proofs.wide.Reads as wide-reads
-use Rattle.geometry.proofs.face.normal.Reads as normal-reads
-use Rattle.geometry.proofs.face.normal_length.Reads as normal-length-reads
 
 -- of the polygon the loop keeps the vertices
 abbrev kept : List GridPoint → Polygon

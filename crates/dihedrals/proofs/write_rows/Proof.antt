@@ -23,11 +23,6 @@ use Rattle.dihedrals.proofs.Faces.{Read, a<64, b<64, c<64, on-grid, nor
 use Rattle.dihedrals.proofs.Rows.{rowsAt, edge-rows, ending-step, ending-end}
 use Rattle.dihedrals.proofs.write_rows.Statement.{statement}
 use Rattle.dihedrals.proofs.write_rows.Tie as tie
-use Rattle.dihedrals.proofs.write_rows.Reads as reads
-use Rattle.dihedrals.proofs.write_rows.Lts as lts
-use Rattle.dihedrals.proofs.row.Reads as row-reads
-use Rattle.dihedrals.proofs.wide.Reads as wide-reads
-use Rattle.geometry.proofs.face.normal.Reads as normal-reads
 
 -- of the polygon the loops keep what the rows need
 abbrev kept : ℕ → List GridPoint → Polygon

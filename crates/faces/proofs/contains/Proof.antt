@@ -6,10 +6,6 @@ use Rattle.faces.specs.Faces.{hasVertex, has}
 use borrow.Author.Needs.{needs}
 use Rattle.faces.proofs.contains.Statement.{statement}
 use Rattle.faces.proofs.contains.Tie as tie
-use Rattle.faces.proofs.contains.Reads as reads
-use Rattle.faces.proofs.contains.Lts as lts
-use Rattle.faces.proofs.has_vertex.Reads as has-vertex-reads
-use Rattle.faces.proofs.pair_index.Reads as pair-index-reads
 
 pair-index-requires : tie.Need-pair-index-requires
 pair-index-requires c κs = search needs

@@ -7,10 +7,6 @@ use Rattle.faces.specs.Faces.{withVertex, withTriple, pairAt}
 use borrow.Author.Needs.{needs}
 use Rattle.faces.proofs.insert_faces.Statement.{statement}
 use Rattle.faces.proofs.insert_faces.Tie as tie
-use Rattle.faces.proofs.insert_faces.Reads as reads
-use Rattle.faces.proofs.insert_faces.Lts as lts
-use Rattle.faces.proofs.pair_index.Reads as pair-index-reads
-use Rattle.faces.proofs.with_vertex.Reads as with-vertex-reads
 
 pair-index-requires : tie.Need-pair-index-requires
 pair-index-requires c κs = search needs

@@ -11,9 +11,6 @@ use Rattle.lists.proofs.Writing.{Writing, start, turn, enter, leave, place, pus
 use Rattle.faces.specs.Faces.{has, triple, triplesOf}
 use Rattle.faces.proofs.list.Statement.{statement}
 use Rattle.faces.proofs.list.Tie as tie
-use Rattle.faces.proofs.list.Reads as reads
-use Rattle.faces.proofs.list.Lts as lts
-use Rattle.faces.proofs.contains.Reads as contains-reads
 
 -- what is left at each loop's head
 module _ (n : ℕ) (P : ℕ → ℕ → ℕ → Bool) where

@@ -6,8 +6,6 @@ use Rattle.faces.proofs.Masks.{one-shifted}
 use borrow.Author.Needs.{needs}
 use Rattle.faces.proofs.with_vertex.Statement.{statement}
 use Rattle.faces.proofs.with_vertex.Tie as tie
-use Rattle.faces.proofs.with_vertex.Reads as reads
-use Rattle.faces.proofs.with_vertex.Lts as lts
 
 shl-result : tie.Need-shl-result
 shl-result c = search needs

@@ -7,8 +7,6 @@ use lib.ListN.{length, drop, getD}
 use Rattle.lists.proofs.Writing.{Writing, start, turn, place, push, all, rest-step, rest-end, map-same}
 use Rattle.finder.proofs.copy.Statement.{statement}
 use Rattle.finder.proofs.copy.Tie as tie
-use Rattle.finder.proofs.copy.Reads as reads
-use Rattle.finder.proofs.copy.Lts as lts
 
 abbrev Inv-loop : tie.InvT-loop
 Inv-loop from to₀ i₀ i-end to i = Writing from (map (λ t. t) (drop i from)) to₀ 0 to i

@@ -20,14 +20,6 @@ use Rattle.finder.specs.Filling.{fillOr13}
 use borrow.Author.Needs.{needs}
 use Rattle.finder.proofs.fill.Statement.{statement}
 use Rattle.finder.proofs.fill.Tie as tie
-use Rattle.finder.proofs.fill.Reads as reads
-use Rattle.finder.proofs.fill.Lts as lts
-use Rattle.dihedrals.proofs.scale_lengths.Reads as scale-lengths-reads
-use Rattle.dihedrals.proofs.write_lengths.Reads as write-lengths-reads
-use Rattle.dihedrals.proofs.write_rows.Reads as write-rows-reads
-use Rattle.finder.proofs.copy.Reads as copy-reads
-use Rattle.hinges.proofs.block_starts.Reads as block-starts-reads
-use Rattle.hinges.proofs.count_rows.Reads as count-rows-reads
 
 block-starts-requires : tie.Need-block-starts-requires
 block-starts-requires c κs = search needs

@@ -5,9 +5,6 @@ use Rattle.finder.proofs.Answers.{beside-enough}
 use borrow.Author.Needs.{needs}
 use Rattle.finder.proofs.find.Statement.{statement}
 use Rattle.finder.proofs.find.Tie as tie
-use Rattle.finder.proofs.find.Reads as reads
-use Rattle.finder.proofs.find.Lts as lts
-use Rattle.finder.proofs.find_beside.Reads as find-beside-reads
 
 find-beside-requires : tie.Need-find-beside-requires
 find-beside-requires c κs = search needs

@@ -24,11 +24,6 @@ use Rattle.finder.proofs.Answers.{listed-some, listed-none, filled-is, 
 use borrow.Author.Needs.{needs}
 use Rattle.finder.proofs.find_beside.Statement.{statement}
 use Rattle.finder.proofs.find_beside.Tie as tie
-use Rattle.finder.proofs.find_beside.Reads as reads
-use Rattle.finder.proofs.find_beside.Lts as lts
-use Rattle.delaunay.proofs.list_candidates.Reads as list-candidates-reads
-use Rattle.finder.proofs.fill.Reads as fill-reads
-use Rattle.polygon.proofs.polygon_code.Reads as polygon-code-reads
 
 polygon-code-requires : tie.Need-polygon-code-requires
 polygon-code-requires c κs = search needs

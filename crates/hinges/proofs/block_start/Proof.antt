@@ -6,9 +6,6 @@ use borrow.Author.Needs.{needs}
 use Rattle.hinges.proofs.Blocks.{Search, search-start, search-up, search-down, search-end}
 use Rattle.hinges.proofs.block_start.Statement.{statement}
 use Rattle.hinges.proofs.block_start.Tie as tie
-use Rattle.hinges.proofs.block_start.Reads as reads
-use Rattle.hinges.proofs.block_start.Lts as lts
-use Rattle.hinges.proofs.wide.Reads as wide-reads
 
 abbrev Inv-loop : tie.InvT-loop
 Inv-loop candidates k low₀ high₀ low high = Search candidates k low high

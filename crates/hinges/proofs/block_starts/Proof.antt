@@ -5,9 +5,6 @@ use native.Mathlib.Omega.{arith}
 use Rattle.hinges.proofs.Blocks.{StartsTo, starts-more}
 use Rattle.hinges.proofs.block_starts.Statement.{statement}
 use Rattle.hinges.proofs.block_starts.Tie as tie
-use Rattle.hinges.proofs.block_starts.Reads as reads
-use Rattle.hinges.proofs.block_starts.Lts as lts
-use Rattle.hinges.proofs.block_start.Reads as block-start-reads
 
 abbrev Inv-loop : tie.InvT-loop
 Inv-loop candidates starts₀ k₀ starts k = (k ≤ 65) × StartsTo candidates k starts

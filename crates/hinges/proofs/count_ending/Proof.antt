@@ -16,8 +16,6 @@ use Rattle.lists.proofs.Counting.{Counting, count-start, count-turn, count-push
 use Rattle.hinges.specs.Hinges.{endingIn}
 use Rattle.hinges.proofs.count_ending.Statement.{statement}
 use Rattle.hinges.proofs.count_ending.Tie as tie
-use Rattle.hinges.proofs.count_ending.Reads as reads
-use Rattle.hinges.proofs.count_ending.Lts as lts
 
 one : (cs : List (List ℕ)) (i hi k : ℕ) (b : Bool) → i < hi → eqb (vertexC (entryAt cs i)) k ≡ b → endingIn cs i hi k ≡ when b i ++ endingIn cs (i + 1) hi k
 one cs i hi k b h e = over-step i hi _ h ∙ ap (λ (t : Bool). when t i ++ endingIn cs (i + 1) hi k) e

@@ -10,10 +10,6 @@ use Rattle.hinges.proofs.Blocks.{start-order, start-at, inners-bound, t
 use borrow.Author.Needs.{needs}
 use Rattle.hinges.proofs.count_on.Statement.{statement}
 use Rattle.hinges.proofs.count_on.Tie as tie
-use Rattle.hinges.proofs.count_on.Reads as reads
-use Rattle.hinges.proofs.count_on.Lts as lts
-use Rattle.hinges.proofs.count_ending.Reads as count-ending-reads
-use Rattle.hinges.proofs.wide.Reads as wide-reads
 
 mul-t : tie.Need-mul-t
 mul-t c = search needs

@@ -10,9 +10,6 @@ use Rattle.hinges.specs.Hinges.{innersOn, innersOf}
 use Rattle.hinges.proofs.Blocks.{hinges-bound}
 use Rattle.hinges.proofs.count_rows.Statement.{statement}
 use Rattle.hinges.proofs.count_rows.Tie as tie
-use Rattle.hinges.proofs.count_rows.Reads as reads
-use Rattle.hinges.proofs.count_rows.Lts as lts
-use Rattle.hinges.proofs.count_on.Reads as count-on-reads
 
 abbrev Inv-loop : tie.InvT-loop
 Inv-loop candidates starts count₀ o₀ o-end count o = (o ≤ length candidates) × (count + length (over o (length candidates) (innersOn candidates)) ≡ length (innersOf candidates))
