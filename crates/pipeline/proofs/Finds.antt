@@ -9,6 +9,7 @@ use lib.Dec.{eqb, ltb}
 use lib.ListN.{length}
 use Rattle.lists.specs.Lists.{either, filled}
 use Rattle.lists.proofs.Choice.{yes, no, true-not-false, either-left, either-neither, not-true-false}
+use Rattle.faces.proofs.Bools.{either-assoc}
 use Rattle.polygon.specs.declared.Polygon.{Polygon}
 use Rattle.polygon.specs.Polygon.{codeOf}
 use Rattle.delaunay.specs.Candidates.{candidatesOf, cospherical}
@@ -20,10 +21,6 @@ use Rattle.triangulator.specs.declared.Outcome.{Outcome}
 use Rattle.triangulator.specs.declared.Outcome.the-variants.{None, Refused}
 use Rattle.pipeline.specs.Patching.{Tables, tables, Patching, patching, refused, weightsIn, rowsIn, tablesShort, patched, patchPolygon}
 
-either-regroup : (a b x : Bool) → either (either a b) x ≡ either a (either b x)
-either-regroup true b x = refl
-either-regroup false b x = refl
-
 module _ (p : Polygon) (triangles : List ℕ) (candidates : List (List ℕ)) (weights : List ℕ) (rows : List (List ℕ)) (work : List ℕ) where
   lent : Tables
   lent = tables triangles candidates weights rows work
@@ -33,7 +30,7 @@ module _ (p : Polygon) (triangles : List ℕ) (candidates : List (List ℕ)) (we
 
   short-same : tooShort ≡ tablesShort p lent
   unfolding tooShort lent tablesShort
-  short-same = either-regroup (ltb (length triangles) (p .n - 2)) (ltb (length work) (length (candidatesOf p))) (shortTables p candidates weights rows)
+  short-same = sym (either-assoc (ltb (length triangles) (p .n - 2)) (ltb (length work) (length (candidatesOf p))) (shortTables p candidates weights rows))
 
   asOutcome : Found → Outcome
   asOutcome (Lists x y) = None

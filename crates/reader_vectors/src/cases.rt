@@ -6,11 +6,29 @@ use crate::file;
 use crate::file::Bytes;
 use crate::file::Change;
 
-// No change.
-pub const NONE: Change = [0, 16, 0];
+// The place of no change.
+pub const NONE: u32 = 16;
 
-// A file as it is.
-pub const SAME: [Change; 3] = [NONE, NONE, NONE];
+// A base file, the file's length, three changes (record, place and number each), and the answer: an error
+// code, 0 where a chain is accepted, or the polygon that comes of rim file P.
+pub type Case = [u32; 12];
+
+// A base file is rim file P of document 01, or a chain: of n records among `count`, by steps of `stride`,
+// written as one number with three digits for each.
+pub const P: u32 = 0;
+
+// The polygons that come of file P: two of three vertices, and four of four.
+pub const FROM_SECOND: u32 = 100;
+
+pub const FIRST_THREE: u32 = 101;
+
+pub const UNCHANGED: u32 = 102;
+
+pub const LAST_RAISED: u32 = 103;
+
+pub const FLAT: u32 = 104;
+
+pub const LAST_NEAR_FIRST: u32 = 105;
 
 fn print(n: u32) {
     io::print_decimal(1, n as u64);
@@ -57,14 +75,14 @@ fn print_change(change: Change) {
 }
 
 fn change(file: &mut Bytes, change: Change) {
-    if change[1] < 16 {
+    if change[1] < NONE {
         file::change(file, change);
         print_change(change);
     }
 }
 
 // Changes a file, and prints its length and the changes.
-fn finish(file: &mut Bytes, length: usize, changes: [Change; 3]) {
+fn finish(file: &mut Bytes, length: u32, changes: [Change; 3]) {
     io::write_all(1, b", length ");
     io::print_decimal(1, length as u64);
     change(file, changes[0]);
@@ -73,31 +91,8 @@ fn finish(file: &mut Bytes, length: usize, changes: [Change; 3]) {
     io::write_all(1, b":");
 }
 
-// Rim file P, changed: refused.
-pub fn four_points(file: &mut Bytes, length: usize, changes: [Change; 3], expected: u32) {
-    file::four_points(file);
-    io::write_all(1, b"P");
-    finish(file, length, changes);
-    compare_refusal(file, length, expected);
-    io::write_all(1, b"\n");
-}
-
-// Rim file P, changed: accepted, with these vertices.
-pub fn four_points_accepted(
-    file: &mut Bytes,
-    length: usize,
-    changes: [Change; 3],
-    vertices: &[[i64; 3]],
-) {
-    file::four_points(file);
-    io::write_all(1, b"P");
-    finish(file, length, changes);
-    compare_polygon(file, length, 1, 1, vertices);
-    io::write_all(1, b"\n");
-}
-
 // Rim file P with other factors: accepted.
-pub fn four_points_factors(file: &mut Bytes, area_factor: u32, bend_factor: u32) {
+pub(crate) fn four_points_factors(file: &mut Bytes, area_factor: u32, bend_factor: u32) {
     file::four_points(file);
     io::write_all(1, b"P");
     finish(
@@ -106,7 +101,7 @@ pub fn four_points_factors(file: &mut Bytes, area_factor: u32, bend_factor: u32)
         [
             [0, file::AREA_FACTOR, area_factor],
             [0, file::BEND_FACTOR, bend_factor],
-            NONE,
+            [0, NONE, 0],
         ],
     );
     compare_polygon(
@@ -128,25 +123,87 @@ fn print_shape(shape: [u32; 3]) {
     print(shape[2]);
 }
 
-fn compare_answer(file: &Bytes, length: usize, n: u32, expected: u32) {
-    if expected == 0 {
-        compare_chain(file, length, n as usize);
+fn three_vertices(polygon: u32) -> [[i64; 3]; 3] {
+    match polygon {
+        FROM_SECOND => [[8, 0, 0], [8, 8, 6], [0, 8, 0]],
+        _ => [[0, 0, 0], [8, 0, 0], [8, 8, 6]],
+    }
+}
+
+fn four_vertices(polygon: u32) -> [[i64; 3]; 4] {
+    match polygon {
+        UNCHANGED => [[0, 0, 0], [8, 0, 0], [8, 8, 6], [0, 8, 0]],
+        LAST_RAISED => [[0, 0, 0], [8, 0, 0], [8, 8, 6], [0, 8, 6]],
+        FLAT => [[0, 0, 0], [8, 0, 0], [8, 8, 0], [0, 8, 0]],
+        _ => [[0, 0, 0], [8, 0, 0], [8, 8, 6], [0, 1, 0]],
+    }
+}
+
+fn compare_three(file: &Bytes, length: usize, polygon: u32) {
+    let vertices = three_vertices(polygon);
+    compare_polygon(file, length, 1, 1, &vertices);
+}
+
+fn compare_four(file: &Bytes, length: usize, polygon: u32) {
+    let vertices = four_vertices(polygon);
+    compare_polygon(file, length, 1, 1, &vertices);
+}
+
+// Accepted, with both factors 1 and the vertices of one of the polygons of file P?
+fn compare_four_points(file: &Bytes, length: usize, polygon: u32) {
+    if polygon < UNCHANGED {
+        compare_three(file, length, polygon);
     } else {
-        compare_refusal(file, length, expected);
+        compare_four(file, length, polygon);
+    }
+}
+
+fn shape(base: u32) -> [u32; 3] {
+    [base / 1_000_000, base / 1000 % 1000, base % 1000]
+}
+
+fn set_chain(file: &mut Bytes, shape: [u32; 3]) {
+    file::chain(file, shape[0], shape[1], shape[2]);
+    print_shape(shape);
+}
+
+fn set_base(file: &mut Bytes, base: u32) {
+    if base == P {
+        file::four_points(file);
+        io::write_all(1, b"P");
+    } else {
+        set_chain(file, shape(base));
+    }
+}
+
+fn compare_answer(file: &Bytes, base: u32, length: u32, answer: u32) {
+    if answer == 0 {
+        compare_chain(file, length as usize, (base / 1_000_000) as usize);
+    } else if answer < FROM_SECOND {
+        compare_refusal(file, length as usize, answer);
+    } else {
+        compare_four_points(file, length as usize, answer);
     }
     io::write_all(1, b"\n");
 }
 
-// A chain of n records among `count`, by steps of `stride`, changed: refused, or accepted where 0 is expected.
-pub fn chain(
-    file: &mut Bytes,
-    shape: [u32; 3],
-    length: usize,
-    changes: [Change; 3],
-    expected: u32,
-) {
-    file::chain(file, shape[0], shape[1], shape[2]);
-    print_shape(shape);
-    finish(file, length, changes);
-    compare_answer(file, length, shape[0], expected);
+fn changes(case: Case) -> [Change; 3] {
+    [
+        [case[2], case[3], case[4]],
+        [case[5], case[6], case[7]],
+        [case[8], case[9], case[10]],
+    ]
+}
+
+fn run_case(file: &mut Bytes, case: Case) {
+    set_base(file, case[0]);
+    finish(file, case[1], changes(case));
+    compare_answer(file, case[0], case[1], case[11]);
+}
+
+pub(crate) fn run(file: &mut Bytes, cases: &[Case]) {
+    for i in 0..cases.len() {
+        let case = cases[i];
+        run_case(file, case);
+    }
 }

@@ -88,7 +88,7 @@ fn is_empty(polygon: Polygon) -> bool {
 }
 
 // Refused with a number, and the polygon beside it is empty? Prints the number.
-pub fn compare_refusal(file: &Bytes, length: usize, expected: u32) {
+pub(crate) fn compare_refusal(file: &Bytes, length: usize, expected: u32) {
     let reading = read(file, length);
     let polygon = reading.polygon;
     let status = reading.status;
@@ -121,7 +121,7 @@ fn print_polygon(status: Status, same: bool) {
 }
 
 // Accepted, with these factors and vertices?
-pub fn compare_polygon(
+pub(crate) fn compare_polygon(
     file: &Bytes,
     length: usize,
     area_factor: u32,
@@ -138,7 +138,7 @@ pub fn compare_polygon(
 }
 
 // Accepted, with both factors 1 and the vertices of a chain made by file::chain?
-pub fn compare_chain(file: &Bytes, length: usize, n: usize) {
+pub(crate) fn compare_chain(file: &Bytes, length: usize, n: usize) {
     let reading = read(file, length);
     let polygon = reading.polygon;
     let status = reading.status;

@@ -66,7 +66,7 @@ fn put_u32(file: &mut Bytes, at: usize, value: u32) {
 }
 
 // Every byte is 255. As a record that is junk: a next record over any count, no kind, and no numbers.
-pub fn clear(file: &mut Bytes) {
+pub(crate) fn clear(file: &mut Bytes) {
     for i in 0..SPACE {
         file[i] = 255;
     }
@@ -85,7 +85,7 @@ fn start(record: u32) -> usize
     8 + 16 * (record as usize - 1)
 }
 
-pub fn change(file: &mut Bytes, change: Change) {
+pub(crate) fn change(file: &mut Bytes, change: Change) {
     let record = change[0];
     let place = change[1];
     let value = change[2];
@@ -102,14 +102,14 @@ pub fn change(file: &mut Bytes, change: Change) {
 }
 
 // The header, with both factors 1.
-pub fn set_header(file: &mut Bytes, first: u32, count: u32) {
+pub(crate) fn set_header(file: &mut Bytes, first: u32, count: u32) {
     put_u16(file, 0, first);
     put_u16(file, 2, count);
     put_u16(file, 4, 1);
     put_u16(file, 6, 1);
 }
 
-pub fn set_record(file: &mut Bytes, record: u32, next: u32, kind: u32, numbers: [u32; 3]) {
+pub(crate) fn set_record(file: &mut Bytes, record: u32, next: u32, kind: u32, numbers: [u32; 3]) {
     let at = start(record);
     put_u16(file, at, next);
     put_u16(file, at + 2, kind);
@@ -119,7 +119,7 @@ pub fn set_record(file: &mut Bytes, record: u32, next: u32, kind: u32, numbers: 
 }
 
 // Rim file P of document 01: (0, 0, 0), (1, 0, 0), (1, 1, 0.75), (0, 1, 0), 72 bytes.
-pub fn four_points(file: &mut Bytes) {
+pub(crate) fn four_points(file: &mut Bytes) {
     set_header(file, 1, 4);
     set_record(file, 1, 2, 1, [ZERO, ZERO, ZERO]);
     set_record(file, 2, 3, 1, [ONE, ZERO, ZERO]);
@@ -147,7 +147,7 @@ fn set_position(file: &mut Bytes, record: u32, next: u32, i: u32) {
 }
 
 // A chain of n records among `count`, from record 1 on by steps of `stride`. The other records are junk.
-pub fn chain(file: &mut Bytes, n: u32, count: u32, stride: u32) {
+pub(crate) fn chain(file: &mut Bytes, n: u32, count: u32, stride: u32) {
     clear(file);
     set_header(file, 1, count);
     let mut record = 1;

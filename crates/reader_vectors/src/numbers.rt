@@ -32,18 +32,24 @@ fn vertices_with(place: u32, g: i64) -> [[i64; 3]; 3] {
     }
 }
 
-fn number_at(file: &mut Bytes, place: u32, bits: u32, expected: i64) {
+// The grid number whose absolute value is `size`, of the sign that `bits` has.
+fn signed(bits: u32, size: u32) -> i64 {
+    let above = size as i64;
+    if bits < 0x8000_0000 { above } else { -above }
+}
+
+fn number_at(file: &mut Bytes, place: u32, bits: u32, size: u32) {
     with_number(file, place, bits);
-    let vertices = vertices_with(place, expected);
+    let vertices = vertices_with(place, signed(bits, size));
     compare_polygon(file, 56, 1, 1, &vertices);
 }
 
-// The grid number of `bits` is `expected`.
-fn number(file: &mut Bytes, bits: u32, expected: i64) {
+// The absolute value of the grid number of `bits` is `size`.
+fn number(file: &mut Bytes, bits: u32, size: u32) {
     io::print_hex(1, bits as u64, 8);
     io::write_all(1, b":");
     for place in 0..5 {
-        number_at(file, place, bits, expected);
+        number_at(file, place, bits, size);
     }
     io::write_all(1, b"\n");
 }
@@ -59,71 +65,103 @@ fn no_number(file: &mut Bytes, bits: u32, expected: u32) {
     io::write_all(1, b"\n");
 }
 
-pub fn exact(file: &mut Bytes) {
-    number(file, 0x0000_0000, 0); // 0
-    number(file, 0x8000_0000, 0); // minus zero
-    number(file, 0x3e00_0000, 1); // 0.125
-    number(file, 0xbe00_0000, -1); // -0.125
-    number(file, 0x3f40_0000, 6); // 0.75
-    number(file, 0x3f80_0000, 8); // 1.0
-    number(file, 0xc2c8_8000, -802); // -100.25
-    number(file, 0x42fa_0000, 1000); // 125.0
-    number(file, 0xc2fa_0000, -1000); // -125.0
+// Bits, and the absolute values of their grid numbers.
+fn accepted(file: &mut Bytes, bits: &[u32], sizes: &[u32]) {
+    for i in 0..bits.len() {
+        if i < sizes.len() {
+            number(file, bits[i], sizes[i]);
+        }
+    }
 }
 
-pub fn tiny(file: &mut Bytes) {
-    number(file, 0x0000_0001, 0); // least subnormal
-    number(file, 0x8000_0001, 0); // least subnormal below zero
-    number(file, 0x007f_ffff, 0); // largest subnormal
-    number(file, 0x807f_ffff, 0); // largest subnormal below zero
-    number(file, 0x0080_0000, 0); // least normal
+fn refused(file: &mut Bytes, bits: &[u32], expected: u32) {
+    for i in 0..bits.len() {
+        no_number(file, bits[i], expected);
+    }
 }
+
+const EXACT: [u32; 9] = [
+    0x0000_0000, // 0
+    0x8000_0000, // minus zero
+    0x3e00_0000, // 0.125
+    0xbe00_0000, // -0.125
+    0x3f40_0000, // 0.75
+    0x3f80_0000, // 1.0
+    0xc2c8_8000, // -100.25
+    0x42fa_0000, // 125.0
+    0xc2fa_0000, // -125.0
+];
+
+const EXACT_SIZES: [u32; 9] = [0, 0, 1, 1, 6, 8, 802, 1000, 1000];
+
+const TINY: [u32; 5] = [
+    0x0000_0001, // least subnormal
+    0x8000_0001, // least subnormal below zero
+    0x007f_ffff, // largest subnormal
+    0x807f_ffff, // largest subnormal below zero
+    0x0080_0000, // least normal
+];
+
+const TINY_SIZES: [u32; 5] = [0, 0, 0, 0, 0];
 
 // Either neighbour of a half will do by document 01. The reader takes the even one.
-pub fn halves(file: &mut Bytes) {
-    number(file, 0x3d80_0000, 0); // 0.5 steps
-    number(file, 0x3e40_0000, 2); // 1.5 steps
-    number(file, 0x3ea0_0000, 2); // 2.5 steps
-    number(file, 0x3ee0_0000, 4); // 3.5 steps
-    number(file, 0xbd80_0000, 0); // -0.5 steps
-    number(file, 0xbe40_0000, -2); // -1.5 steps
-    number(file, 0xbea0_0000, -2); // -2.5 steps
-    number(file, 0x42f9_a000, 998); // 998.5 steps
-    number(file, 0x42f9_e000, 1000); // 999.5 steps
-    number(file, 0xc2f9_e000, -1000); // -999.5 steps
-}
+const HALVES: [u32; 10] = [
+    0x3d80_0000, // 0.5 steps
+    0x3e40_0000, // 1.5 steps
+    0x3ea0_0000, // 2.5 steps
+    0x3ee0_0000, // 3.5 steps
+    0xbd80_0000, // -0.5 steps
+    0xbe40_0000, // -1.5 steps
+    0xbea0_0000, // -2.5 steps
+    0x42f9_a000, // 998.5 steps
+    0x42f9_e000, // 999.5 steps
+    0xc2f9_e000, // -999.5 steps
+];
 
-pub fn near_halves(file: &mut Bytes) {
-    number(file, 0x3d7f_ffff, 0); // next below 0.5 steps
-    number(file, 0x3d80_0001, 1); // next above 0.5 steps
-    number(file, 0x3e3f_ffff, 1); // next below 1.5 steps
-    number(file, 0x3e40_0001, 2); // next above 1.5 steps
-    number(file, 0x3e9f_ffff, 2); // next below 2.5 steps
-    number(file, 0x3ea0_0001, 3); // next above 2.5 steps
-    number(file, 0x42f9_dfff, 999); // next below 999.5 steps
-    number(file, 0x42f9_e001, 1000); // next above 999.5 steps
-    number(file, 0xbd7f_ffff, 0); // next above -0.5 steps
-    number(file, 0xbd80_0001, -1); // next below -0.5 steps
-    number(file, 0xbe3f_ffff, -1); // next above -1.5 steps
-    number(file, 0xc2f9_dfff, -999); // next above -999.5 steps
-    number(file, 0x42f9_ffff, 1000); // next below 125.0
-}
+const HALVES_SIZES: [u32; 10] = [0, 2, 2, 4, 0, 2, 2, 998, 1000, 1000];
 
-pub fn out_of_range(file: &mut Bytes) {
-    no_number(file, 0x42fa_0001, 9); // next above 125.0
-    no_number(file, 0xc2fa_0001, 9); // next below -125.0
-    no_number(file, 0x42fa_1000, 9); // 1000.25 steps
-    no_number(file, 0xc2fa_1000, 9); // -1000.25 steps
-    no_number(file, 0x42fa_2000, 9); // 1000.5 steps
-    no_number(file, 0x4300_0000, 9); // 128.0
-    no_number(file, 0x7f7f_ffff, 9); // largest finite
-    no_number(file, 0xff7f_ffff, 9); // least finite
-}
+const NEAR_HALVES: [u32; 13] = [
+    0x3d7f_ffff, // next below 0.5 steps
+    0x3d80_0001, // next above 0.5 steps
+    0x3e3f_ffff, // next below 1.5 steps
+    0x3e40_0001, // next above 1.5 steps
+    0x3e9f_ffff, // next below 2.5 steps
+    0x3ea0_0001, // next above 2.5 steps
+    0x42f9_dfff, // next below 999.5 steps
+    0x42f9_e001, // next above 999.5 steps
+    0xbd7f_ffff, // next above -0.5 steps
+    0xbd80_0001, // next below -0.5 steps
+    0xbe3f_ffff, // next above -1.5 steps
+    0xc2f9_dfff, // next above -999.5 steps
+    0x42f9_ffff, // next below 125.0
+];
 
-pub fn not_finite(file: &mut Bytes) {
-    no_number(file, 0x7f80_0000, 8); // infinity
-    no_number(file, 0xff80_0000, 8); // minus infinity
-    no_number(file, 0x7fc0_0000, 8); // quiet NaN
-    no_number(file, 0x7f80_0001, 8); // signalling NaN
-    no_number(file, 0xffff_ffff, 8); // NaN of all ones
+const NEAR_HALVES_SIZES: [u32; 13] = [0, 1, 1, 2, 2, 3, 999, 1000, 0, 1, 1, 999, 1000];
+
+const OUT_OF_RANGE: [u32; 8] = [
+    0x42fa_0001, // next above 125.0
+    0xc2fa_0001, // next below -125.0
+    0x42fa_1000, // 1000.25 steps
+    0xc2fa_1000, // -1000.25 steps
+    0x42fa_2000, // 1000.5 steps
+    0x4300_0000, // 128.0
+    0x7f7f_ffff, // largest finite
+    0xff7f_ffff, // least finite
+];
+
+const NOT_FINITE: [u32; 5] = [
+    0x7f80_0000, // infinity
+    0xff80_0000, // minus infinity
+    0x7fc0_0000, // quiet NaN
+    0x7f80_0001, // signalling NaN
+    0xffff_ffff, // NaN of all ones
+];
+
+pub(crate) fn run_numbers(file: &mut Bytes) {
+    accepted(file, &EXACT, &EXACT_SIZES);
+    accepted(file, &TINY, &TINY_SIZES);
+    accepted(file, &HALVES, &HALVES_SIZES);
+    accepted(file, &NEAR_HALVES, &NEAR_HALVES_SIZES);
+    refused(file, &OUT_OF_RANGE, 9);
+    refused(file, &NOT_FINITE, 8);
 }

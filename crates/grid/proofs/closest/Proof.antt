@@ -1,3 +1,4 @@
+-- `grid::closest` meets its contract. Assumes nothing.
 use borrow.Author.Needs.{needs}
 use Rattle.grid.proofs.Round.{down, up, tie, twice, next, even}
 use Rattle.grid.proofs.closest.Statement.{statement}

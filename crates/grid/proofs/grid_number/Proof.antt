@@ -1,3 +1,4 @@
+-- `grid::grid_number` meets its contract. Assumes nothing.
 use mathlib.Core.Path.{sym, ap, _∙_, subst}
 use Prim.Native.Nat.{_^_, _<_}
 use borrow.Author.Tests.{le-leb, lt-leb}

@@ -7,8 +7,6 @@ use lib.Dec.{lit<}
 use Rattle.integers.proofs.Rounding.{is-floor-root}
 use Rattle.integers.proofs.floor_root.Statement.{statement}
 use Rattle.integers.proofs.floor_root.Tie as tie
-use Rattle.integers.proofs.floor_root.Reads as reads
-use Rattle.integers.proofs.floor_root.Lts as lts
 
 record Inv (x low high : ℕ) : Type 0 where
   under : low * low ≤ x

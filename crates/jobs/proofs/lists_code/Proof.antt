@@ -1,3 +1,4 @@
+-- `jobs::lists_code` meets its contract. Assumes nothing.
 use mathlib.Core.Path.{sym, _∙_}
 use borrow.Author.Tests.{le-leb, lt-leb, not-true, not-false}
 use Rattle.lists.proofs.Choice.{yes, no, both-true}

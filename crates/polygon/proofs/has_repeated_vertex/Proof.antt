@@ -1,3 +1,4 @@
+-- `polygon::has_repeated_vertex` meets its contract. Assumes nothing.
 use mathlib.Core.Path.{_≡_, refl, sym, _∙_}
 use mathlib.Core.Bool.{Bool, true, false}
 use mathlib.Core.List.{List}
@@ -10,9 +11,6 @@ use Rattle.lists.proofs.Ranges.{some-on, some-stop, some-end}
 use Rattle.polygon.specs.Polygon.{vertexAt, samePoint, repeatedVertex}
 use Rattle.polygon.proofs.has_repeated_vertex.Statement.{statement}
 use Rattle.polygon.proofs.has_repeated_vertex.Tie as tie
-use Rattle.polygon.proofs.has_repeated_vertex.Reads as reads
-use Rattle.polygon.proofs.has_repeated_vertex.Lts as lts
-use Rattle.polygon.proofs.same_point.Reads as same-point-reads
 
 -- is vertex i the point q, and is vertex j an earlier one's point
 abbrev same : List GridPoint → GridPoint → ℕ → Bool

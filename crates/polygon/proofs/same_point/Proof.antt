@@ -1,3 +1,4 @@
+-- `polygon::same_point` meets its contract. Assumes nothing.
 use Rattle.polygon.proofs.Points.{differ-x, differ-y, test-z}
 use Rattle.polygon.proofs.same_point.Statement.{statement}
 use Rattle.polygon.proofs.same_point.Tie as tie

@@ -1,3 +1,4 @@
+-- `polygon::vertices_on_grid` meets its contract. Assumes nothing.
 use mathlib.Core.Path.{_≡_, refl, sym, _∙_}
 use mathlib.Core.Bool.{Bool}
 use mathlib.Core.List.{List}
@@ -12,9 +13,6 @@ use Rattle.lists.proofs.Ranges.{every-on, every-stop, every-end}
 use Rattle.polygon.specs.Polygon.{vertexAt, verticesOnGrid}
 use Rattle.polygon.proofs.vertices_on_grid.Statement.{statement}
 use Rattle.polygon.proofs.vertices_on_grid.Tie as tie
-use Rattle.polygon.proofs.vertices_on_grid.Reads as reads
-use Rattle.polygon.proofs.vertices_on_grid.Lts as lts
-use Rattle.grid.proofs.GridPoint.on_grid.Reads as on-grid-reads
 
 abbrev onGrid : List GridPoint → ℕ → Bool
 onGrid vertices i = pointOnGrid (vertexAt vertices i)

@@ -1,3 +1,4 @@
+-- `grid::GridPoint::coordinate_on_grid` meets its contract. Assumes nothing.
 use mathlib.Core.Path.{sym, ap, _∙_}
 use lib.IntN.{ℤ}
 use lib.Signed.{ltZ, leZ}

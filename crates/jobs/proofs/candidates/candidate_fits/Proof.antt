@@ -1,3 +1,4 @@
+-- `jobs::candidates::candidate_fits` meets its contract. Assumes nothing.
 use mathlib.Core.Path.{sym, _∙_}
 use borrow.Author.Tests.{eq-eqb, ne-eqb, not-true, not-false}
 use Rattle.lists.proofs.Choice.{yes, no}

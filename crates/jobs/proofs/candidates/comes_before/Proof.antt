@@ -1,3 +1,4 @@
+-- `jobs::candidates::comes_before` meets its contract. Assumes nothing.
 use mathlib.Core.Path.{sym, _∙_}
 use borrow.Author.Tests.{le-ltb, lt-ltb, eq-eqb, ne-eqb}
 use Rattle.lists.proofs.Choice.{yes, no}

@@ -1,3 +1,4 @@
+-- `jobs::rows::hangs_on` meets its contract. Assumes nothing.
 use mathlib.Core.Path.{sym, _∙_}
 use Rattle.lists.proofs.Choice.{yes, no}
 use Rattle.jobs.specs.Job.{hangs}

@@ -1,3 +1,4 @@
+-- `jobs::rows::names_pair` meets its contract. Assumes nothing.
 use mathlib.Core.Path.{sym, _∙_}
 use borrow.Author.Tests.{le-ltb, lt-ltb}
 use Rattle.lists.proofs.Choice.{yes, no}

@@ -1,3 +1,4 @@
+-- `minimum_weight::choice::best_in_block` meets its contract. Assumes nothing.
 use Rattle.minimum_weight.proofs.Picks.{starts-up, block-start, block-next, block-end}
 use Prim.Native.Nat.{_+_, _-_, _≤_}
 use mathlib.Core.Path.{_≡_, sym, _∙_}

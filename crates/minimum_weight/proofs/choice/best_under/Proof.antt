@@ -1,3 +1,4 @@
+-- `minimum_weight::choice::best_under` meets its contract. Assumes nothing.
 use Prim.Native.Nat.{_+_}
 use mathlib.Core.Path.{_≡_}
 use mathlib.Core.Path.{sym, _∙_}

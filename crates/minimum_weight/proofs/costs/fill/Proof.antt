@@ -1,3 +1,4 @@
+-- `minimum_weight::costs::fill` meets its contract. Assumes nothing.
 use Prim.Native.Nat.{_≤_}
 use native.Mathlib.Omega.{arith}
 use borrow.Author.Needs.{needs}

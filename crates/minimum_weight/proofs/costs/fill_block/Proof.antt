@@ -1,3 +1,4 @@
+-- `minimum_weight::costs::fill_block` meets its contract. Assumes nothing.
 use Prim.Native.Nat.{_+_, _-_, _<_}
 use native.Mathlib.Omega.{arith}
 use borrow.Author.Needs.{needs}

@@ -1,3 +1,4 @@
+-- `minimum_weight::costs::join_cost` meets its contract. Assumes nothing.
 use mathlib.Core.Path.{sym, _∙_}
 use mathlib.Core.Logic.{⊎-elim}
 use native.Mathlib.Omega.{arith}

@@ -1,3 +1,4 @@
+-- `minimum_weight::rows::is_before` meets its contract. Assumes nothing.
 use mathlib.Core.Path.{sym, _∙_}
 use Rattle.minimum_weight.proofs.Bools.{and-yes, and-no, or-yes, or-no}
 use borrow.Author.Needs.{needs}

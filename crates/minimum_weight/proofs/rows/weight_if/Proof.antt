@@ -1,3 +1,4 @@
+-- `minimum_weight::rows::weight_if` meets its contract. Assumes nothing.
 use mathlib.Core.Path.{sym, _∙_}
 use borrow.Author.Tests.{eq-eqb, ne-eqb}
 use Rattle.lists.proofs.Choice.{yes, no}

@@ -1,10 +1,8 @@
+-- `reader_vectors::compare::origin_from` meets its contract. Assumes nothing.
 use Prim.Native.Nat.{_-_}
 use borrow.Author.Needs.{needs}
 use Rattle.reader_vectors.proofs.compare.origin_from.Statement.{statement}
 use Rattle.reader_vectors.proofs.compare.origin_from.Tie as tie
-use Rattle.reader_vectors.proofs.compare.origin_from.Reads as reads
-use Rattle.reader_vectors.proofs.compare.origin_from.Lts as lts
-use Rattle.reader_vectors.proofs.compare.is_vertex.Reads as is-vertex-reads
 
 abbrev Inv-loop : tie.InvT-loop
 Inv-loop polygon start i₀ i = Unit
@@ -12,31 +10,24 @@ Inv-loop polygon start i₀ i = Unit
 abbrev μ-loop : tie.MeasureT-loop
 μ-loop polygon start i₀ i = 64 - i
 
--- src/compare.rt:35:5
 loop-holds : tie.Need-loop-holds Inv-loop μ-loop
 loop-holds c = search needs
 
--- src/compare.rt:36:13
 is-vertex-requires : tie.Need-is-vertex-requires Inv-loop μ-loop
 is-vertex-requires c κs = search needs
 
--- src/compare.rt:37:13
 returns : tie.Need-returns Inv-loop μ-loop
 returns c = search needs
 
--- src/compare.rt:35:9
 add-i : tie.Need-add-i Inv-loop μ-loop
 add-i c = search needs
 
--- src/compare.rt:35:5
 loop-less : tie.Need-loop-less Inv-loop μ-loop
 loop-less c = search needs
 
--- src/compare.rt:35:5
 loop-again : tie.Need-loop-again Inv-loop μ-loop
 loop-again c = search needs
 
--- src/compare.rt:34:1
 returns-2 : tie.Need-returns-2 Inv-loop μ-loop
 returns-2 c = search needs
 

@@ -1,29 +1,22 @@
+-- `reader_vectors::compare::read` meets its contract. Assumes nothing.
 use lib.Seq.{length-take-le}
 use mathlib.Core.Path.{sym}
 use borrow.Author.Needs.{needs}
 use Rattle.reader_vectors.proofs.compare.read.Statement.{statement}
 use Rattle.reader_vectors.proofs.compare.read.Tie as tie
-use Rattle.reader_vectors.proofs.compare.read.Reads as reads
-use Rattle.reader_vectors.proofs.compare.read.Lts as lts
-use Rattle.reader.proofs.read_polygon.Reads as read-polygon-reads
 
--- src/compare.rt:8:9
 read-polygon-requires : tie.Need-read-polygon-requires
 read-polygon-requires c κs = search needs
 
--- src/compare.rt:8:9
 returns : tie.Need-returns
 returns c = search needs
 
--- src/compare.rt:10:26
 slice-aggregate-read-polygon : tie.Need-slice-aggregate-read-polygon
 slice-aggregate-read-polygon c = sym (length-take-le _ _ (search needs))
 
--- src/compare.rt:10:5
 read-polygon-requires-2 : tie.Need-read-polygon-requires-2
 read-polygon-requires-2 c κs = search needs
 
--- src/compare.rt:6:1
 returns-2 : tie.Need-returns-2
 returns-2 c = search needs
 

@@ -1,11 +1,8 @@
+-- `reader_vectors::compare::same_vertices` meets its contract. Assumes nothing.
 use Prim.Native.Nat.{_-_}
 use borrow.Author.Needs.{needs}
 use Rattle.reader_vectors.proofs.compare.same_vertices.Statement.{statement}
 use Rattle.reader_vectors.proofs.compare.same_vertices.Tie as tie
-use Rattle.reader_vectors.proofs.compare.same_vertices.Reads as reads
-use Rattle.reader_vectors.proofs.compare.same_vertices.Lts as lts
-use Rattle.reader_vectors.proofs.compare.is_vertex.Reads as is-vertex-reads
-use Rattle.reader_vectors.proofs.compare.origin_from.Reads as origin-from-reads
 
 abbrev Inv-loop : tie.InvT-loop
 Inv-loop polygon expected n i₀ i-end i = Unit
@@ -13,47 +10,36 @@ Inv-loop polygon expected n i₀ i-end i = Unit
 abbrev μ-loop : tie.MeasureT-loop
 μ-loop polygon expected n i₀ i-end i = i-end - i
 
--- src/compare.rt:47:9
 returns : tie.Need-returns Inv-loop μ-loop
 returns c = search needs
 
--- src/compare.rt:49:5
 loop-holds : tie.Need-loop-holds Inv-loop μ-loop
 loop-holds c = search needs
 
--- src/compare.rt:50:35
 mul-is-vertex : tie.Need-mul-is-vertex Inv-loop μ-loop
 mul-is-vertex c = search needs
 
--- src/compare.rt:50:35
 shared-slice-copy-out-is-vertex : tie.Need-shared-slice-copy-out-is-vertex Inv-loop μ-loop
 shared-slice-copy-out-is-vertex c = search needs
 
--- src/compare.rt:50:13
 is-vertex-requires : tie.Need-is-vertex-requires Inv-loop μ-loop
 is-vertex-requires c κs = search needs
 
--- src/compare.rt:51:13
 returns-2 : tie.Need-returns-2 Inv-loop μ-loop
 returns-2 c = search needs
 
--- src/compare.rt:49:9
 add-i : tie.Need-add-i Inv-loop μ-loop
 add-i c = search needs
 
--- src/compare.rt:49:5
 loop-less : tie.Need-loop-less Inv-loop μ-loop
 loop-less c = search needs
 
--- src/compare.rt:49:5
 loop-again : tie.Need-loop-again Inv-loop μ-loop
 loop-again c = search needs
 
--- src/compare.rt:54:5
 origin-from-requires : tie.Need-origin-from-requires Inv-loop μ-loop
 origin-from-requires c κs = search needs
 
--- src/compare.rt:44:1
 returns-3 : tie.Need-returns-3 Inv-loop μ-loop
 returns-3 c = search needs
 

@@ -1,15 +1,10 @@
+-- `reader_vectors::numbers::no_number` meets its contract. Assumes nothing.
 use Prim.Native.Nat.{_-_, _≤_}
 use lib.ListN.{length}
 use native.Mathlib.Omega.{arith}
 use borrow.Author.Needs.{needs}
 use Rattle.reader_vectors.proofs.numbers.no_number.Statement.{statement}
 use Rattle.reader_vectors.proofs.numbers.no_number.Tie as tie
-use Rattle.reader_vectors.proofs.numbers.no_number.Reads as reads
-use Rattle.reader_vectors.proofs.numbers.no_number.Lts as lts
-use Rattle.io.proofs.print_hex.Reads as print-hex-reads
-use Rattle.io.proofs.write_all.Reads as write-all-reads
-use Rattle.reader_vectors.proofs.compare.compare_refusal.Reads as compare-refusal-reads
-use Rattle.reader_vectors.proofs.numbers.with_number.Reads as with-number-reads
 
 abbrev Inv-loop : tie.InvT-loop
 Inv-loop file₀ bits expected place₀ t6 file place = Unit
@@ -17,51 +12,39 @@ Inv-loop file₀ bits expected place₀ t6 file place = Unit
 abbrev μ-loop : tie.MeasureT-loop
 μ-loop file₀ bits expected place₀ t6 file place = 5 - place
 
--- src/numbers.rt:53:5
 print-hex-requires : tie.Need-print-hex-requires Inv-loop μ-loop
 print-hex-requires c κs = search needs
 
--- src/numbers.rt:54:22
 slice-aggregate-write-all : tie.Need-slice-aggregate-write-all Inv-loop μ-loop
 slice-aggregate-write-all c = search needs
 
--- src/numbers.rt:54:5
 write-all-requires : tie.Need-write-all-requires Inv-loop μ-loop
 write-all-requires c κs = search needs
 
--- src/numbers.rt:55:5
 loop-holds : tie.Need-loop-holds Inv-loop μ-loop
 loop-holds c = search needs
 
--- src/numbers.rt:56:9
 with-number-requires : tie.Need-with-number-requires Inv-loop μ-loop
 with-number-requires c κs = search needs
 
--- src/numbers.rt:57:9
 compare-refusal-requires : tie.Need-compare-refusal-requires Inv-loop μ-loop
 compare-refusal-requires c κs = search needs
 
--- src/numbers.rt:55:9
 add-place : tie.Need-add-place Inv-loop μ-loop
 add-place c = search needs
 
--- src/numbers.rt:55:5
 loop-less : tie.Need-loop-less Inv-loop μ-loop
 loop-less c = search needs
 
--- src/numbers.rt:55:5
 loop-again : tie.Need-loop-again Inv-loop μ-loop
 loop-again c = search needs
 
--- src/numbers.rt:59:22
 slice-aggregate-write-all-2 : tie.Need-slice-aggregate-write-all-2 Inv-loop μ-loop
 slice-aggregate-write-all-2 c = search needs
 
--- src/numbers.rt:59:5
 write-all-requires-2 : tie.Need-write-all-requires-2 Inv-loop μ-loop
 write-all-requires-2 c κs = search needs
 
--- src/numbers.rt:52:1
 returns : tie.Need-returns Inv-loop μ-loop
 returns c = search needs
 

@@ -1,62 +1,47 @@
+-- `reader_vectors::numbers::number` meets its contract. Assumes nothing.
 use Prim.Native.Nat.{_-_, _≤_}
 use lib.ListN.{length}
 use native.Mathlib.Omega.{arith}
 use borrow.Author.Needs.{needs}
 use Rattle.reader_vectors.proofs.numbers.number.Statement.{statement}
 use Rattle.reader_vectors.proofs.numbers.number.Tie as tie
-use Rattle.reader_vectors.proofs.numbers.number.Reads as reads
-use Rattle.reader_vectors.proofs.numbers.number.Lts as lts
-use Rattle.io.proofs.print_hex.Reads as print-hex-reads
-use Rattle.io.proofs.write_all.Reads as write-all-reads
-use Rattle.reader_vectors.proofs.numbers.number_at.Reads as number-at-reads
 
 abbrev Inv-loop : tie.InvT-loop
-Inv-loop file₀ bits expected place₀ t6 file place = Unit
+Inv-loop file₀ bits size place₀ t6 file place = Unit
 
 abbrev μ-loop : tie.MeasureT-loop
-μ-loop file₀ bits expected place₀ t6 file place = 5 - place
+μ-loop file₀ bits size place₀ t6 file place = 5 - place
 
--- src/numbers.rt:43:5
 print-hex-requires : tie.Need-print-hex-requires Inv-loop μ-loop
 print-hex-requires c κs = search needs
 
--- src/numbers.rt:44:22
 slice-aggregate-write-all : tie.Need-slice-aggregate-write-all Inv-loop μ-loop
 slice-aggregate-write-all c = search needs
 
--- src/numbers.rt:44:5
 write-all-requires : tie.Need-write-all-requires Inv-loop μ-loop
 write-all-requires c κs = search needs
 
--- src/numbers.rt:45:5
 loop-holds : tie.Need-loop-holds Inv-loop μ-loop
 loop-holds c = search needs
 
--- src/numbers.rt:46:9
 number-at-requires : tie.Need-number-at-requires Inv-loop μ-loop
 number-at-requires c κs = search needs
 
--- src/numbers.rt:45:9
 add-place : tie.Need-add-place Inv-loop μ-loop
 add-place c = search needs
 
--- src/numbers.rt:45:5
 loop-less : tie.Need-loop-less Inv-loop μ-loop
 loop-less c = search needs
 
--- src/numbers.rt:45:5
 loop-again : tie.Need-loop-again Inv-loop μ-loop
 loop-again c = search needs
 
--- src/numbers.rt:48:22
 slice-aggregate-write-all-2 : tie.Need-slice-aggregate-write-all-2 Inv-loop μ-loop
 slice-aggregate-write-all-2 c = search needs
 
--- src/numbers.rt:48:5
 write-all-requires-2 : tie.Need-write-all-requires-2 Inv-loop μ-loop
 write-all-requires-2 c κs = search needs
 
--- src/numbers.rt:42:1
 returns : tie.Need-returns Inv-loop μ-loop
 returns c = search needs
 

@@ -1,0 +1,71 @@
+-- What the exported calls answer, and what they leave in every place of every lent table. Definitions only.
+use Prim.Native.Nat.{ℕ}
+use mathlib.Core.List.{List}
+use Rattle.polygon.specs.declared.Polygon.{Polygon}
+use Rattle.reader.specs.declared.Status.{Status}
+use Rattle.reader.specs.declared.Status.the-variants as status
+use Rattle.reader.specs.declared.Reading.{Reading}
+use Rattle.reader.specs.Reading.{readingOf, statusNumber}
+use Rattle.finder.specs.declared.Found.the-variants as found
+use Rattle.finder.specs.Finding.{Finding, finding, findCall, candidateCountOf, rowCountOf}
+use Rattle.finder.specs.Finding as finder
+use Rattle.triangulator.specs.declared.Outcome.{Outcome}
+use Rattle.triangulator.specs.Call.{Result, numberOf, trianglesOf, totalOf}
+use Rattle.pipeline.specs.Patching.{Tables, Patching}
+use Rattle.exports.specs.declared.PatchAnswer.{PatchAnswer}
+use Rattle.exports.specs.declared.ReadAnswer.{ReadAnswer}
+use Rattle.exports.specs.declared.FindAnswer.{FindAnswer}
+
+-- "this paper's number and values" of an outcome: its number, how many triangles, its total
+abbrev pub patchAnswerOf : Outcome → PatchAnswer
+patchAnswerOf o = record { number = numberOf o; triangles = trianglesOf o; total = totalOf o }
+
+-- the one call's answer, with the five tables after it
+pub record RimPatch : Type 0 where
+  pub answer : PatchAnswer
+  pub left : Tables
+
+abbrev pub rimPatch : PatchAnswer → Tables → RimPatch
+rimPatch answer left = record { answer = answer; left = left }
+
+abbrev pub rimPatchOf : Patching → RimPatch
+rimPatchOf p = rimPatch (patchAnswerOf (p .outcome)) (p .left)
+
+-- a direct job's answer, with the triangle and work tables after it
+pub record JobPatch : Type 0 where
+  pub answer : PatchAnswer
+  pub triangles : List ℕ
+  pub work : List ℕ
+
+abbrev pub jobPatch : PatchAnswer → List ℕ → List ℕ → JobPatch
+jobPatch answer triangles work = record { answer = answer; triangles = triangles; work = work }
+
+abbrev pub jobPatchOf : Result → JobPatch
+jobPatchOf r = jobPatch (patchAnswerOf (r .outcome)) (r .triangles) (r .work)
+
+-- the reader's number, and how many vertices: 0 in a refusal, whose polygon is the empty one
+abbrev pub readAnswerOf : Reading → ReadAnswer
+readAnswerOf r = record { number = statusNumber (r .status); vertices = r .polygon .n }
+
+-- a rim file's lists: 1 to 11 in the reader's order, then the finder; "Every number .. changes no table"
+abbrev pub findAfter : Status → Polygon → List (List ℕ) → List ℕ → List (List ℕ) → Finding
+findAfter (status.Refused number) p candidates weights rows = finding (found.Refused number) candidates weights rows
+findAfter status.Complete p candidates weights rows = findCall p candidates weights rows
+
+unfoldable pub findFile : List ℕ → List (List ℕ) → List ℕ → List (List ℕ) → Finding
+findFile file candidates weights rows = findAfter (readingOf file .status) (readingOf file .polygon) candidates weights rows
+
+-- the finder's answer as three numbers, with its three tables after it
+pub record RimLists : Type 0 where
+  pub answer : FindAnswer
+  pub candidates : List (List ℕ)
+  pub weights : List ℕ
+  pub rows : List (List ℕ)
+
+abbrev pub rimLists : FindAnswer → List (List ℕ) → List ℕ → List (List ℕ) → RimLists
+rimLists answer candidates weights rows = record { answer = answer; candidates = candidates; weights = weights; rows = rows }
+
+abbrev pub rimListsOf : Finding → RimLists
+rimListsOf f =
+    rimLists (record { number = finder.numberOf (f .answer); candidates = candidateCountOf (f .answer); rows = rowCountOf (f .answer) })
+    (f .candidates) (f .weights) (f .rows)
