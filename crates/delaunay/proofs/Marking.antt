@@ -60,7 +60,7 @@ module _ {p : Polygon} where
     }
 
     -- a four that counts, with no fifth vertex on its sphere
-    pub kept-mark : length marks ≡ 262144 → a < 64 → b < 64 → c < 64 → d < 64 → counts p a b c d ≡ true → some 0 (p .n) (isFifth p a b c d) ≡ false → Kept p marks₀ (withFaces marks a b c d) left₀ (λ P. left4 (p .n) P a b c (d + 1))
+    pub kept-mark : length marks ≡ 4096 → a < 64 → b < 64 → c < 64 → d < 64 → counts p a b c d ≡ true → some 0 (p .n) (isFifth p a b c d) ≡ false → Kept p marks₀ (withFaces marks a b c d) left₀ (λ P. left4 (p .n) P a b c (d + 1))
     kept-mark long ha hb hc hd e f = record {
       faces = λ x y z h i j.
           let L = left4 (p .n) (gives p x y z) a b c (d + 1) in

@@ -75,9 +75,9 @@ fn fifth_found(
 
 // Marks the faces of the fours that count; true, and what is marked then is of no use, where one of these has a fifth vertex on its sphere.
 // The vertex that dropped the last four is tried first.
-fn mark_candidates(p: Polygon, flags: &mut [u8; 262144]) -> bool
-    requires { ⌜ (Valid p) × (length (now flags) ≡ 262144) ⌝ }
-    ensures { λ r. ⌜ Marked p (now (flags .entry)) r (now (flags .exit)) ⌝ }
+fn mark_candidates(p: Polygon, masks: &mut [u64; 4096]) -> bool
+    requires { ⌜ (Valid p) × (length (now masks) ≡ 4096) ⌝ }
+    ensures { λ r. ⌜ Marked p (now (masks .entry)) r (now (masks .exit)) ⌝ }
 {
     let n = p.n;
     let mut last = 0;
@@ -107,7 +107,7 @@ fn mark_candidates(p: Polygon, flags: &mut [u8; 262144]) -> bool
                     if fifth {
                         return true;
                     }
-                    faces::insert_faces(flags, a, b, c, d);
+                    faces::insert_faces(masks, a, b, c, d);
                 }
             }
         }
@@ -121,9 +121,9 @@ pub fn list_candidates(p: Polygon, out: &mut [[u8; 3]]) -> Listed
     ensures { λ r. ⌜ (r ≡ answerOf p) × (now (out .exit) ≡ tableOf p (now (out .entry))) ⌝ }
 {
     let n = p.n;
-    let mut flags = [0u8; 262144];
-    if mark_candidates(p, &mut flags) {
+    let mut masks = [0u64; 4096];
+    if mark_candidates(p, &mut masks) {
         return Listed::Cospherical;
     }
-    Listed::Candidates(faces::list(&flags, n, out))
+    Listed::Candidates(faces::list(&masks, n, out))
 }

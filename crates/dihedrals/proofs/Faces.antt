@@ -1,32 +1,68 @@
 -- A candidate's face as it is computed. Assumes nothing.
 use mathlib.Core.Path.{_≡_, refl, sym, _∙_, ap, subst}
-use mathlib.Core.List.{List, [], _∷_}
-use Prim.Native.Nat.{ℕ, _+_, _≤_, _<_}
+use mathlib.Core.List.{List, [], _∷_, map}
+use Prim.Native.Nat.{ℕ, zero, suc, _≤_, _<_}
 use native.Mathlib.Omega.{arith}
 use lib.ListN.{length, getD}
-use lib.IntN.{ℤ}
+use Rattle.grid.specs.Point.{PointOnGrid}
 use Rattle.polygon.specs.declared.Polygon.{Polygon}
 use Rattle.polygon.specs.Polygon.{vertexAt, Valid}
 use Rattle.geometry.specs.declared.Vector.{Vector}
-use Rattle.geometry.specs.Vectors.{Within, dotOf}
-use Rattle.geometry.specs.Faces.{normalOf, lengthOf, bendOf, bendBetween, bendWeightOf}
-use Rattle.geometry.proofs.Faces.{normal-within}
+use Rattle.geometry.specs.Vectors.{Within}
+use Rattle.geometry.specs.Faces.{normalOf, lengthOf}
+use Rattle.geometry.proofs.Vectors.{within-as}
+use Rattle.geometry.proofs.Faces.{normal-within, length-bound}
 use Rattle.jobs.specs.Job.{entryAt, vertexA, vertexB, vertexC}
-use Rattle.dihedrals.specs.declared.Face.{Face}
-use Rattle.dihedrals.specs.Weights.{faceNormal, hingeWeight, rowAt}
-use Rattle.dihedrals.specs.Lists.{Corners, Solid, Measured, faceOf}
-
--- the steps of `face_of`, put together
-pub face-made : (p : Polygon) (t : List ℕ) {i j k m : ℕ} {n : Vector} → i ≡ vertexA t → j ≡ vertexB t → k ≡ vertexC t →
-    n ≡ normalOf (vertexAt (p .vertices) i) (vertexAt (p .vertices) j) (vertexAt (p .vertices) k) → m ≡ lengthOf n → _≡_ {A = Face} (record { normal = n; length = m }) (faceOf p t)
-face-made p t {i} {j} {k} {m} {n} ei ej ek en em =
-    let e : n ≡ faceNormal p t = en ∙ (λ h. normalOf (vertexAt (p .vertices) (ei h)) (vertexAt (p .vertices) (ej h)) (vertexAt (p .vertices) (ek h))) in
-    λ h. record { normal = e h; length = (em ∙ ap lengthOf e) h }
+use Rattle.dihedrals.specs.Weights.{faceNormal, faceWeight, lengthsOf, weightsOf}
+use Rattle.dihedrals.specs.Lists.{Corners, Solid, Measured}
 
 pub face-within : {p : Polygon} {t : List ℕ} → Valid p → Corners p t → Within 8000000 (faceNormal p t)
 face-within {p} {t} v c = normal-within (v .on-grid (vertexA t) (c .a<n)) (v .on-grid (vertexB t) (c .b<n)) (v .on-grid (vertexC t) (c .c<n))
 
--- a candidate's face is one whose bend can be computed
-pub face-measured : {p : Polygon} {candidates : List (List ℕ)} (s : Solid p candidates) (i : ℕ) → i < length candidates → {f : Face} → f ≡ faceOf p (entryAt candidates i) → Measured f
-face-measured {p} {candidates} s i h e =
-    subst (λ (f : Face). Measured f) (sym e) (record { within = face-within (s .valid) (s .corners i h); is = refl; above-0 = s .normals i h })
+-- the corners of a candidate t, read as numbers
+pub record Read (p : Polygon) (t : List ℕ) (a b c : ℕ) : Type 0 where
+  pub valid : Valid p
+  pub corners : Corners p t
+  pub a-is : a ≡ vertexA t
+  pub b-is : b ≡ vertexB t
+  pub c-is : c ≡ vertexC t
+
+module _ {p : Polygon} {t : List ℕ} {a b c : ℕ} (r : Read p t a b c) where
+  pub a<64 : a < 64
+  a<64 = omega (arith, r .a-is, r .corners .a<n, r .valid .most)
+
+  pub b<64 : b < 64
+  b<64 = omega (arith, r .b-is, r .corners .b<n, r .valid .most)
+
+  pub c<64 : c < 64
+  c<64 = omega (arith, r .c-is, r .corners .c<n, r .valid .most)
+
+  pub on-grid : (PointOnGrid (vertexAt (p .vertices) a)) × (PointOnGrid (vertexAt (p .vertices) b)) × (PointOnGrid (vertexAt (p .vertices) c))
+  on-grid = (r .valid .on-grid a (omega (arith, r .a-is, r .corners .a<n)), r .valid .on-grid b (omega (arith, r .b-is, r .corners .b<n)), r .valid .on-grid c (omega (arith, r .c-is, r .corners .c<n)))
+
+  -- the normal as it is computed
+  pub normal-is : {n : Vector} → n ≡ normalOf (vertexAt (p .vertices) a) (vertexAt (p .vertices) b) (vertexAt (p .vertices) c) → n ≡ faceNormal p t
+  normal-is e = e ∙ (λ h. normalOf (vertexAt (p .vertices) (r .a-is h)) (vertexAt (p .vertices) (r .b-is h)) (vertexAt (p .vertices) (r .c-is h)))
+
+map-at : {A B : Type 0} (f : A → B) (l : List A) (d : A) (e : B) (i : ℕ) → i < length l → getD (map f l) i e ≡ f (getD l i d)
+map-at f [] d e i h = absurd (omega arith)
+map-at f (x ∷ l) d e zero h = refl
+map-at f (x ∷ l) d e (suc i) h = map-at f l d e i (omega arith)
+
+pub length-at : (p : Polygon) (cs : List (List ℕ)) (i : ℕ) → i < length cs → getD (lengthsOf p cs) i 0 ≡ lengthOf (faceNormal p (entryAt cs i))
+length-at p cs i h = map-at (λ t. lengthOf (faceNormal p t)) cs [] 0 i h
+
+pub weight-at : (p : Polygon) (cs : List (List ℕ)) (i : ℕ) → i < length cs → getD (weightsOf p cs) i 0 ≡ faceWeight p (entryAt cs i)
+weight-at p cs i h = map-at (faceWeight p) cs [] 0 i h
+
+-- the bend with a candidate can be computed
+pub face-measured : {p : Polygon} {cs : List (List ℕ)} (s : Solid p cs) (i : ℕ) → i < length cs → {n : Vector} {m : ℕ} → n ≡ faceNormal p (entryAt cs i) → m ≡ lengthOf (faceNormal p (entryAt cs i)) → Measured n m
+face-measured {p} {cs} s i h {n} {m} en em = record {
+  within = within-as en (face-within (s .valid) (s .corners i h));
+  is = em ∙ ap lengthOf (sym en);
+  above-0 = subst (λ (k : ℕ). 0 < k) (sym em) (s .normals i h);
+}
+
+-- what is written can be lengths
+pub lengths-below : {p : Polygon} {cs : List (List ℕ)} → Solid p cs → (i : ℕ) → i < length cs → lengthOf (faceNormal p (entryAt cs i)) ≤ 13856406
+lengths-below s i h = length-bound (face-within (s .valid) (s .corners i h))

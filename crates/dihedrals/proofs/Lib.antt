@@ -1,2 +1,3 @@
-pub mod Appending
+pub mod Rows
 pub mod Faces
+pub mod Scaling

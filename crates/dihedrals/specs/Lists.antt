@@ -1,16 +1,15 @@
 -- What the functions here ask of a list of candidates, and say to each other. Definitions only.
-use mathlib.Core.List.{List, _++_}
+use mathlib.Core.List.{List}
 use mathlib.Core.Path.{_≡_}
-use Prim.Native.Nat.{ℕ, _<_}
-use lib.ListN.{length, take}
+use Prim.Native.Nat.{ℕ, _≤_, _<_}
+use lib.ListN.{length, getD}
 use Rattle.polygon.specs.declared.Polygon.{Polygon}
 use Rattle.polygon.specs.Polygon.{Valid}
+use Rattle.geometry.specs.declared.Vector.{Vector}
 use Rattle.geometry.specs.Vectors.{Within}
 use Rattle.geometry.specs.Faces.{lengthOf}
 use Rattle.jobs.specs.Job.{entryAt, vertexA, vertexB, vertexC}
-use Rattle.lists.specs.Lists.{filled}
 use Rattle.hinges.specs.Hinges.{Sorted}
-use Rattle.dihedrals.specs.declared.Face.{Face}
 use Rattle.dihedrals.specs.Weights.{faceNormal}
 
 -- a triple of the polygon's vertices
@@ -26,15 +25,12 @@ pub record Solid (p : Polygon) (candidates : List (List ℕ)) : Type 0 where
   pub corners : (i : ℕ) → i < length candidates → Corners p (entryAt candidates i)
   pub normals : (i : ℕ) → i < length candidates → 0 < lengthOf (faceNormal p (entryAt candidates i))
 
-abbrev pub faceOf : Polygon → List ℕ → Face
-faceOf p t = record { normal = faceNormal p t; length = lengthOf (faceNormal p t) }
+-- the first places hold numbers that can be lengths of normals
+pub record Lengths (count : ℕ) (lengths : List ℕ) : Type 0 where
+  pub below : (i : ℕ) → i < count → getD lengths i 0 ≤ 13856406
 
--- a table whose first n places stay, and l after them
-abbrev pub appended : {A : Type 0} → List A → ℕ → List A → List A
-appended t n l = filled (take n t ++ l) t
-
--- a face whose length is that of its normal and not 0
-pub record Measured (f : Face) : Type 0 where
-  pub within : Within 8000000 (f .normal)
-  pub is : f .length ≡ lengthOf (f .normal)
-  pub above-0 : 0 < f .length
+-- a normal whose length m is not 0
+pub record Measured (normal : Vector) (m : ℕ) : Type 0 where
+  pub within : Within 8000000 normal
+  pub is : m ≡ lengthOf normal
+  pub above-0 : 0 < m

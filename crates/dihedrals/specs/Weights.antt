@@ -17,6 +17,10 @@ faceNormal p t = normalOf (vertexAt (p .vertices) (vertexA t)) (vertexAt (p .ver
 abbrev pub faceWeight : Polygon → List ℕ → ℕ
 faceWeight p t = areaWeightOf (p .«area_factor») (lengthOf (faceNormal p t))
 
+-- "Its length m"
+abbrev pub lengthsOf : Polygon → List (List ℕ) → List ℕ
+lengthsOf p candidates = map (λ t. lengthOf (faceNormal p t)) candidates
+
 abbrev pub weightsOf : Polygon → List (List ℕ) → List ℕ
 weightsOf p candidates = map (faceWeight p) candidates
 

@@ -13,7 +13,8 @@ use Rattle.lists.specs.Lists.{over, upFrom, when, both, either}
 use Rattle.lists.proofs.Choice.{Truth, holds, fails, truth, true-not-false, both-left, both-right, both-true, either-left, not-true-false}
 use Rattle.lists.proofs.Ranges.{up-bound, when-bound}
 use Rattle.faces.proofs.Bools.{either-assoc}
-use Rattle.faces.specs.Faces.{sameTriple, isFace, flagAt, has, withFaces, triple, triplesOf}
+use Rattle.faces.proofs.Masks.{bit-set, bit-none}
+use Rattle.faces.specs.Faces.{sameTriple, isFace, pairAt, withVertex, hasVertex, has, withTriple, withFaces, triple, triplesOf}
 
 -- all numbers of a triple are those of vertices
 pub record Vertices (a b c : ℕ) : Type 0 where
@@ -21,15 +22,8 @@ pub record Vertices (a b c : ℕ) : Type 0 where
   pub second : b < 64
   pub third : c < 64
 
-same-flag : {a b c x y z : ℕ} → Vertices a b c → Vertices x y z → flagAt x y z ≡ flagAt a b c → (a ≡ x) × (b ≡ y) × (c ≡ z)
-same-flag h k e =
-    let p = h .first in
-    let q = k .first in
-    let r = h .second in
-    let s = k .second in
-    let t = h .third in
-    let u = k .third in
-    (omega arith, omega arith, omega arith)
+same-pair : {a b x y : ℕ} → a < 64 → b < 64 → x < 64 → y < 64 → pairAt x y ≡ pairAt a b → (a ≡ x) × (b ≡ y)
+same-pair ha hb hx hy e = (omega arith, omega arith)
 
 pub same-triple : {a b c x y z : ℕ} → (a ≡ x) × (b ≡ y) × (c ≡ z) → sameTriple a b c x y z ≡ true
 same-triple {a} {b} {c} {x} {y} {z} e = both-true (eq-eqb a x (e .0)) (both-true (eq-eqb b y (e .1)) (eq-eqb c z (e .2)))
@@ -39,64 +33,61 @@ triple-same {a} {b} {c} {x} {y} {z} e =
     let t = both-right (eqb a x) (both (eqb b y) (eqb c z)) e in
     (eqb-true a x (both-left (eqb a x) (both (eqb b y) (eqb c z)) e), eqb-true b y (both-left (eqb b y) (eqb c z) t), eqb-true c z (both-right (eqb b y) (eqb c z) t))
 
-flag-of : {a b c x y z : ℕ} → (a ≡ x) × (b ≡ y) × (c ≡ z) → flagAt x y z ≡ flagAt a b c
-flag-of e = omega (arith, e .0, e .1, e .2)
-
 -- a triple put in
-put-in : (flags : List ℕ) {a b c x y z : ℕ} → length flags ≡ 262144 → Vertices a b c → Vertices x y z →
-    has (set flags (flagAt a b c) 1) x y z ≡ either (sameTriple a b c x y z) (has flags x y z)
+put-in : (masks : List ℕ) {a b x y z : ℕ} (c : ℕ) → length masks ≡ 4096 → a < 64 → b < 64 → Vertices x y z →
+    has (withTriple masks a b c) x y z ≡ either (sameTriple a b c x y z) (has masks x y z)
 unfolding has
-put-in flags {a} {b} {c} {x} {y} {z} l h k = go (truth (eqb (flagAt x y z) (flagAt a b c)))
+put-in masks {a} {b} {x} {y} {z} c l ha hb k = go (truth (eqb (pairAt x y) (pairAt a b)))
   where
-    go : Truth (eqb (flagAt x y z) (flagAt a b c)) → eqb (getD (set flags (flagAt a b c) 1) (flagAt x y z) 0) 1 ≡ either (sameTriple a b c x y z) (eqb (getD flags (flagAt x y z) 0) 1)
+    go : Truth (eqb (pairAt x y) (pairAt a b)) → hasVertex (getD (withTriple masks a b c) (pairAt x y) 0) z ≡ either (sameTriple a b c x y z) (hasVertex (getD masks (pairAt x y) 0) z)
     go (holds e) =
-        let f : flagAt x y z ≡ flagAt a b c = eqb-true (flagAt x y z) (flagAt a b c) e in
-        let p = h .first in
-        let q = h .second in
-        let r = h .third in
-        ap (λ (i : ℕ). eqb (getD (set flags (flagAt a b c) 1) i 0) 1) f
-        ∙ ap (λ (v : ℕ). eqb v 1) (getD-set-same flags (flagAt a b c) 1 0 (omega arith))
-        ∙ sym (either-left (sameTriple a b c x y z) _ (same-triple (same-flag h k f)))
+        let f : pairAt x y ≡ pairAt a b = eqb-true (pairAt x y) (pairAt a b) e in
+        let s = same-pair ha hb (k .first) (k .second) f in
+        let v = getD masks (pairAt a b) 0 in
+        ap (λ (i : ℕ). hasVertex (getD (withTriple masks a b c) i 0) z) f
+        ∙ ap (λ (m : ℕ). hasVertex m z) (getD-set-same masks (pairAt a b) (withVertex v c) 0 (omega arith))
+        ∙ bit-set v c z
+        ∙ sym (λ i. either (both (eq-eqb a x (s .0) i) (both (eq-eqb b y (s .1) i) (eqb c z))) (hasVertex v z))
+        ∙ ap (λ (i : ℕ). either (sameTriple a b c x y z) (hasVertex (getD masks i 0) z)) (sym f)
     go (fails e) =
-        ap (λ (v : ℕ). eqb v 1) (getD-set-other flags (flagAt a b c) (flagAt x y z) 1 0 (eqb-false (flagAt x y z) (flagAt a b c) e))
-        ∙ ap (λ (t : Bool). either t (eqb (getD flags (flagAt x y z) 0) 1)) (sym (not-true-false (sameTriple a b c x y z) (λ s. eqb-false (flagAt x y z) (flagAt a b c) e (flag-of (triple-same s)))))
+        ap (λ (m : ℕ). hasVertex m z) (getD-set-other masks (pairAt a b) (pairAt x y) (withVertex (getD masks (pairAt a b) 0) c) 0 (eqb-false (pairAt x y) (pairAt a b) e))
+        ∙ ap (λ (t : Bool). either t (hasVertex (getD masks (pairAt x y) 0) z)) (sym (not-true-false (sameTriple a b c x y z) (λ s. let t = triple-same {a = a} {b = b} {c = c} {x = x} {y = y} {z = z} s in eqb-false (pairAt x y) (pairAt a b) e (omega (arith, t .0, t .1)))))
 
-module _ (flags : List ℕ) {a b c d x y z : ℕ} (long : length flags ≡ 262144) (ha : a < 64) (hb : b < 64) (hc : c < 64) (hd : d < 64) (k : Vertices x y z) where
+module _ (masks : List ℕ) {a b c d x y z : ℕ} (long : length masks ≡ 4096) (ha : a < 64) (hb : b < 64) (hc : c < 64) (hd : d < 64) (k : Vertices x y z) where
   -- the faces of a four put in
-  pub faces-in : has (withFaces flags a b c d) x y z ≡ either (isFace a b c d x y z) (has flags x y z)
+  pub faces-in : has (withFaces masks a b c d) x y z ≡ either (isFace a b c d x y z) (has masks x y z)
   unfolding isFace
   faces-in =
-      let f1 = set flags (flagAt b c d) 1 in
-      let f2 = set f1 (flagAt a c d) 1 in
-      let f3 = set f2 (flagAt a b d) 1 in
-      let l1 : length f1 ≡ 262144 = length-set flags _ 1 ∙ long in
-      let l2 : length f2 ≡ 262144 = length-set f1 _ 1 ∙ l1 in
-      let l3 : length f3 ≡ 262144 = length-set f2 _ 1 ∙ l2 in
-      put-in f3 l3 (record { first = ha; second = hb; third = hc }) k
+      let f1 = withTriple masks b c d in
+      let f2 = withTriple f1 a c d in
+      let f3 = withTriple f2 a b d in
+      let l1 : length f1 ≡ 4096 = length-set masks _ _ ∙ long in
+      let l2 : length f2 ≡ 4096 = length-set f1 _ _ ∙ l1 in
+      let l3 : length f3 ≡ 4096 = length-set f2 _ _ ∙ l2 in
+      put-in f3 c l3 ha hb k
       ∙ ap (λ (t : Bool). either (sameTriple a b c x y z) t)
-      (put-in f2 l2 (record { first = ha; second = hb; third = hd }) k
+      (put-in f2 d l2 ha hb k
       ∙ ap (λ (t : Bool). either (sameTriple a b d x y z) t)
-      (put-in f1 l1 (record { first = ha; second = hc; third = hd }) k
-      ∙ ap (λ (t : Bool). either (sameTriple a c d x y z) t) (put-in flags long (record { first = hb; second = hc; third = hd }) k)
-      ∙ either-assoc (sameTriple a c d x y z) (sameTriple b c d x y z) (has flags x y z))
-      ∙ either-assoc (sameTriple a b d x y z) (either (sameTriple a c d x y z) (sameTriple b c d x y z)) (has flags x y z))
-      ∙ either-assoc (sameTriple a b c x y z) (either (sameTriple a b d x y z) (either (sameTriple a c d x y z) (sameTriple b c d x y z))) (has flags x y z)
+      (put-in f1 d l1 ha hc k
+      ∙ ap (λ (t : Bool). either (sameTriple a c d x y z) t) (put-in masks d long hb hc k)
+      ∙ either-assoc (sameTriple a c d x y z) (sameTriple b c d x y z) (has masks x y z))
+      ∙ either-assoc (sameTriple a b d x y z) (either (sameTriple a c d x y z) (sameTriple b c d x y z)) (has masks x y z))
+      ∙ either-assoc (sameTriple a b c x y z) (either (sameTriple a b d x y z) (either (sameTriple a c d x y z) (sameTriple b c d x y z))) (has masks x y z)
 
-pub faces-long : (flags : List ℕ) (a b c d : ℕ) → length (withFaces flags a b c d) ≡ length flags
-faces-long flags a b c d =
-    let f1 = set flags (flagAt b c d) 1 in
-    let f2 = set f1 (flagAt a c d) 1 in
-    let f3 = set f2 (flagAt a b d) 1 in
-    length-set f3 (flagAt a b c) 1 ∙ length-set f2 (flagAt a b d) 1 ∙ length-set f1 (flagAt a c d) 1 ∙ length-set flags (flagAt b c d) 1
+pub faces-long : (masks : List ℕ) (a b c d : ℕ) → length (withFaces masks a b c d) ≡ length masks
+faces-long masks a b c d =
+    let f1 = withTriple masks b c d in
+    let f2 = withTriple f1 a c d in
+    let f3 = withTriple f2 a b d in
+    length-set f3 _ _ ∙ length-set f2 _ _ ∙ length-set f1 _ _ ∙ length-set masks _ _
 
 -- the set that is empty
-pub none-in : (m : ℕ) {x y z : ℕ} → 262144 ≤ m → Vertices x y z → has (replicate m 0) x y z ≡ false
+pub none-in : (m : ℕ) {x y z : ℕ} → 4096 ≤ m → Vertices x y z → has (replicate m 0) x y z ≡ false
 unfolding has
 none-in m {x} {y} {z} h k =
     let p = k .first in
     let q = k .second in
-    let r = k .third in
-    ap (λ (v : ℕ). eqb v 1) (getD-replicate m (flagAt x y z) 0 0 (omega arith))
+    ap (λ (v : ℕ). hasVertex v z) (getD-replicate m (pairAt x y) 0 0 (omega arith)) ∙ bit-none z
 
 -- f's sum over lo, .. , lo + k - 1
 unfoldable sumFrom : (ℕ → ℕ) → ℕ → ℕ → ℕ

@@ -1,7 +1,8 @@
 -- Sets of triangles over at most 64 vertices, and the list of one in ascending order. Definitions only.
 use mathlib.Core.Bool.{Bool}
 use mathlib.Core.List.{List, [], _∷_}
-use Prim.Native.Nat.{ℕ, _+_, _*_}
+use Prim.Native.Nat.{ℕ, _+_, _*_, _/_, _%_, _^_}
+use lib.Bits.{bitOr}
 use lib.Dec.{eqb}
 use lib.ListN.{getD, set}
 use Rattle.lists.specs.Lists.{over, when, both, either, some}
@@ -24,16 +25,28 @@ triplesOf n P = over 0 n (λ a. over (a + 1) n (λ b. over (b + 1) n (λ c. when
 abbrev pub someFour : ℕ → (ℕ → ℕ → ℕ → ℕ → Bool) → Bool
 someFour n P = some 0 n (λ a. some (a + 1) n (λ b. some (b + 1) n (λ c. some (c + 1) n (λ d. P a b c d))))
 
--- ---- the table of flags
+-- ---- the table of masks
 
--- the place of a triple's flag
-abbrev pub flagAt : ℕ → ℕ → ℕ → ℕ
-flagAt a b c = (a * 64 + b) * 64 + c
+-- the place of a pair's mask
+abbrev pub pairAt : ℕ → ℕ → ℕ
+pairAt a b = a * 64 + b
+
+-- bit c of a mask is set
+abbrev pub withVertex : ℕ → ℕ → ℕ
+withVertex mask c = bitOr mask (2 ^ c)
+
+-- bit c of a mask
+abbrev pub hasVertex : ℕ → ℕ → Bool
+hasVertex mask c = eqb (mask / 2 ^ c % 2) 1
 
 -- the triple is in the set
 unfoldable pub has : List ℕ → ℕ → ℕ → ℕ → Bool
-has flags a b c = eqb (getD flags (flagAt a b c) 0) 1
+has masks a b c = hasVertex (getD masks (pairAt a b) 0) c
+
+-- a triple put in
+abbrev pub withTriple : List ℕ → ℕ → ℕ → ℕ → List ℕ
+withTriple masks a b c = set masks (pairAt a b) (withVertex (getD masks (pairAt a b) 0) c)
 
 -- the faces of (a, b, c, d) put in
 abbrev pub withFaces : List ℕ → ℕ → ℕ → ℕ → ℕ → List ℕ
-withFaces flags a b c d = set (set (set (set flags (flagAt b c d) 1) (flagAt a c d) 1) (flagAt a b d) 1) (flagAt a b c) 1
+withFaces masks a b c d = withTriple (withTriple (withTriple (withTriple masks b c d) a c d) a b d) a b c

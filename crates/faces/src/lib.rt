@@ -1,56 +1,69 @@
-// A set of triangles over at most 64 vertices, as a table of flags.
+// A set of triangles (a, b, c) over at most 64 vertices: a mask of the vertices c for each pair (a, b).
 ghost use mathlib.Core.Path.{_≡_};
-ghost use Prim.Native.Nat.{_<_, _≤_};
+ghost use mathlib.Core.Bool.{Bool};
+ghost use Prim.Native.Nat.{_+_, _*_, _/_, _%_, _^_, _<_, _≤_};
+ghost use lib.Bits.{bitOr};
+ghost use lib.Dec.{eqb};
 ghost use lib.ListN.{length};
 ghost use Rattle.lists.specs.Lists.{filled};
-ghost use Rattle.faces.specs.Faces.{flagAt, has, withFaces, triplesOf};
-
-// A flag for each triple of vertices.
-pub const FLAGS: usize = 262144;
+ghost use Rattle.faces.specs.Faces.{pairAt, withVertex, hasVertex, has, withFaces, triplesOf};
 
 // No more candidates than triples of 64 vertices.
 pub const TRIPLES: usize = 41664;
 
-fn flag_index(a: usize, b: usize, c: usize) -> usize
-    requires { ⌜ (a < 64) × (b < 64) × (c < 64) ⌝ }
-    ensures { λ r. ⌜ r ≡ flagAt a b c ⌝ }
+fn pair_index(a: usize, b: usize) -> usize
+    requires { ⌜ (a < 64) × (b < 64) ⌝ }
+    ensures { λ r. ⌜ r ≡ pairAt a b ⌝ }
 {
-    (a * 64 + b) * 64 + c
+    a * 64 + b
+}
+
+fn with_vertex(mask: u64, c: usize) -> u64
+    requires { ⌜ c < 64 ⌝ }
+    ensures { λ r. ⌜ r ≡ withVertex mask c ⌝ }
+{
+    mask | (1 << c)
+}
+
+fn has_vertex(mask: u64, c: usize) -> bool
+    requires { ⌜ c < 64 ⌝ }
+    ensures { λ r. ⌜ r ≡ hasVertex mask c ⌝ }
+{
+    (mask >> c) % 2 == 1
 }
 
 // Inserts the four faces of a tetrahedron.
-pub fn insert_faces(flags: &mut [u8; 262144], a: usize, b: usize, c: usize, d: usize)
+pub fn insert_faces(masks: &mut [u64; 4096], a: usize, b: usize, c: usize, d: usize)
     requires { ⌜ (a < 64) × (b < 64) × (c < 64) × (d < 64) ⌝ }
-    ensures { λ _. ⌜ now (flags .exit) ≡ withFaces (now (flags .entry)) a b c d ⌝ }
+    ensures { λ _. ⌜ now (masks .exit) ≡ withFaces (now (masks .entry)) a b c d ⌝ }
 {
-    let abc = flag_index(a, b, c);
-    let abd = flag_index(a, b, d);
-    let acd = flag_index(a, c, d);
-    let bcd = flag_index(b, c, d);
-    flags[bcd] = 1;
-    flags[acd] = 1;
-    flags[abd] = 1;
-    flags[abc] = 1;
+    let ab = pair_index(a, b);
+    let ac = pair_index(a, c);
+    let bc = pair_index(b, c);
+    masks[bc] = with_vertex(masks[bc], d);
+    masks[ac] = with_vertex(masks[ac], d);
+    masks[ab] = with_vertex(masks[ab], d);
+    masks[ab] = with_vertex(masks[ab], c);
 }
 
-fn contains(flags: &[u8; 262144], a: usize, b: usize, c: usize) -> bool
+fn contains(masks: &[u64; 4096], a: usize, b: usize, c: usize) -> bool
     requires { ⌜ (a < 64) × (b < 64) × (c < 64) ⌝ }
-    ensures { λ r. ⌜ r ≡ has (now (flags .entry)) a b c ⌝ }
+    ensures { λ r. ⌜ r ≡ has (now (masks .entry)) a b c ⌝ }
 {
-    let index = flag_index(a, b, c);
-    flags[index] == 1
+    let index = pair_index(a, b);
+    has_vertex(masks[index], c)
 }
 
 // The triangles of the set on the first n vertices, in ascending order.
-pub fn list(flags: &[u8; 262144], n: usize, out: &mut [[u8; 3]]) -> usize
-    requires { ⌜ (n ≤ 64) × (length (triplesOf n (has (now flags))) ≤ length (now out)) ⌝ }
-    ensures { λ r. ⌜ (r ≡ length (triplesOf n (has (now (flags .entry))))) × (now (out .exit) ≡ filled (triplesOf n (has (now (flags .entry)))) (now (out .entry))) ⌝ }
+pub fn list(masks: &[u64; 4096], n: usize, out: &mut [[u8; 3]]) -> usize
+    requires { ⌜ (n ≤ 64) × (length (triplesOf n (has (now masks))) ≤ length (now out)) ⌝ }
+    ensures { λ r. ⌜ (r ≡ length (triplesOf n (has (now (masks .entry))))) × (now (out .exit) ≡ filled (triplesOf n (has (now (masks .entry)))) (now (out .entry))) ⌝ }
 {
     let mut count = 0;
     for a in 0..n {
         for b in a + 1..n {
             for c in b + 1..n {
-                if contains(flags, a, b, c) {
+                if contains(masks, a, b, c) {
                     out[count] = [a as u8, b as u8, c as u8];
                     count += 1;
                 }

@@ -20,7 +20,7 @@ use Rattle.lists.specs.Lists.{over, when}
 use Rattle.faces.proofs.Members.{Ascending, over-member, over-put, when-member, when-put, over-ascending, when-ascending, ascending-at, entry-member}
 use Rattle.delaunay.specs.Candidates.{isCandidate, candidatesOf}
 use Rattle.dihedrals.specs.Weights.{faceNormal, faceWeight, weightsOf, hingeWeight, rowAt, rowsOn, rowsOf}
-use Rattle.dihedrals.proofs.Faces.{face-within}
+use Rattle.dihedrals.proofs.Faces.{face-within, weight-at}
 use Rattle.finder.proofs.Candidates.{triples-ascend, candidate-at, candidates-solid}
 
 -- ---- rows, of any list of candidates
@@ -80,11 +80,6 @@ module _ (p : Polygon) (cs : List (List ℕ)) where
   }
 
 -- ---- the candidates of a valid polygon, and the weights
-map-at : {A B : Type 0} (f : A → B) (l : List A) (d : A) (e : B) (i : ℕ) → i < length l → getD (map f l) i e ≡ f (getD l i d)
-map-at f [] d e i h = absurd (omega arith)
-map-at f (x ∷ l) d e zero h = refl
-map-at f (x ∷ l) d e (suc i) h = map-at f l d e i (omega arith)
-
 module _ (p : Polygon) (v : Valid p) where
   pub candidates-in-order : lists.Candidates (p .n) (candidatesOf p)
   candidates-in-order = record {
@@ -96,12 +91,9 @@ module _ (p : Polygon) (v : Valid p) where
     ascending = λ i j h k. ascending-at [] (triples-ascend (p .n) (isCandidate p)) i j h k;
   }
 
-  pub weight-at : (i : ℕ) → i < length (candidatesOf p) → getD (weightsOf p (candidatesOf p)) i 0 ≡ faceWeight p (entryAt (candidatesOf p) i)
-  weight-at i h = map-at (faceWeight p) (candidatesOf p) [] 0 i h
-
   pub weights-allowed : lists.Weights (candidatesOf p) (weightsOf p (candidatesOf p)) (rowsOf p (candidatesOf p))
   weights-allowed = record {
-    own = λ i h. subst (λ (w : ℕ). w ≤ 2000000000) (sym (weight-at i h)) (le-trans (area-weight-bound (v .area-factor) (length-bound (face-within v (candidates-solid p v .corners i h)))) (lit≤ tt));
+    own = λ i h. subst (λ (w : ℕ). w ≤ 2000000000) (sym (weight-at p (candidatesOf p) i h)) (le-trans (area-weight-bound (v .area-factor) (length-bound (face-within v (candidates-solid p v .corners i h)))) (lit≤ tt));
     of-row = λ k h. let f = row-hinge p (candidatesOf p) (entryAt (rowsOf p (candidatesOf p)) k) (entry-member (rowsOf p (candidatesOf p)) [] k h) in
         subst (λ (w : ℕ). w ≤ 2000000000) (sym (ap rowWeight (f .is))) (le-trans (bend-weight-bound (v .bend-factor) (bend-bound (dotOf (faceNormal p (entryAt (candidatesOf p) (f .i))) (faceNormal p (entryAt (candidatesOf p) (f .o)))) (lengthOf (faceNormal p (entryAt (candidatesOf p) (f .i)))) (lengthOf (faceNormal p (entryAt (candidatesOf p) (f .o)))))) (lit≤ tt));
   }

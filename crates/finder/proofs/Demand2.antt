@@ -22,8 +22,9 @@ use Rattle.faces.proofs.Fours.{Four, four-found, four-here}
 use Rattle.faces.proofs.Members.{entry-member, member-entry, triples-member, triples-put}
 use Rattle.delaunay.specs.Candidates.{vertex, insideFour, counts, isCandidate, candidatesOf}
 use Rattle.dihedrals.specs.Weights.{faceWeight, weightsOf, hingeWeight, rowAt, rowsOf}
+use Rattle.dihedrals.proofs.Faces.{weight-at}
 use Rattle.finder.specs.Demand2.{Counts, Face, abc, abd, acd, bcd, IsRow, Demand2, Flat}
-use Rattle.finder.proofs.Accepted.{row-hinge, hinge-row, rows-in-order, candidates-in-order, weight-at, weights-allowed}
+use Rattle.finder.proofs.Accepted.{row-hinge, hinge-row, rows-in-order, candidates-in-order, weights-allowed}
 
 -- ---- four vertices that count, as a test and as a statement
 module _ (p : Polygon) (a b c d : ℕ) where
@@ -111,7 +112,7 @@ module _ (p : Polygon) (v : Valid p) where
     faces = λ t m. listed-face p t m;
     ascending = λ i j h k. true-before (entryAt cs i) (entryAt cs j) (candidates-in-order p v .ascending i j h k);
     weight-count = length-map cs (faceWeight p);
-    weight = λ i h. weight-at p v i h;
+    weight = λ i h. weight-at p cs i h;
     hinge = λ k h. true-hangs (entryAt cs (inner (entryAt rows k))) (entryAt cs (outer (entryAt rows k))) (rows-in-order p cs .named k h .hanging);
     hinge-outer = λ k h. rows-in-order p cs .named k h .outer-is;
     hinge-inner = λ k h. rows-in-order p cs .named k h .inner-is;

@@ -65,7 +65,8 @@ fn copy(from: &[[u8; 3]], to: &mut [[u8; 3]])
     }
 }
 
-// 13, or the lists of candidates that were found. All tables are tested before one is written.
+// 13, or the lists of candidates that were found. All tables are tested before one is written. The weight table holds the lengths of the normals
+// until the rows are made.
 fn fill(
     p: Polygon,
     found: &[[u8; 3]],
@@ -79,7 +80,8 @@ fn fill(
     ensures { λ r. ⌜ finding r (now (candidates .exit)) (now (weights .exit)) (now (rows .exit)) ≡ fillOr13 p (now (found .entry)) «triangle_places» «work_places» (now (candidates .entry)) (now (weights .entry)) (now (rows .entry)) ⌝ }
 {
     let count = found.len();
-    let row_count = hinges::count_rows(found);
+    let starts = hinges::block_starts(found);
+    let row_count = hinges::count_rows(found, &starts);
     let n = p.n;
     if triangle_places < n - 2 {
         return Found::Refused(codes::TABLE_TOO_SHORT);
@@ -97,8 +99,10 @@ fn fill(
         return Found::Refused(codes::TABLE_TOO_SHORT);
     }
     copy(found, candidates);
-    dihedrals::write_weights(p, found, weights);
-    dihedrals::write_rows(p, found, rows);
+    dihedrals::write_lengths(p, found, weights);
+    dihedrals::write_rows(p, found, &starts, &weights[..count], rows);
+    let factor = p.area_factor;
+    dihedrals::scale_lengths(factor, weights, count);
     Found::Lists {
         candidates: count,
         rows: row_count,

@@ -5,15 +5,17 @@ use mathlib.Core.List.{List, [], _∷_, _++_, append-assoc, append-nil}
 use Prim.Native.Nat.{ℕ, zero, suc, _+_, _*_, _-_, _≤_, _<_}
 use native.Mathlib.Nat.{le-trans}
 use native.Mathlib.Omega.{arith}
-use borrow.Author.Tests.{eq-eqb, ne-eqb}
-use lib.Dec.{eqb}
-use lib.ListN.{length, length-append}
+use borrow.Author.Tests.{eq-eqb, ne-eqb, ltb-true, ltb-false}
+use lib.Dec.{eqb, ltb}
+use lib.ListN.{length, getD, set, length-append, length-set}
+use lib.Seq.{getD-set-same, getD-set-other}
 use Rattle.lists.specs.Lists.{over, upFrom, when, both, either}
+use Rattle.lists.proofs.Choice.{Truth, holds, fails, truth}
 use Rattle.lists.proofs.Ranges.{up-bound, when-bound}
 use Rattle.faces.proofs.Bools.{either-no}
 use Rattle.faces.proofs.Sets.{over-same}
-use Rattle.jobs.specs.Job.{entryAt, vertexA, vertexB, vertexC, hangs}
-use Rattle.hinges.specs.Hinges.{innersOn, innersOf, endingIn, Sorted, BlockStart}
+use Rattle.jobs.specs.Job.{entryAt, vertexA, vertexB, vertexC, sameEdge, hangs}
+use Rattle.hinges.specs.Hinges.{innersOn, innersAt, innersOf, endingIn, Sorted, BlockStart}
 
 module _ {A : Type 0} where
   up-split : (f : ℕ → List A) (lo j k : ℕ) → upFrom f lo (j + k) ≡ upFrom f lo j ++ upFrom f (lo + j) k
@@ -117,6 +119,27 @@ module _ (cs : List (List ℕ)) (o la ha lb hb : ℕ)
   pub two-counts : length (innersOn cs o) ≡ length (endingIn cs la ha (vertexB (entryAt cs o))) + length (endingIn cs lb hb (vertexC (entryAt cs o)))
   two-counts = ap length two-blocks ∙ length-append (endingIn cs la ha (vertexB (entryAt cs o))) (endingIn cs lb hb (vertexC (entryAt cs o)))
 
+-- the candidates on one edge of o stand in one block
+module _ (cs : List (List ℕ)) (o e lo hi : ℕ) (s : BlockStart cs (getD (entryAt cs o) e 0) lo) (t : BlockStart cs (getD (entryAt cs o) e 0 + 1) hi) where
+  abbrev on-edge : ℕ → List ℕ
+  on-edge i = when (sameEdge (vertexA (entryAt cs i)) (vertexC (entryAt cs i)) (getD (entryAt cs o) e 0) (getD (entryAt cs o) (e + 1) 0)) i
+
+  other-edge : (i : ℕ) → (vertexA (entryAt cs i) ≡ getD (entryAt cs o) e 0 → ⊥) → on-edge i ≡ []
+  other-edge i h = ap (λ (b : Bool). when (both b (eqb (vertexC (entryAt cs i)) (getD (entryAt cs o) (e + 1) 0))) i) (ne-eqb (vertexA (entryAt cs i)) (getD (entryAt cs o) e 0) h)
+
+  pub edge-block : innersAt cs o e ≡ endingIn cs lo hi (getD (entryAt cs o) (e + 1) 0)
+  edge-block =
+      let n = length cs in
+      let order : lo ≤ hi = start-order cs s t (omega arith) in
+      let before : over 0 lo on-edge ≡ [] = over-empty on-edge 0 lo (λ i l m. let u = s .below i m in other-edge i (λ z. omega (arith, u))) in
+      let after : over hi n on-edge ≡ [] = over-empty on-edge hi n (λ i l m. let u = t .above i l m in other-edge i (λ z. omega (arith, u))) in
+      let inside : over lo hi on-edge ≡ endingIn cs lo hi (getD (entryAt cs o) (e + 1) 0) = over-same lo hi on-edge _ (λ i l m. let u = s .above i l (omega (arith, t .within)) in let v = t .below i m in ap (λ (b : Bool). when (both b (eqb (vertexC (entryAt cs i)) (getD (entryAt cs o) (e + 1) 0))) i) (eq-eqb (vertexA (entryAt cs i)) (getD (entryAt cs o) e 0) (omega (arith, u, v)))) in
+      over-split on-edge 0 lo n (omega arith) (s .within)
+      ∙ (λ i. before i ++ over lo n on-edge)
+      ∙ over-split on-edge lo hi n order (t .within)
+      ∙ (λ i. inside i ++ after i)
+      ∙ append-nil (endingIn cs lo hi (getD (entryAt cs o) (e + 1) 0))
+
 -- how many hinges there can be
 module _ (cs : List (List ℕ)) where
   pub inners-bound : (o : ℕ) → length (innersOn cs o) ≤ length cs
@@ -157,3 +180,44 @@ module _ (cs : List (List ℕ)) (k : ℕ) where
 
   pub search-end : (low high : ℕ) → high ≤ low → Search cs k low high → BlockStart cs k low
   search-end low high h f = record { within = omega (arith, f .order-of, f .within); below = f .below; above = λ i m n. f .above i (omega arith) n }
+
+-- there is a block's start
+pub record Start (cs : List (List ℕ)) (k : ℕ) : Type 0 where
+  pub at : ℕ
+  pub is : BlockStart cs k at
+
+module _ (cs : List (List ℕ)) (s : Sorted cs) (k : ℕ) where
+  start-from : (d low : ℕ) → length cs - low ≡ d → Search cs k low (length cs) → Start cs k
+  start-from zero low e f = record { at = low; is = search-end cs k low (length cs) (omega (arith, f .order-of)) f }
+  start-from (suc d) low e f = go (λ g. start-from d (low + 1) (omega arith) g) (truth (ltb (vertexA (entryAt cs low)) k))
+    where
+      go : (Search cs k (low + 1) (length cs) → Start cs k) → Truth (ltb (vertexA (entryAt cs low)) k) → Start cs k
+      go next (holds h) = next (search-up cs k s low low (length cs) f (omega arith) (omega arith) (ltb-true (vertexA (entryAt cs low)) k h))
+      go next (fails h) = record { at = low; is = search-end cs k low low (omega arith) (search-down cs k s low low (length cs) f (omega arith) (omega arith) (ltb-false (vertexA (entryAt cs low)) k h)) }
+
+  pub start-of : Start cs k
+  start-of = start-from (length cs - 0) 0 refl (search-start cs k)
+
+-- the candidates that hang on o are those on its two edges
+pub two-edges : (cs : List (List ℕ)) → Sorted cs → (o : ℕ) → o < length cs → innersOn cs o ≡ innersAt cs o 0 ++ innersAt cs o 1
+two-edges cs s o h =
+    let la = start-of cs s (vertexA (entryAt cs o)) in
+    let ha = start-of cs s (vertexA (entryAt cs o) + 1) in
+    let lb = start-of cs s (vertexB (entryAt cs o)) in
+    let hb = start-of cs s (vertexB (entryAt cs o) + 1) in
+    two-blocks cs o (la .at) (ha .at) (lb .at) (hb .at) (s .a<b o h) (la .is) (ha .is) (lb .is) (hb .is)
+    ∙ sym (λ i. edge-block cs o 0 (la .at) (ha .at) (la .is) (ha .is) i ++ edge-block cs o 1 (lb .at) (hb .at) (lb .is) (hb .is) i)
+
+-- the starts that are known, up to the one that comes next
+pub record StartsTo (cs : List (List ℕ)) (k : ℕ) (starts : List ℕ) : Type 0 where
+  pub long : length starts ≡ 65
+  pub at : (j : ℕ) → j < k → BlockStart cs j (getD starts j 0)
+
+pub starts-more : {cs : List (List ℕ)} {k : ℕ} {starts : List ℕ} (r : ℕ) → k < 65 → BlockStart cs k r → StartsTo cs k starts → StartsTo cs (k + 1) (set starts k r)
+starts-more {cs} {k} {starts} r h b f = record { long = length-set starts k r ∙ f .long; at = λ j m. go j (k - j) m refl }
+  where
+    go : (j d : ℕ) → j < k + 1 → k - j ≡ d → BlockStart cs j (getD (set starts k r) j 0)
+    go j zero m z =
+        let w : k ≡ j = omega arith in
+        subst (λ (j : ℕ). BlockStart cs j (getD (set starts k r) j 0)) w (subst (λ (v : ℕ). BlockStart cs k v) (sym (getD-set-same starts k r 0 (omega (arith, f .long)))) b)
+    go j (suc d) m z = subst (λ (v : ℕ). BlockStart cs j v) (sym (getD-set-other starts k j r 0 (λ w. omega arith))) (f .at j (omega arith))

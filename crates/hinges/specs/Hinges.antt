@@ -1,9 +1,9 @@
 -- Hinges: pairs of candidates that share an edge, the inner hanging on the outer. Definitions only.
 use mathlib.Core.List.{List}
-use Prim.Native.Nat.{ℕ, _≤_, _<_}
+use Prim.Native.Nat.{ℕ, _+_, _≤_, _<_}
 use lib.Dec.{eqb}
-use lib.ListN.{length}
-use Rattle.jobs.specs.Job.{entryAt, vertexA, vertexB, vertexC, hangs}
+use lib.ListN.{length, getD}
+use Rattle.jobs.specs.Job.{entryAt, vertexA, vertexB, vertexC, sameEdge, hangs}
 use Rattle.lists.specs.Lists.{over, when}
 
 -- the candidates that hang on candidate o, in ascending order
@@ -13,6 +13,10 @@ innersOn candidates o = over 0 (length candidates) (λ i. when (hangs (entryAt c
 -- "one for each hanging pair": the inner of each, in the order of their outers
 abbrev pub innersOf : List (List ℕ) → List ℕ
 innersOf candidates = over 0 (length candidates) (innersOn candidates)
+
+-- those whose edge (a, c) is candidate o's edge (a, b), for e = 0, or (b, c), for e = 1
+abbrev pub innersAt : List (List ℕ) → ℕ → ℕ → List ℕ
+innersAt candidates o e = over 0 (length candidates) (λ i. when (sameEdge (vertexA (entryAt candidates i)) (vertexC (entryAt candidates i)) (getD (entryAt candidates o) e 0) (getD (entryAt candidates o) (e + 1) 0)) i)
 
 -- the candidates from lo to hi - 1 that end in vertex c
 abbrev pub endingIn : List (List ℕ) → ℕ → ℕ → ℕ → List ℕ
@@ -31,3 +35,7 @@ pub record BlockStart (candidates : List (List ℕ)) (k r : ℕ) : Type 0 where
   pub within : r ≤ length candidates
   pub below : (i : ℕ) → i < r → vertexA (entryAt candidates i) < k
   pub above : (i : ℕ) → r ≤ i → i < length candidates → k ≤ vertexA (entryAt candidates i)
+
+-- place k holds how many candidates have a first vertex below k
+pub record Starts (candidates : List (List ℕ)) (starts : List ℕ) : Type 0 where
+  pub at : (k : ℕ) → k < 65 → BlockStart candidates k (getD starts k 0)

@@ -33,7 +33,7 @@ module _ (e : tie.Else1) where
   not-due = sym (e .before .mark-candidates .ensures .twelve) ∙ e .if1 .left
 
   candidates : triplesOf (polygon .n) (has (e .before .mark-candidates .last .1 .0)) ≡ candidatesOf polygon
-  candidates = listed-are (e .before .before .before .pre .0 .most) (λ x y z hx hy hz. none-in 262144 (omega arith) (record { first = hx; second = hy; third = hz })) (e .if1 .left) (e .before .mark-candidates .ensures)
+  candidates = listed-are (e .before .before .before .pre .0 .most) (λ x y z hx hy hz. none-in 4096 (omega arith) (record { first = hx; second = hy; third = hz })) (e .if1 .left) (e .before .mark-candidates .ensures)
 
 list-requires : tie.Need-list-requires
 list-requires c κs =

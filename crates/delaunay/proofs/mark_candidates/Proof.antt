@@ -37,34 +37,34 @@ record Scan (p : Polygon) (a b c d₀ d v : ℕ) (last : ℕ) (fifth : Bool) : T
   scanned : Scanned p a b c d₀ v fifth
 
 abbrev Inv-loop4 : tie.InvT-loop4
-Inv-loop4 p flags n last₀ a lifted b c pencil d₀ ball orient fifth₀ v₀ last d fifth v = Scan p a b c d₀ d v last fifth
+Inv-loop4 p masks n last₀ a lifted b c pencil d₀ ball orient fifth₀ v₀ last d fifth v = Scan p a b c d₀ d v last fifth
 
 abbrev μ-loop4 : tie.MeasureT-loop4
-μ-loop4 p flags n last₀ a lifted b c pencil d₀ ball orient fifth₀ v₀ last d fifth v = n - v
+μ-loop4 p masks n last₀ a lifted b c pencil d₀ ball orient fifth₀ v₀ last d fifth v = n - v
 
 abbrev Inv-next : tie.InvT-next
-Inv-next p flags₀ n last₀ a lifted b c pencil d₀ flags last d = (last < n) × Kept p flags₀ flags (λ P. left4 n P a b c d₀) (λ P. left4 n P a b c d)
+Inv-next p masks₀ n last₀ a lifted b c pencil d₀ masks last d = (last < n) × Kept p masks₀ masks (λ P. left4 n P a b c d₀) (λ P. left4 n P a b c d)
 
 abbrev μ-next : tie.MeasureT-next
-μ-next p flags₀ n last₀ a lifted b c pencil d₀ flags last d = n - d
+μ-next p masks₀ n last₀ a lifted b c pencil d₀ masks last d = n - d
 
 abbrev Inv-loop3 : tie.InvT-loop3
-Inv-loop3 p flags₀ n last₀ a lifted b c₀ flags last c = (last < n) × Kept p flags₀ flags (λ P. left3 n P a b c₀) (λ P. left3 n P a b c)
+Inv-loop3 p masks₀ n last₀ a lifted b c₀ masks last c = (last < n) × Kept p masks₀ masks (λ P. left3 n P a b c₀) (λ P. left3 n P a b c)
 
 abbrev μ-loop3 : tie.MeasureT-loop3
-μ-loop3 p flags₀ n last₀ a lifted b c₀ flags last c = n - c
+μ-loop3 p masks₀ n last₀ a lifted b c₀ masks last c = n - c
 
 abbrev Inv-loop2 : tie.InvT-loop2
-Inv-loop2 p flags₀ n last₀ a lifted b₀ flags last b = (last < n) × Kept p flags₀ flags (λ P. left2 n P a b₀) (λ P. left2 n P a b)
+Inv-loop2 p masks₀ n last₀ a lifted b₀ masks last b = (last < n) × Kept p masks₀ masks (λ P. left2 n P a b₀) (λ P. left2 n P a b)
 
 abbrev μ-loop2 : tie.MeasureT-loop2
-μ-loop2 p flags₀ n last₀ a lifted b₀ flags last b = n - b
+μ-loop2 p masks₀ n last₀ a lifted b₀ masks last b = n - b
 
 abbrev Inv-loop : tie.InvT-loop
-Inv-loop p flags₀ n last₀ a₀ flags last a = (last < n) × Kept p flags₀ flags (λ P. left1 n P a₀) (λ P. left1 n P a)
+Inv-loop p masks₀ n last₀ a₀ masks last a = (last < n) × Kept p masks₀ masks (λ P. left1 n P a₀) (λ P. left1 n P a)
 
 abbrev μ-loop : tie.MeasureT-loop
-μ-loop p flags₀ n last₀ a₀ flags last a = n - a
+μ-loop p masks₀ n last₀ a₀ masks last a = n - a
 
 loop-holds :
     tie.Need-loop-holds
@@ -300,13 +300,13 @@ module _ (s : tie.In-next Inv-loop4 μ-loop4 Inv-next μ-next Inv-loop3 μ-loop3
   pencil-in : PencilBounds (s .before .before .pencil-through .result)
   pencil-in = subst (λ (k : Pencil). PencilBounds k) (sym pencil-is) (pencil-bounds (lift-in triple (B triple) (b<n triple)) (lift-in triple (C triple) (c<n triple)))
 
-  kept : Kept (polygon triple) (s .before .before .before .before .before .before .loop3 .flags) (s .before .next .flags) (λ P. left4 (polygon triple .n) P (A triple) (B triple) (C triple) (C triple + 1)) (λ P. left4 (polygon triple .n) P (A triple) (B triple) (C triple) D)
+  kept : Kept (polygon triple) (s .before .before .before .before .before .before .loop3 .masks) (s .before .next .masks) (λ P. left4 (polygon triple .n) P (A triple) (B triple) (C triple) (C triple + 1)) (λ P. left4 (polygon triple .n) P (A triple) (B triple) (C triple) D)
   kept = s .before .next .inv .1
 
   hint : s .before .next .last < polygon triple .n
   hint = s .before .next .inv .0
 
-  skip : counts (polygon triple) (A triple) (B triple) (C triple) D ≡ false → Kept (polygon triple) (s .before .before .before .before .before .before .loop3 .flags) (s .before .next .flags) (λ P. left4 (polygon triple .n) P (A triple) (B triple) (C triple) (C triple + 1)) (λ P. left4 (polygon triple .n) P (A triple) (B triple) (C triple) (D + 1))
+  skip : counts (polygon triple) (A triple) (B triple) (C triple) D ≡ false → Kept (polygon triple) (s .before .before .before .before .before .before .loop3 .masks) (s .before .next .masks) (λ P. left4 (polygon triple .n) P (A triple) (B triple) (C triple) (C triple + 1)) (λ P. left4 (polygon triple .n) P (A triple) (B triple) (C triple) (D + 1))
   skip e = kept-skip (A triple) (B triple) (C triple) D kept d<n e
 
 mul-circumsphere :
@@ -650,10 +650,10 @@ next-less-3 c = let l = c .before .before .before .before .before in let e = els
 -- the four that a step of the loop leaves behind
 module _ (e : tie.Else1 Inv-loop4 μ-loop4 Inv-next μ-next Inv-loop3 μ-loop3 Inv-loop2 μ-loop2 Inv-loop μ-loop) where
   abbrev Next : List ℕ → ℕ → Type 0
-  Next flags d = Kept (polygon (start e)) (corners e .before .before .before .before .before .before .loop3 .flags) flags (λ P. left4 (polygon (start e) .n) P (A (start e)) (B (start e)) (C (start e)) (C (start e) + 1)) (λ P. left4 (polygon (start e) .n) P (A (start e)) (B (start e)) (C (start e)) (d + 1))
+  Next masks d = Kept (polygon (start e)) (corners e .before .before .before .before .before .before .loop3 .masks) masks (λ P. left4 (polygon (start e) .n) P (A (start e)) (B (start e)) (C (start e)) (C (start e) + 1)) (λ P. left4 (polygon (start e) .n) P (A (start e)) (B (start e)) (C (start e)) (d + 1))
 
-  same-four : (flags : List ℕ) {d : ℕ} → d ≡ D (corners e) → Next flags (D (corners e)) → Next flags d
-  same-four flags h k = subst (λ (d : ℕ). Next flags d) (sym h) k
+  same-four : (masks : List ℕ) {d : ℕ} → d ≡ D (corners e) → Next masks (D (corners e)) → Next masks d
+  same-four masks h k = subst (λ (d : ℕ). Next masks d) (sym h) k
 
 next-again-3 :
     tie.Need-next-again-3
@@ -842,7 +842,7 @@ next-again-4 c =
     let m = valid g .most in
     let long = kept (corners e) .long ∙ g .before .loop3 .inv .1 .long ∙ g .before .before .before .loop2 .inv .1 .long ∙ g .before .before .before .before .before .before .loop .inv .1 .long ∙ g .before .before .before .before .before .before .before .pre .1 in (
       l .loop4 .inv .hint,
-      subst (λ (flags : List ℕ). Next e flags (l .loop4 .d)) (sym (c .insert-faces .ensures ∙ ap (λ (d : ℕ). withFaces (corners e .before .next .flags) (A g) (B g) (C g) d) (l .loop4 .inv .stays)))
+      subst (λ (masks : List ℕ). Next e masks (l .loop4 .d)) (sym (c .insert-faces .ensures ∙ ap (λ (d : ℕ). withFaces (corners e .before .next .masks) (A g) (B g) (C g) d) (l .loop4 .inv .stays)))
           (same-four e _ (l .loop4 .inv .stays)
           (kept-mark (A g) (B g) (C g) (D (corners e)) (kept (corners e)) (d<n (corners e)) long
           (omega (arith, m, a<n g)) (omega (arith, m, b<n g)) (omega (arith, m, c<n g)) (omega (arith, m, d<n (corners e))) (counts-now q) (fifth-is q ∙ c .before .before .if2 .left))),

@@ -27,22 +27,22 @@ module _ (n : ℕ) (P : ℕ → ℕ → ℕ → Bool) where
   one a b c t h e = over-more c n _ (R2 a (b + 1)) h ∙ ap (λ (t : Bool). when t (triple a b c) ++ R3 a b (c + 1)) (sym e)
 
 abbrev Inv-loop3 : tie.InvT-loop3
-Inv-loop3 flags n out₀ count₀ a b c₀ out count c = Writing (triplesOf n (has flags)) (R3 n (has flags) a b c) out₀ count₀ out count
+Inv-loop3 masks n out₀ count₀ a b c₀ out count c = Writing (triplesOf n (has masks)) (R3 n (has masks) a b c) out₀ count₀ out count
 
 abbrev μ-loop3 : tie.MeasureT-loop3
-μ-loop3 flags n out₀ count₀ a b c₀ out count c = n - c
+μ-loop3 masks n out₀ count₀ a b c₀ out count c = n - c
 
 abbrev Inv-loop2 : tie.InvT-loop2
-Inv-loop2 flags n out₀ count₀ a b₀ out count b = Writing (triplesOf n (has flags)) (R2 n (has flags) a b) out₀ count₀ out count
+Inv-loop2 masks n out₀ count₀ a b₀ out count b = Writing (triplesOf n (has masks)) (R2 n (has masks) a b) out₀ count₀ out count
 
 abbrev μ-loop2 : tie.MeasureT-loop2
-μ-loop2 flags n out₀ count₀ a b₀ out count b = n - b
+μ-loop2 masks n out₀ count₀ a b₀ out count b = n - b
 
 abbrev Inv-loop : tie.InvT-loop
-Inv-loop flags n out₀ count₀ a₀ out count a = Writing (triplesOf n (has flags)) (R1 n (has flags) a) out₀ count₀ out count
+Inv-loop masks n out₀ count₀ a₀ out count a = Writing (triplesOf n (has masks)) (R1 n (has masks) a) out₀ count₀ out count
 
 abbrev μ-loop : tie.MeasureT-loop
-μ-loop flags n out₀ count₀ a₀ out count a = n - a
+μ-loop masks n out₀ count₀ a₀ out count a = n - a
 
 loop-holds : tie.Need-loop-holds Inv-loop3 μ-loop3 Inv-loop2 μ-loop2 Inv-loop μ-loop
 loop-holds c = start _ _ (c .pre .1)
@@ -80,13 +80,13 @@ next : (c : tie.Then1 Inv-loop3 μ-loop3 Inv-loop2 μ-loop2 Inv-loop μ-loop) �
     let m = l .before .before in
     let u = m .before .before in
     let n = u .before .args .n in
-    let P = has (u .before .args .flags .now) in
+    let P = has (u .before .args .masks .now) in
     Writing (triplesOf n P) (triple (u .loop .a) (m .loop2 .b) (l .loop3 .c) ∷ R3 n P (u .loop .a) (m .loop2 .b) (l .loop3 .c + 1)) (m .loop2 .out) (m .loop2 .count) (l .loop3 .out) (l .loop3 .count)
 next c =
     let l = c .before .before .before in
     let m = l .before .before in
     let u = m .before .before in
-    turn (one (u .before .args .n) (has (u .before .args .flags .now)) (u .loop .a) (m .loop2 .b) (l .loop3 .c) true (omega arith) (sym (c .if1 .taken) ∙ c .before .contains .ensures)) (l .loop3 .inv)
+    turn (one (u .before .args .n) (has (u .before .args .masks .now)) (u .loop .a) (m .loop2 .b) (l .loop3 .c) true (omega arith) (sym (c .if1 .taken) ∙ c .before .contains .ensures)) (l .loop3 .inv)
 
 slice-set-from-out :
     tie.Need-slice-set-from-out Inv-loop3 μ-loop3 Inv-loop2 μ-loop2 Inv-loop μ-loop
@@ -108,7 +108,7 @@ loop3-again c =
     let u = m .before .before in
     ⊎-elim
     (λ w. moved (w .1) (w .2) (push (next (record { before = c .before; if1 = w .0 }))))
-    (λ w. moved (w .1) (w .2) (turn (one (u .before .args .n) (has (u .before .args .flags .now)) (u .loop .a) (m .loop2 .b) (l .loop3 .c) false (omega arith) (sym (w .0 .left) ∙ c .before .contains .ensures)) (l .loop3 .inv)))
+    (λ w. moved (w .1) (w .2) (turn (one (u .before .args .n) (has (u .before .args .masks .now)) (u .loop .a) (m .loop2 .b) (l .loop3 .c) false (omega arith) (sym (w .0 .left) ∙ c .before .contains .ensures)) (l .loop3 .inv)))
     (c .if1 .came)
 
 add-b-2 : tie.Need-add-b-2 Inv-loop3 μ-loop3 Inv-loop2 μ-loop2 Inv-loop μ-loop

@@ -12,10 +12,10 @@ use Rattle.hinges.proofs.count_rows.Statement.{statement}
 use Rattle.hinges.proofs.count_rows.Tie as tie
 
 abbrev Inv-loop : tie.InvT-loop
-Inv-loop candidates count₀ o₀ o-end count o = (o ≤ length candidates) × (count + length (over o (length candidates) (innersOn candidates)) ≡ length (innersOf candidates))
+Inv-loop candidates starts count₀ o₀ o-end count o = (o ≤ length candidates) × (count + length (over o (length candidates) (innersOn candidates)) ≡ length (innersOf candidates))
 
 abbrev μ-loop : tie.MeasureT-loop
-μ-loop candidates count₀ o₀ o-end count o = length candidates - o
+μ-loop candidates starts count₀ o₀ o-end count o = length candidates - o
 
 loop-holds : tie.Need-loop-holds Inv-loop μ-loop
 loop-holds c = omega arith
@@ -24,13 +24,13 @@ step : (cs : List (List ℕ)) (o : ℕ) → o < length cs → length (over o (le
 step cs o h = ap length (over-step o (length cs) (innersOn cs) h) ∙ length-append (innersOn cs o) (over (o + 1) (length cs) (innersOn cs))
 
 count-on-requires : tie.Need-count-on-requires Inv-loop μ-loop
-count-on-requires c κs = (c .before .before .pre, omega arith)
+count-on-requires c κs = (c .before .before .pre .0, c .before .before .pre .1, c .loop-test .taken)
 
 add-count : tie.Need-add-count Inv-loop μ-loop
 add-count c =
     let l = c .before .before in
     let cs = l .before .args .candidates .now in
-    omega (arith, step cs (l .loop .o) (omega arith), l .loop .inv .1, c .count-on .ensures, hinges-bound cs (l .before .pre .few))
+    omega (arith, step cs (l .loop .o) (omega arith), l .loop .inv .1, c .count-on .ensures, hinges-bound cs (l .before .pre .0 .few))
 
 add-o : tie.Need-add-o Inv-loop μ-loop
 add-o c = omega arith
