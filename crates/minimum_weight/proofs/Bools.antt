@@ -1,12 +1,22 @@
--- A conjunction or a disjunction whose first test is known.
-use mathlib.Core.Path.{_≡_, ap}
+-- A conjunction or a disjunction of which one test is known.
+use mathlib.Core.Path.{_≡_, refl, sym, ap}
 use mathlib.Core.Bool.{Bool, true, false, _&&_, _||_}
+use Rattle.lists.proofs.Choice.{true-not-false}
 
 pub and-yes : {x : Bool} (y : Bool) → x ≡ true → (x && y) ≡ y
 and-yes y e = ap (λ b. b && y) e
 
 pub and-no : {x : Bool} (y : Bool) → x ≡ false → (x && y) ≡ false
 and-no y e = ap (λ b. b && y) e
+
+pub and-last : (x : Bool) {y : Bool} → y ≡ false → (x && y) ≡ false
+and-last true e = e
+and-last false e = refl
+
+-- both hold
+pub and-right : (x y : Bool) → (x && y) ≡ true → y ≡ true
+and-right true y e = e
+and-right false y e = absurd (true-not-false refl (sym e))
 
 pub or-yes : {x : Bool} (y : Bool) → x ≡ true → (x || y) ≡ true
 or-yes y e = ap (λ b. b || y) e

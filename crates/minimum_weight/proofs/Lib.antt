@@ -3,6 +3,7 @@ pub mod RowSearch
 pub mod BlockStarts
 pub mod Picks
 pub mod Edges
+pub mod Runs
 pub mod Filling
 pub mod Emission
 pub mod Answer

@@ -9,25 +9,25 @@ use native.Mathlib.Nat.{eq-or-lt-of-le, le-antisymm, le-refl}
 use native.Mathlib.Numerals.{add-one}
 use lib.ListN.{length, getD}
 use lib.Dec.{ltb, leb, eqb}
-use borrow.Author.Tests.{lt-ltb, le-ltb, leb-true, leb-false, eq-eqb, ne-eqb}
+use borrow.Author.Tests.{lt-ltb, le-ltb, ltb-true, leb-true, leb-false, eq-eqb, ne-eqb}
 use Rattle.lists.proofs.Choice.{yes, no}
 use Rattle.minimum_weight.specs.declared.choice.Pick.{Pick}
 use Rattle.minimum_weight.specs.Tables.{betterOf, pickBelow, Blocks, vertexA, vertexC, onEdge}
-use Rattle.minimum_weight.proofs.Bools.{and-yes, and-no}
+use Rattle.minimum_weight.proofs.Bools.{and-yes, and-no, and-last, and-right}
 
 module _ (p : Pick) (u : ℕ) where
   -- the pick of candidate u
   taken : ℕ → ℕ → Pick
   taken d w = record { cost = d + w; at = u }
 
-  -- candidate u is not on the edge, or no part starts with it, or it is not better, or it is
+  -- candidate u is not on the edge, or its own total is not lower, or its total with the row is not, or it is
   pub off-edge : (on : Bool) (d w : ℕ) → on ≡ false → p ≡ betterOf p u on d w
   unfolding taken betterOf
   off-edge on d w e = sym (no (taken d w) p (and-no (ltb d (2 ^ 63) && ltb (d + w) (p .cost)) e))
 
-  pub no-start : (on : Bool) (d w : ℕ) → on ≡ true → 2 ^ 63 ≤ d → p ≡ betterOf p u on d w
+  pub no-lower : (on : Bool) (d w : ℕ) → p .cost ≤ d → p ≡ betterOf p u on d w
   unfolding taken betterOf
-  no-start on d w e h = sym (no (taken d w) p (and-yes _ e ∙ and-no (ltb (d + w) (p .cost)) (le-ltb d (2 ^ 63) h)))
+  no-lower on d w h = sym (no (taken d w) p (and-last on (and-last (ltb d (2 ^ 63)) (le-ltb (d + w) (p .cost) (omega arith)))))
 
   pub no-better : (on : Bool) (d w r : ℕ) → on ≡ true → d < 2 ^ 63 → r ≡ w → p .cost ≤ d + r → p ≡ betterOf p u on d w
   unfolding taken betterOf
@@ -36,6 +36,19 @@ module _ (p : Pick) (u : ℕ) where
   pub is-better : (on : Bool) (d w r : ℕ) → on ≡ true → d < 2 ^ 63 → r ≡ w → d + r < p .cost → record { cost = d + r; at = u } ≡ betterOf p u on d w
   unfolding taken betterOf
   is-better on d w r e h q l = ap (taken d) q ∙ sym (yes (taken d w) p (and-yes _ e ∙ and-yes _ (lt-ltb d (2 ^ 63) h) ∙ lt-ltb (d + w) (p .cost) (omega arith)))
+
+  pub better-bounded : (on : Bool) (d w : ℕ) → p .cost ≤ 2 ^ 63 → betterOf p u on d w .cost ≤ 2 ^ 63
+  unfolding taken betterOf
+  better-bounded on d w h = go (on && (ltb d (2 ^ 63) && ltb (d + w) (p .cost))) refl
+    where
+      go : (b : Bool) → (on && (ltb d (2 ^ 63) && ltb (d + w) (p .cost))) ≡ b → cond b (taken d w) p .cost ≤ 2 ^ 63
+      go true e = let l = ltb-true (d + w) (p .cost) (and-right (ltb d (2 ^ 63)) _ (and-right on _ e)) in omega arith
+      go false e = h
+
+-- no total is above 'none'
+pub pick-bounded : (on : ℕ → Bool) (d w : ℕ → ℕ) (k : ℕ) → pickBelow on d w k .cost ≤ 2 ^ 63
+pick-bounded on d w zero = le-refl (2 ^ 63)
+pick-bounded on d w (suc k) = better-bounded (pickBelow on d w k) k (on k) (d k) (w k) (pick-bounded on d w k)
 
 -- candidates off the edge are passed over
 pub pick-skip : (on : ℕ → Bool) (d w : ℕ → ℕ) (x y : ℕ) → x ≤ y → ((u : ℕ) → x ≤ u → u < y → on u ≡ false) → pickBelow on d w y ≡ pickBelow on d w x

@@ -13,10 +13,10 @@ use lib.Dec.{eqb, ltb}
 use borrow.Author.Tests.{eqb-true, eqb-false, eq-eqb, ne-eqb, ltb-true, ltb-false, lt-ltb}
 use Rattle.lists.proofs.Choice.{yes, no, not-true-false, true-not-false}
 use Rattle.triangulation.specs.Jobs.{rowWeight}
-use Rattle.minimum_weight.specs.Tables.{RowsAscend, rowIsBefore, rowOrZero}
+use Rattle.minimum_weight.specs.Tables.{RowsAscend, Cut, rowIsBefore, rowOrZero}
 
 -- (x, y) is before (o, i), or is not
-before-true : (x y o i : ℕ) → (ltb x o || eqb x o && ltb y i) ≡ true → (x < o) ⊎ ((x ≡ o) × (y < i))
+pub before-true : (x y o i : ℕ) → (ltb x o || eqb x o && ltb y i) ≡ true → (x < o) ⊎ ((x ≡ o) × (y < i))
 before-true x y o i t = go (ltb x o) (eqb x o) refl refl t
   where
     go : (p q : Bool) → ltb x o ≡ p → eqb x o ≡ q → (p || q && ltb y i) ≡ true → (x < o) ⊎ ((x ≡ o) × (y < i))
@@ -24,7 +24,7 @@ before-true x y o i t = go (ltb x o) (eqb x o) refl refl t
     go false true e f t = inr (eqb-true x o f, ltb-true y i t)
     go false false e f t = absurd (true-not-false t refl)
 
-before-false : (x y o i : ℕ) → (ltb x o || eqb x o && ltb y i) ≡ false → (o < x) ⊎ ((x ≡ o) × (i ≤ y))
+pub before-false : (x y o i : ℕ) → (ltb x o || eqb x o && ltb y i) ≡ false → (o < x) ⊎ ((x ≡ o) × (i ≤ y))
 before-false x y o i t = go (ltb x o) (eqb x o) refl refl t
   where
     go : (p q : Bool) → ltb x o ≡ p → eqb x o ≡ q → (p || q && ltb y i) ≡ false → (o < x) ⊎ ((x ≡ o) × (i ≤ y))
@@ -50,7 +50,7 @@ names-false x y o i h = go (eqb x o) (eqb y i) refl refl
 
 module _ (o i : ℕ) where
   -- rows that are not (o, i) are passed over
-  skip : (rows : List (List ℕ)) (low : ℕ) → ((k : ℕ) → k < low → (eqb (getD (getD rows k []) 0 0) o && eqb (getD (getD rows k []) 1 0) i) ≡ false)
+  pub skip : (rows : List (List ℕ)) (low : ℕ) → ((k : ℕ) → k < low → (eqb (getD (getD rows k []) 0 0) o && eqb (getD (getD rows k []) 1 0) i) ≡ false)
       → rowWeight rows o i ≡ rowWeight (drop low rows) o i
   skip rows zero h = refl
   skip [] (suc low) h = refl
@@ -66,14 +66,7 @@ module _ (o i : ℕ) where
     inner : ℕ → ℕ
     inner k = getD (getD rows k []) 1 0
 
-    -- the rows before `low` are before (o, i), those from `high` on are not
-    pub record Cut (low high : ℕ) : Type 0 where
-      pub order : low ≤ high
-      pub within : high ≤ length rows
-      pub left : (k : ℕ) → k < low → rowIsBefore (getD rows k []) o i ≡ true
-      pub right : (k : ℕ) → high ≤ k → k < length rows → rowIsBefore (getD rows k []) o i ≡ false
-
-    pub cut-start : Cut 0 (length rows)
+    pub cut-start : Cut rows o i 0 (length rows)
     cut-start = record { order = omega arith; within = omega arith; left = λ k h. absurd (omega arith); right = λ k h l. absurd (omega arith) }
 
     module _ (sorted : RowsAscend rows) where
@@ -88,7 +81,7 @@ module _ (o i : ℕ) where
           go (inr a) (inl b) = inl (omega arith)
           go (inr a) (inr b) = inr (a .0 ∙ b .0, omega arith)
 
-      pub cut-up : {low high : ℕ} (middle : ℕ) → Cut low high → low ≤ middle → middle < high → rowIsBefore (getD rows middle []) o i ≡ true → Cut (middle + 1) high
+      pub cut-up : {low high : ℕ} (middle : ℕ) → Cut rows o i low high → low ≤ middle → middle < high → rowIsBefore (getD rows middle []) o i ≡ true → Cut rows o i (middle + 1) high
       cut-up middle c h l e = record {
         order = omega arith;
         within = c .within;
@@ -96,7 +89,7 @@ module _ (o i : ℕ) where
         right = c .right;
       }
 
-      pub cut-down : {low high : ℕ} (middle : ℕ) → Cut low high → low ≤ middle → middle < high → rowIsBefore (getD rows middle []) o i ≡ false → Cut low middle
+      pub cut-down : {low high : ℕ} (middle : ℕ) → Cut rows o i low high → low ≤ middle → middle < high → rowIsBefore (getD rows middle []) o i ≡ false → Cut rows o i low middle
       cut-down middle c h l e = record {
         order = h;
         within = omega (arith, c .within);
@@ -108,7 +101,7 @@ module _ (o i : ℕ) where
       unfolding outer inner
       before-names k e = names-false (outer k) (inner k) o i (λ p q. ⊎-elim (λ h. omega arith) (λ h. omega arith) (before-true (outer k) (inner k) o i e))
 
-      pub cut-end : {low high : ℕ} → Cut low high → high ≤ low → low < length rows → rowOrZero (getD rows low []) o i ≡ rowWeight rows o i
+      pub cut-end : {low high : ℕ} → Cut rows o i low high → high ≤ low → low < length rows → rowOrZero (getD rows low []) o i ≡ rowWeight rows o i
       unfolding outer inner
       cut-end {low} {high} c h l = sym (
           skip rows low (λ k m. before-names k (c .left k m))
@@ -127,6 +120,10 @@ module _ (o i : ℕ) where
           after : (k : ℕ) → k < length (drop (suc low) rows) → (eqb (getD (getD (drop (suc low) rows) k []) 0 0) o && eqb (getD (getD (drop (suc low) rows) k []) 1 0) i) ≡ false
           after k m = rw (getD-drop (suc low) rows k []) (later (suc low + k) (omega arith) (omega (arith, length-drop (suc low) rows)))
 
-      pub cut-out : {low high : ℕ} → Cut low high → length rows ≤ low → 0 ≡ rowWeight rows o i
+      -- the two ends meet
+      pub cut-meet : {low high : ℕ} → Cut rows o i low high → high ≤ low → Cut rows o i low low
+      cut-meet c h = record { order = omega arith; within = omega (arith, c .order, c .within); left = c .left; right = λ k m n. c .right k (omega arith) n }
+
+      pub cut-out : {low high : ℕ} → Cut rows o i low high → length rows ≤ low → 0 ≡ rowWeight rows o i
       unfolding outer inner
       cut-out c h = sym (none rows (λ k m. before-names k (c .left k (omega arith))))

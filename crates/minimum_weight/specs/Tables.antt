@@ -43,6 +43,18 @@ rowOrZero r o i = cond (eqb (getD r 0 0) o && eqb (getD r 1 0) i) (getD r 2 0) 0
 pub record RowsAscend (rows : List (List ℕ)) : Type 0 where
   pub up : (k l : ℕ) → k < l → l < length rows → rowIsBefore (getD rows k []) (getD (getD rows l []) 0 0) (getD (getD rows l []) 1 0) ≡ true
 
+-- the rows before `low` are before (o, i), those from `high` on are not
+pub record Cut (rows : List (List ℕ)) (o i low high : ℕ) : Type 0 where
+  pub order : low ≤ high
+  pub within : high ≤ length rows
+  pub left : (k : ℕ) → k < low → rowIsBefore (getD rows k []) o i ≡ true
+  pub right : (k : ℕ) → high ≤ k → k < length rows → rowIsBefore (getD rows k []) o i ≡ false
+
+-- `run` has the rows of outer t
+pub record Run (rows : List (List ℕ)) (t : ℕ) (run : List (List ℕ)) : Type 0 where
+  pub ascends : RowsAscend run
+  pub same : (u : ℕ) → rowWeight run t u ≡ rowWeight rows t u
+
 -- p, or candidate u where it is on the edge and its total with the row's weight is lower: d is its own total, w the row's weight
 unfoldable pub betterOf : Pick → ℕ → Bool → ℕ → ℕ → Pick
 betterOf p u on d w = cond (on && (ltb d (2 ^ 63) && ltb (d + w) (p .cost))) (record { cost = d + w; at = u }) p

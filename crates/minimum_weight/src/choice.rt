@@ -2,7 +2,7 @@
 use crate::NONE;
 use crate::rows::row_weight;
 ghost use mathlib.Core.Path.{_≡_};
-ghost use Prim.Native.Nat.{_<_, _≤_};
+ghost use Prim.Native.Nat.{_^_, _<_, _≤_};
 ghost use lib.ListN.{length, getD};
 ghost use lib.Dec.{eqb};
 ghost use Rattle.triangulation.specs.Jobs.{rowWeight};
@@ -14,7 +14,8 @@ pub struct Pick {
     pub at: usize,
 }
 
-// p, or candidate u where its edge (a, c) ends at j, a part starts with it and the total under t is lower.
+// p, or candidate u where its edge (a, c) ends at j, a part starts with it and the total under t is lower. The row is looked up only where the
+// total without it is.
 fn better(
     p: Pick,
     candidates: &[[u8; 3]],
@@ -24,7 +25,7 @@ fn better(
     j: u8,
     u: usize,
 ) -> Pick
-    requires { ⌜ (u < length (now candidates)) × (length (now candidates) ≤ length (now work)) × RowsAscend (now rows) ⌝ }
+    requires { ⌜ (u < length (now candidates)) × (length (now candidates) ≤ length (now work)) × RowsAscend (now rows) × (p .cost ≤ 2 ^ 63) ⌝ }
     ensures { λ r. ⌜ r ≡ betterOf p u (eqb (vertexC (now (candidates .entry)) u) j) (getD (now (work .entry)) u 0) (rowWeight (now (rows .entry)) t u) ⌝ }
 {
     let triangle = candidates[u];
@@ -32,7 +33,7 @@ fn better(
         return p;
     }
     let d = work[u];
-    if NONE <= d {
+    if p.cost <= d {
         return p;
     }
     let row = row_weight(rows, t, u) as u64;

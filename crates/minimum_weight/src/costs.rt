@@ -3,12 +3,14 @@
 // which stands before it in its block, or (b, x, c), which stands in a later block.
 use crate::NONE;
 use crate::choice::best_under;
+use crate::rows::lower_bound;
+use crate::rows::run_end;
 ghost use mathlib.Core.Path.{_≡_};
 ghost use Prim.Native.Nat.{_+_, _<_, _≤_};
 ghost use lib.ListN.{length, getD};
 ghost use Rattle.triangulation.specs.Jobs.{jobOf};
 ghost use Rattle.triangulation.specs.Recursion.{costOf, bestFrom};
-ghost use Rattle.minimum_weight.specs.Tables.{WellFormed, Blocks, Cost, joinCost, vertexA, vertexB, vertexC, ReadyAt, Filled};
+ghost use Rattle.minimum_weight.specs.Tables.{WellFormed, Blocks, Cost, Run, joinCost, vertexA, vertexB, vertexC, ReadyAt, Filled};
 
 // The total of a triangle of weight w over parts of totals left and right.
 fn join_cost(w: u32, left: u64, right: u64) -> u64
@@ -24,17 +26,18 @@ fn join_cost(w: u32, left: u64, right: u64) -> u64
     w as u64 + left + right
 }
 
-// The least total of a part that starts with candidate t. (n is for the contract alone.)
+// The least total of a part that starts with candidate t, by the rows of outer t. (n and rows are for the contract alone.)
 fn cost_of(
     n: usize,
     starts: &[usize; 65],
     candidates: &[[u8; 3]],
     weights: &[u32],
     rows: &[[u32; 3]],
+    run: &[[u32; 3]],
     work: &[u64],
     t: usize,
 ) -> u64
-    requires { ⌜ WellFormed n (now candidates) (now weights) (now rows) × Blocks (now candidates) (now starts) × (length (now candidates) ≤ length (now work)) × (t < length (now candidates)) ⌝ }
+    requires { ⌜ WellFormed n (now candidates) (now weights) (now rows) × Blocks (now candidates) (now starts) × (length (now candidates) ≤ length (now work)) × (t < length (now candidates)) × Run (now rows) t (now run) ⌝ }
     requires { ⌜ ReadyAt (jobOf n (now candidates) (now weights) (now rows)) (now work) (vertexA (now candidates) t) (vertexB (now candidates) t) × ReadyAt (jobOf n (now candidates) (now weights) (now rows)) (now work) (vertexB (now candidates) t) (vertexC (now candidates) t) ⌝ }
     ensures { λ r. ⌜ r ≡ costOf (bestFrom (jobOf n (now (candidates .entry)) (now (weights .entry)) (now (rows .entry))) n t) ⌝ }
 {
@@ -42,8 +45,8 @@ fn cost_of(
     let a = triangle[0];
     let b = triangle[1];
     let c = triangle[2];
-    let left = best_under(starts, candidates, work, rows, t, a, b);
-    let right = best_under(starts, candidates, work, rows, t, b, c);
+    let left = best_under(starts, candidates, work, run, t, a, b);
+    let right = best_under(starts, candidates, work, run, t, b, c);
     join_cost(weights[t], left.cost, right.cost)
 }
 
@@ -63,10 +66,14 @@ fn fill_block(
 {
     let end = starts[v + 1];
     let mut t = starts[v];
+    let mut first = lower_bound(rows, t, 0);
     while t < end {
-        let cost = cost_of(n, starts, candidates, weights, rows, work, t);
+        let last = run_end(rows, first, t);
+        let run = &rows[first..last];
+        let cost = cost_of(n, starts, candidates, weights, rows, run, work, t);
         work[t] = cost;
         t += 1;
+        first = last;
     }
 }
 

@@ -1,7 +1,8 @@
-// The weight of a row, found by bisection: rows ascend by outer, then inner.
+// Rows found by bisection: they ascend by outer, then inner.
 ghost use mathlib.Core.Path.{_≡_};
+ghost use Prim.Native.Nat.{_+_, _<_, _≤_};
 ghost use Rattle.triangulation.specs.Jobs.{rowWeight};
-ghost use Rattle.minimum_weight.specs.Tables.{RowsAscend, rowIsBefore, rowOrZero};
+ghost use Rattle.minimum_weight.specs.Tables.{RowsAscend, rowIsBefore, rowOrZero, Cut};
 
 // The row is before (outer, inner).
 fn is_before(row: [u32; 3], outer: usize, inner: usize) -> bool
@@ -33,10 +34,10 @@ fn weight_if(row: [u32; 3], outer: usize, inner: usize) -> u32
     row[2]
 }
 
-// The weight of the row (outer, inner), or 0 where there is none.
-pub fn row_weight(rows: &[[u32; 3]], outer: usize, inner: usize) -> u32
+// The first row that is not before (outer, inner), by bisection.
+pub fn lower_bound(rows: &[[u32; 3]], outer: usize, inner: usize) -> usize
     requires { ⌜ RowsAscend (now rows) ⌝ }
-    ensures { λ r. ⌜ r ≡ rowWeight (now (rows .entry)) outer inner ⌝ }
+    ensures { λ r. ⌜ Cut (now (rows .entry)) outer inner r r ⌝ }
 {
     let mut low = 0;
     let mut high = rows.len();
@@ -48,8 +49,33 @@ pub fn row_weight(rows: &[[u32; 3]], outer: usize, inner: usize) -> u32
             high = middle;
         }
     }
-    if low < rows.len() {
-        return weight_if(rows[low], outer, inner);
+    low
+}
+
+// Where the rows of an outer end: they are one run.
+pub fn run_end(rows: &[[u32; 3]], start: usize, outer: usize) -> usize
+    requires { ⌜ RowsAscend (now rows) × Cut (now rows) outer 0 start start × (outer < 65536) ⌝ }
+    ensures { λ r. ⌜ Cut (now (rows .entry)) (outer + 1) 0 r r × (start ≤ r) ⌝ }
+{
+    let mut end = start;
+    while end < rows.len() {
+        if is_before(rows[end], outer + 1, 0) {
+            end += 1;
+        } else {
+            return end;
+        }
+    }
+    end
+}
+
+// The weight of the row (outer, inner), or 0 where there is none.
+pub fn row_weight(rows: &[[u32; 3]], outer: usize, inner: usize) -> u32
+    requires { ⌜ RowsAscend (now rows) ⌝ }
+    ensures { λ r. ⌜ r ≡ rowWeight (now (rows .entry)) outer inner ⌝ }
+{
+    let at = lower_bound(rows, outer, inner);
+    if at < rows.len() {
+        return weight_if(rows[at], outer, inner);
     }
     0
 }

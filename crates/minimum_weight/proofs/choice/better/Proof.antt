@@ -2,7 +2,7 @@
 use mathlib.Core.Path.{sym, _∙_}
 use native.Mathlib.Omega.{arith}
 use borrow.Author.Tests.{eq-eqb, ne-eqb}
-use Rattle.minimum_weight.proofs.Picks.{off-edge, no-start, no-better, is-better}
+use Rattle.minimum_weight.proofs.Picks.{off-edge, no-lower, no-better, is-better}
 use borrow.Author.Needs.{needs}
 use Rattle.minimum_weight.proofs.choice.better.Statement.{statement}
 use Rattle.minimum_weight.proofs.choice.better.Tie as tie
@@ -26,7 +26,7 @@ shared-slice-read-d : tie.Need-shared-slice-read-d
 shared-slice-read-d c = search needs
 
 returns-2 : tie.Need-returns-2
-returns-2 c = no-start _ _ _ _ _ (eq-eqb _ _ (c .before .before .if1 .left)) (c .if2 .taken)
+returns-2 c = no-lower _ _ _ _ _ (c .if2 .taken)
 
 row-weight-requires : tie.Need-row-weight-requires
 row-weight-requires c κs = search needs
@@ -35,13 +35,13 @@ cast-row : tie.Need-cast-row
 cast-row c = search needs
 
 add-cost : tie.Need-add-cost
-add-cost c = omega (arith, c .before .if2 .left, c .row-weight .ok)
+add-cost c = omega (arith, c .before .if2 .left, c .before .before .before .before .before .before .before .pre .3, c .row-weight .ok)
 
 returns-3 : tie.Need-returns-3
-returns-3 c = is-better _ _ _ _ _ _ (eq-eqb _ _ (c .before .before .before .before .before .if1 .left)) (c .before .before .before .if2 .left) (c .before .before .row-weight .ensures) (c .if3 .taken)
+returns-3 c = is-better _ _ _ _ _ _ (eq-eqb _ _ (c .before .before .before .before .before .before .if1 .left)) (omega (arith, c .before .before .before .if2 .left, c .before .before .before .before .before .before .before .before .before .pre .3)) (c .before .before .row-weight .ensures) (c .if3 .taken)
 
 returns-4 : tie.Need-returns-4
-returns-4 c = no-better _ _ _ _ _ _ (eq-eqb _ _ (c .before .before .before .before .before .if1 .left)) (c .before .before .before .if2 .left) (c .before .before .row-weight .ensures) (c .if3 .left)
+returns-4 c = no-better _ _ _ _ _ _ (eq-eqb _ _ (c .before .before .before .before .before .before .if1 .left)) (omega (arith, c .before .before .before .if2 .left, c .before .before .before .before .before .before .before .before .before .pre .3)) (c .before .before .row-weight .ensures) (c .if3 .left)
 
 pub better-spec : {M : Type 1} → statement M
 better-spec =
