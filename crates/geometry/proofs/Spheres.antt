@@ -22,7 +22,7 @@ use Rattle.geometry.proofs.Terms.{VectorE, vec, dotE, crossE, scaledE, 
 use Rattle.integers.proofs.Bounds.{at-most-sub}
 use Rattle.integers.proofs.Order.{equal-is, less-by-multiple, equal-by-multiple, product-suc, not-below, true≢false}
 use Rattle.geometry.specs.Vectors.{differenceOf, dotOf, crossOf, squareOf, scaledBy, plus, minus, opposite, Within}
-use Rattle.geometry.specs.Spheres.{orientOf, coplanar, centreOf, distanceOf, strictlyInside, onSphere, positionOf, liftOf, pencilOf, turned, sphereOf, positionBy, LiftedBounds, PencilBounds, SphereBounds}
+use Rattle.geometry.specs.Spheres.{orientOf, coplanar, centreOf, distanceOf, strictlyInside, onSphere, positionOf, liftOf, pencilOf, turned, noSphere, sphereOf, positionBy, LiftedBounds, PencilBounds, SphereBounds}
 use Rattle.geometry.proofs.Vectors.{within-difference, within-plus, within-minus, within-scaled, within-cross, at-most-dot}
 
 -- ---- bounds
@@ -48,9 +48,17 @@ turned-bounds o c h k = go (ltZ o (pos 0))
 
 pub sphere-bounds : {k : Pencil} {t : Lifted} → PencilBounds k → LiftedBounds t → SphereBounds (sphereOf k t)
 sphere-bounds {k} {t} h l =
-    turned-bounds (dotOf (k .normal) (t .vector)) (plus (crossOf (k .weighted) (t .vector)) (scaledBy (t .square) (k .normal)))
+    given-or (equal (dotOf (k .normal) (t .vector)) (pos 0))
+    (turned-bounds (dotOf (k .normal) (t .vector)) (plus (crossOf (k .weighted) (t .vector)) (scaledBy (t .square) (k .normal)))
     (at-most-dot (h .normal-in) (l .vector-in))
-    (within-plus (within-cross (h .weighted-in) (l .vector-in)) (within-scaled (l .square-in) (h .normal-in)))
+    (within-plus (within-cross (h .weighted-in) (l .vector-in)) (within-scaled (l .square-in) (h .normal-in))))
+  where
+    nothing : {n : ℕ} → AtMost n (pos 0)
+    nothing = record { size = omega arith }
+
+    given-or : (b : Bool) {s : Sphere} → SphereBounds s → SphereBounds (cond b noSphere s)
+    given-or true g = record { orient-in = nothing; centre-in = record { in-x = nothing; in-y = nothing; in-z = nothing } }
+    given-or false g = g
 
 -- ---- the computed sphere is the one of the definitions
 
@@ -79,9 +87,11 @@ module _ (p q r s : GridPoint) where
   abbrev pub computedSphere : Sphere
   computedSphere = sphereOf (pencilOf (liftOf p q) (liftOf p r)) (liftOf p s)
 
-  pub sphere-is : computedSphere ≡ turned (orientOf p q r s) (centreOf p q r s)
+  pub sphere-is : computedSphere ≡ cond (coplanar p q r s) noSphere (turned (orientOf p q r s) (centreOf p q r s))
   unfolding orientOf centreOf
-  sphere-is = λ i. turned (triple-product (differenceOf q p) (differenceOf r p) (differenceOf s p) i) (pencil-centre (differenceOf q p) (differenceOf r p) (differenceOf s p) i)
+  sphere-is = λ i.
+      let o = triple-product (differenceOf q p) (differenceOf r p) (differenceOf s p) i in
+      cond (equal o (pos 0)) noSphere (turned o (pencil-centre (differenceOf q p) (differenceOf r p) (differenceOf s p) i))
 
 -- the difference of two squared distances from a centre is a multiple of the power
 module _ (o : ℤ) (b v : Vector) (p : GridPoint) where
@@ -129,6 +139,7 @@ module _ (p q r s w : GridPoint) where
   pub position-is : coplanar p q r s ≡ false → positionBy (computedSphere p q r s) (liftOf p w) ≡ positionOf p q r s w
   position-is h =
       ap (λ (k : Sphere). positionBy k (liftOf p w)) (sphere-is p q r s)
+      ∙ ap (λ (t : Bool). positionBy (cond t noSphere (turned (orientOf p q r s) (centreOf p q r s))) (liftOf p w)) h
       ∙ placed (orientOf p q r s) refl (λ e. true≢false (sym (equal-is e) ∙ h))
 
 -- the code's orientation is 0 where the four are in one plane
@@ -137,7 +148,11 @@ turned-orient (pos n) c = ap (λ (t : Bool). equal (cond {A = Sphere} t (record 
 turned-orient (negsuc n) c = ap (λ (z : ℤ). equal z (pos 0)) (+ℤ-idl (pos (suc n))) ∙ ne-eqb (suc n) 0 (λ e. omega arith)
 
 pub coplanar-is : (p q r s : GridPoint) → equal (computedSphere p q r s .orient) (pos 0) ≡ coplanar p q r s
-coplanar-is p q r s = ap (λ (k : Sphere). equal (k .orient) (pos 0)) (sphere-is p q r s) ∙ turned-orient (orientOf p q r s) (centreOf p q r s)
+coplanar-is p q r s = ap (λ (k : Sphere). equal (k .orient) (pos 0)) (sphere-is p q r s) ∙ go (coplanar p q r s) refl
+  where
+    go : (b : Bool) → coplanar p q r s ≡ b → equal (cond b noSphere (turned (orientOf p q r s) (centreOf p q r s)) .orient) (pos 0) ≡ b
+    go true e = refl
+    go false e = turned-orient (orientOf p q r s) (centreOf p q r s) ∙ e
 
 -- ---- what a position tells
 

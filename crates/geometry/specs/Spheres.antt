@@ -58,9 +58,15 @@ pencilOf u v = record { normal = crossOf (u .vector) (v .vector); weighted = min
 abbrev pub turned : ℤ → Vector → Sphere
 turned o c = cond (ltZ o (pos 0)) (record { orient = pos 0 -ℤ o; centre = opposite c }) (record { orient = o; centre = c })
 
--- the sphere of a pencil that goes through t
+-- what stands for the sphere of four points in one plane
+abbrev pub noSphere : Sphere
+noSphere = record { orient = pos 0; centre = record { x = pos 0; y = pos 0; z = pos 0 } }
+
+-- the sphere of a pencil that goes through t, where t is not in one plane with the rest
 abbrev pub sphereOf : Pencil → Lifted → Sphere
-sphereOf k t = turned (dotOf (k .normal) (t .vector)) (plus (crossOf (k .weighted) (t .vector)) (scaledBy (t .square) (k .normal)))
+sphereOf k t =
+    cond (equal (dotOf (k .normal) (t .vector)) (pos 0)) noSphere
+    (turned (dotOf (k .normal) (t .vector)) (plus (crossOf (k .weighted) (t .vector)) (scaledBy (t .square) (k .normal))))
 
 -- orientation times (the squared distance from the centre, less the squared radius)
 abbrev pub powerOf : Sphere → Lifted → ℤ

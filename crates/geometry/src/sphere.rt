@@ -115,16 +115,20 @@ pub fn pencil_through(u: Lifted, v: Lifted) -> Pencil
     Pencil { normal, weighted }
 }
 
-// Once for four corners.
+// Once for four corners. Where they are in one plane the orientation is 0, and nothing more is computed.
 pub fn circumsphere(pencil: Pencil, t: Lifted) -> Sphere
     requires { ⌜ (PencilBounds pencil) × (LiftedBounds t) ⌝ }
     ensures { λ r. ⌜ r ≡ sphereOf pencil t ⌝ }
 {
     let normal = pencil.normal;
-    let weighted = pencil.weighted;
     let v = t.vector;
-    let l = t.square;
     let o = dot(normal, v);
+    if o == 0 {
+        let centre = Vector { x: 0, y: 0, z: 0 };
+        return Sphere { orient: 0, centre };
+    }
+    let weighted = pencil.weighted;
+    let l = t.square;
     let c = cross(weighted, v);
     let centre = scaled_sum(c, l, normal);
     turn(o, centre)

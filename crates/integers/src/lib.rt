@@ -6,22 +6,22 @@ ghost use lib.Signed.{_<ℤ_};
 ghost use Rattle.integers.specs.Bounds.{AtMost};
 ghost use Rattle.integers.specs.Rounding.{floorRoot, floorDiv, clamped};
 
-// The whole part of the square root, by bisection.
+// The whole part of the square root: it is at least `root` and below root + span. A round only chooses a value, which takes the machine no branch.
 pub fn floor_root(x: u64) -> u64
     requires { ⌜ x < 2 ^ 52 ⌝ }
     ensures { λ r. ⌜ r ≡ floorRoot x ⌝ }
 {
-    let mut low: u64 = 0;
-    let mut high: u64 = 0x400_0000;
-    while high - low > 1 {
-        let mid = low + (high - low) / 2;
-        if mid * mid <= x {
-            low = mid;
-        } else {
-            high = mid;
+    let mut root: u64 = 0;
+    let mut span: u64 = 0x400_0000;
+    while span > 1 {
+        let half = span / 2;
+        let next = root + half;
+        if next * next <= x {
+            root = next;
         }
+        span -= half;
     }
-    low
+    root
 }
 
 // n / k, rounded toward minus infinity. The machine rounds toward zero: one too many where the remainder is below zero.
