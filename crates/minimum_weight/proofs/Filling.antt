@@ -14,7 +14,8 @@ use borrow.Author.Tests.{leb-true, leb-false}
 use Rattle.triangulation.specs.Triangulations.{Job}
 use Rattle.triangulation.specs.Jobs.{jobOf}
 use Rattle.triangulation.specs.Recursion.{bestFrom, costOf}
-use Rattle.minimum_weight.specs.Tables.{WellFormed, Blocks, Ready, ReadyAt, Filled, vertexA, vertexB, vertexC}
+use Rattle.blocks.specs.Blocks.{Starts}
+use Rattle.minimum_weight.specs.Tables.{WellFormed, Ready, ReadyAt, Filled, vertexA, vertexB, vertexC}
 
 -- one of two orders
 order : (x y : ℕ) → (x ≤ y) ⊎ (y < x)
@@ -55,23 +56,23 @@ module _ (job : Job) (before : List ℕ) where
       same? : (x y : ℕ) → (x ≡ y) ⊎ (x ≢ y)
       same? x y = ⊎-elim (λ (l : x ≤ y). ⊎-elim (λ q. inl q) (λ (q : x < y). inr (λ (z : x ≡ y). omega arith)) (eq-or-lt-of-le l)) (λ (l : y < x). inr (λ (z : x ≡ y). omega arith)) (order x y)
 
-module _ (n : ℕ) (candidates : List (List ℕ)) (weights : List ℕ) (rows : List (List ℕ)) (ok : WellFormed n candidates weights rows) (starts : List ℕ) (blocks : Blocks candidates starts) where
+module _ (n : ℕ) (candidates : List (List ℕ)) (weights : List ℕ) (rows : List (List ℕ)) (ok : WellFormed n candidates weights rows) (starts : List ℕ) (blocks : Starts candidates starts) where
   abbrev jobHere : Job
   jobHere = jobOf n candidates weights rows
 
   module _ (before work : List ℕ) (v t : ℕ) (hv : v < 64) (f : Filling jobHere before (getD starts v 0) (getD starts (v + 1) 0) t work) (h : t < getD starts (v + 1) 0) where
     t-there : t < length candidates
-    t-there = omega (arith, blocks .within (v + 1) (omega arith))
+    t-there = omega (arith, blocks .at (v + 1) (omega arith) .within)
 
     first : v ≤ vertexA candidates t
-    first = blocks .above v t (omega arith) t-there (f .start)
+    first = blocks .at v (omega arith) .above t (f .start) t-there
 
     -- (a, x, b) stands before (a, b, c) in its block
     pub left-ready : ReadyAt jobHere work (vertexA candidates t) (vertexB candidates t)
     left-ready u l ea ec = f .ready u l (inr (low, high))
       where
         low : getD starts v 0 ≤ u
-        low = ⊎-elim (λ k. k) (λ (k : u < getD starts v 0). absurd (omega (arith, first, blocks .below v u (omega arith) k))) (order (getD starts v 0) u)
+        low = ⊎-elim (λ k. k) (λ (k : u < getD starts v 0). absurd (omega (arith, first, blocks .at v (omega arith) .below u k))) (order (getD starts v 0) u)
 
         high : u < t
         high = ⊎-elim
@@ -84,15 +85,15 @@ module _ (n : ℕ) (candidates : List (List ℕ)) (weights : List ℕ) (rows : L
     -- (b, x, c) stands in a later block
     pub right-ready : ReadyAt jobHere work (vertexB candidates t) (vertexC candidates t)
     right-ready u l ea ec = f .ready u l (inl (⊎-elim (λ k. k)
-        (λ (k : u < getD starts (v + 1) 0). absurd (omega (arith, first, ok .valid .ab t t-there, blocks .below (v + 1) u (omega arith) k)))
+        (λ (k : u < getD starts (v + 1) 0). absurd (omega (arith, first, ok .valid .ab t t-there, blocks .at (v + 1) (omega arith) .below u k)))
         (order (getD starts (v + 1) 0) u)))
 
   -- before the last block, and after the first
   pub fill-start : (work : List ℕ) → Filled jobHere work (getD starts n 0) work
-  fill-start work = record { long = refl; kept = refl; ready = λ u l k. absurd (omega (arith, blocks .above n u (omega (arith, ok .bounded .n64)) l k, ok .valid .ab u l, ok .valid .bc u l, ok .valid .cn u l)) }
+  fill-start work = record { long = refl; kept = refl; ready = λ u l k. absurd (omega (arith, blocks .at n (omega (arith, ok .bounded .n64)) .above u k l, ok .valid .ab u l, ok .valid .bc u l, ok .valid .cn u l)) }
 
   pub fill-end : {before work : List ℕ} {v : ℕ} → v ≤ 0 → Filled jobHere before (getD starts v 0) work → Filled jobHere before 0 work
-  fill-end {v = v} h f = record { long = f .long; kept = f .kept; ready = λ u l k. f .ready u l (⊎-elim (λ m. m) (λ (m : u < getD starts v 0). absurd (omega (arith, blocks .below v u (omega arith) m))) (order (getD starts v 0) u)) }
+  fill-end {v = v} h f = record { long = f .long; kept = f .kept; ready = λ u l k. f .ready u l (⊎-elim (λ m. m) (λ (m : u < getD starts v 0). absurd (omega (arith, blocks .at v (omega arith) .below u m))) (order (getD starts v 0) u)) }
 
 module _ (job : Job) where
   -- one block after another

@@ -1,6 +1,5 @@
 pub mod Bools
 pub mod RowSearch
-pub mod BlockStarts
 pub mod Picks
 pub mod Edges
 pub mod Runs

@@ -25,12 +25,6 @@ pub record Ascending (candidates : List (List ℕ)) : Type 0 where
   pub a-up : (k l : ℕ) → k < l → l < length candidates → vertexA candidates k ≤ vertexA candidates l
   pub b-up : (k l : ℕ) → k < l → l < length candidates → vertexA candidates k ≡ vertexA candidates l → vertexB candidates k ≤ vertexB candidates l
 
--- at v, `starts` has the number of candidates whose first vertex is below v
-pub record Blocks (candidates : List (List ℕ)) (starts : List ℕ) : Type 0 where
-  pub within : (v : ℕ) → v < 65 → getD starts v 0 ≤ length candidates
-  pub below : (v k : ℕ) → v < 65 → k < getD starts v 0 → vertexA candidates k < v
-  pub above : (v k : ℕ) → v < 65 → k < length candidates → getD starts v 0 ≤ k → v ≤ vertexA candidates k
-
 -- a row is before (o, i)
 abbrev pub rowIsBefore : List ℕ → ℕ → ℕ → Bool
 rowIsBefore r o i = ltb (getD r 0 0) o || eqb (getD r 0 0) o && ltb (getD r 1 0) i

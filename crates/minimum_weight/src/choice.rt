@@ -6,7 +6,8 @@ ghost use Prim.Native.Nat.{_^_, _<_, _≤_};
 ghost use lib.ListN.{length, getD};
 ghost use lib.Dec.{eqb};
 ghost use Rattle.triangulation.specs.Jobs.{rowWeight};
-ghost use Rattle.minimum_weight.specs.Tables.{RowsAscend, Blocks, vertexC, betterOf, pickUnder, pickAtEdge};
+ghost use Rattle.blocks.specs.Blocks.{Starts};
+ghost use Rattle.minimum_weight.specs.Tables.{RowsAscend, vertexC, betterOf, pickUnder, pickAtEdge};
 
 // A total and the candidate that starts it.
 pub struct Pick {
@@ -54,7 +55,7 @@ fn best_in_block(
     i: u8,
     j: u8,
 ) -> Pick
-    requires { ⌜ Blocks (now candidates) (now starts) × RowsAscend (now rows) × (length (now candidates) ≤ length (now work)) × (i < 64) ⌝ }
+    requires { ⌜ Starts (now candidates) (now starts) × RowsAscend (now rows) × (length (now candidates) ≤ length (now work)) × (i < 64) ⌝ }
     ensures { λ r. ⌜ r ≡ pickUnder (now (candidates .entry)) (now (work .entry)) (now (rows .entry)) t i j ⌝ }
 {
     let block = i as usize;
@@ -78,7 +79,7 @@ pub fn best_under(
     i: u8,
     j: u8,
 ) -> Pick
-    requires { ⌜ Blocks (now candidates) (now starts) × RowsAscend (now rows) × (length (now candidates) ≤ length (now work)) × (i < j) × (j < 64) ⌝ }
+    requires { ⌜ Starts (now candidates) (now starts) × RowsAscend (now rows) × (length (now candidates) ≤ length (now work)) × (i < j) × (j < 64) ⌝ }
     ensures { λ r. ⌜ r ≡ pickAtEdge (now (candidates .entry)) (now (work .entry)) (now (rows .entry)) t i j ⌝ }
 {
     if j - i == 1 {

@@ -10,7 +10,8 @@ ghost use Prim.Native.Nat.{_+_, _<_, _≤_};
 ghost use lib.ListN.{length, getD};
 ghost use Rattle.triangulation.specs.Jobs.{jobOf};
 ghost use Rattle.triangulation.specs.Recursion.{costOf, bestFrom};
-ghost use Rattle.minimum_weight.specs.Tables.{WellFormed, Blocks, Cost, Run, joinCost, vertexA, vertexB, vertexC, ReadyAt, Filled};
+ghost use Rattle.blocks.specs.Blocks.{Starts};
+ghost use Rattle.minimum_weight.specs.Tables.{WellFormed, Cost, Run, joinCost, vertexA, vertexB, vertexC, ReadyAt, Filled};
 
 // The total of a triangle of weight w over parts of totals left and right.
 fn join_cost(w: u32, left: u64, right: u64) -> u64
@@ -37,7 +38,7 @@ fn cost_of(
     work: &[u64],
     t: usize,
 ) -> u64
-    requires { ⌜ WellFormed n (now candidates) (now weights) (now rows) × Blocks (now candidates) (now starts) × (length (now candidates) ≤ length (now work)) × (t < length (now candidates)) × Run (now rows) t (now run) ⌝ }
+    requires { ⌜ WellFormed n (now candidates) (now weights) (now rows) × Starts (now candidates) (now starts) × (length (now candidates) ≤ length (now work)) × (t < length (now candidates)) × Run (now rows) t (now run) ⌝ }
     requires { ⌜ ReadyAt (jobOf n (now candidates) (now weights) (now rows)) (now work) (vertexA (now candidates) t) (vertexB (now candidates) t) × ReadyAt (jobOf n (now candidates) (now weights) (now rows)) (now work) (vertexB (now candidates) t) (vertexC (now candidates) t) ⌝ }
     ensures { λ r. ⌜ r ≡ costOf (bestFrom (jobOf n (now (candidates .entry)) (now (weights .entry)) (now (rows .entry))) n t) ⌝ }
 {
@@ -60,7 +61,7 @@ fn fill_block(
     work: &mut [u64],
     v: usize,
 )
-    requires { ⌜ WellFormed n (now candidates) (now weights) (now rows) × Blocks (now candidates) (now starts) × (length (now candidates) ≤ length (now work)) × (v < 64) ⌝ }
+    requires { ⌜ WellFormed n (now candidates) (now weights) (now rows) × Starts (now candidates) (now starts) × (length (now candidates) ≤ length (now work)) × (v < 64) ⌝ }
     requires { ⌜ Filled (jobOf n (now candidates) (now weights) (now rows)) (now work) (getD (now starts) (v + 1) 0) (now work) ⌝ }
     ensures { λ _. ⌜ Filled (jobOf n (now (candidates .entry)) (now (weights .entry)) (now (rows .entry))) (now (work .entry)) (getD (now (starts .entry)) v 0) (now (work .exit)) ⌝ }
 {
@@ -86,7 +87,7 @@ pub fn fill(
     rows: &[[u32; 3]],
     work: &mut [u64],
 )
-    requires { ⌜ WellFormed n (now candidates) (now weights) (now rows) × Blocks (now candidates) (now starts) × (length (now candidates) ≤ length (now work)) ⌝ }
+    requires { ⌜ WellFormed n (now candidates) (now weights) (now rows) × Starts (now candidates) (now starts) × (length (now candidates) ≤ length (now work)) ⌝ }
     ensures { λ _. ⌜ Filled (jobOf n (now (candidates .entry)) (now (weights .entry)) (now (rows .entry))) (now (work .entry)) 0 (now (work .exit)) ⌝ }
 {
     let mut v = n;

@@ -1,6 +1,5 @@
 // The triangulation of least total, by dynamic programming over the candidates.
 // work[t] is the least total of a part that starts with candidate t.
-mod blocks;
 mod choice;
 mod costs;
 mod preorder;

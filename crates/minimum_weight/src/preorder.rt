@@ -6,7 +6,8 @@ ghost use lib.ListN.{length};
 ghost use Rattle.lists.specs.Lists.{filled};
 ghost use Rattle.triangulation.specs.Jobs.{jobOf};
 ghost use Rattle.triangulation.specs.Recursion.{costOf, restOf, bestUnder};
-ghost use Rattle.minimum_weight.specs.Tables.{WellFormed, Blocks, AllReady};
+ghost use Rattle.blocks.specs.Blocks.{Starts};
+ghost use Rattle.minimum_weight.specs.Tables.{WellFormed, AllReady};
 
 // The part of the polygon from vertex `first` to vertex `last`, under the triangle `outer`.
 pub struct Part {
@@ -25,7 +26,7 @@ pub fn write_preorder(
     work: &[u64],
     triangles: &mut [u16],
 )
-    requires { ⌜ WellFormed n (now candidates) (now weights) (now rows) × Blocks (now candidates) (now starts) × (length (now candidates) ≤ length (now work)) × (n ≤ length (now triangles) + 2) ⌝ }
+    requires { ⌜ WellFormed n (now candidates) (now weights) (now rows) × Starts (now candidates) (now starts) × (length (now candidates) ≤ length (now work)) × (n ≤ length (now triangles) + 2) ⌝ }
     requires { ⌜ AllReady (jobOf n (now candidates) (now weights) (now rows)) (now work) × (costOf (bestUnder (jobOf n (now candidates) (now weights) (now rows)) n (length (now candidates)) 0 (n - 1)) < 2 ^ 63) ⌝ }
     ensures { λ _. ⌜ now (triangles .exit) ≡ filled (restOf (bestUnder (jobOf n (now (candidates .entry)) (now (weights .entry)) (now (rows .entry))) n (length (now (candidates .entry))) 0 (n - 1))) (now (triangles .entry)) ⌝ }
 {

@@ -35,10 +35,10 @@ loop-holds : tie.Need-loop-holds Inv-loop μ-loop
 loop-holds c = let s = c .before .before .before in (omega arith, starts-up _ _ _ (s .pre .0) (s .pre .3), block-start _ _ _ _ _ _ (s .pre .0) (s .pre .3))
 
 better-requires : tie.Need-better-requires Inv-loop μ-loop
-better-requires c κs = let s = c .before .before .before .before .before in (omega (arith, s .pre .0 .within (s .args .i + 1) (omega (arith, s .pre .3))), s .pre .2, s .pre .1, rw (c .before .loop .inv .2) (pick-bounded _ _ _ (c .before .loop .u)))
+better-requires c κs = let s = c .before .before .before .before .before in (omega (arith, s .pre .0 .at (s .args .i + 1) (omega (arith, s .pre .3)) .within), s .pre .2, s .pre .1, rw (c .before .loop .inv .2) (pick-bounded _ _ _ (c .before .loop .u)))
 
 add-u : tie.Need-add-u Inv-loop μ-loop
-add-u c = let s = c .before .before .before .before .before .before in omega (arith, c .before .loop-test .taken, s .pre .0 .within (s .args .i + 1) (omega (arith, s .pre .3)), s .good .1 .0)
+add-u c = let s = c .before .before .before .before .before .before in omega (arith, c .before .loop-test .taken, s .pre .0 .at (s .args .i + 1) (omega (arith, s .pre .3)) .within, s .good .1 .0)
 
 loop-less : tie.Need-loop-less Inv-loop μ-loop
 loop-less c = search needs

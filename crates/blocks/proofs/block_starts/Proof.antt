@@ -1,18 +1,18 @@
--- `minimum_weight::blocks::block_starts` meets its contract. Assumes nothing.
+-- `blocks::block_starts` meets its contract. Assumes nothing.
 use Prim.Native.Nat.{ℕ, _+_, _-_}
 use mathlib.Core.Path.{sym, _∙_}
 use native.Mathlib.Omega.{arith}
 use borrow.Author.Needs.{needs}
 use lib.ListN.{length, length-replicate}
-use Rattle.minimum_weight.proofs.BlockStarts.{Placed, there, placed-start, placed-pass, placed-set, placed-all}
-use Rattle.minimum_weight.proofs.blocks.block_starts.Statement.{statement}
-use Rattle.minimum_weight.proofs.blocks.block_starts.Tie as tie
+use Rattle.blocks.proofs.Placing.{Placed, there, placed-start, placed-pass, placed-set, placed-all}
+use Rattle.blocks.proofs.block_starts.Statement.{statement}
+use Rattle.blocks.proofs.block_starts.Tie as tie
 
 abbrev Inv-loop : tie.InvT-loop
-Inv-loop candidates starts₀ v₀ k₀ starts v k = Placed candidates starts v k
+Inv-loop candidates starts₀ k₀ i₀ starts k i = Placed candidates starts k i
 
 abbrev μ-loop : tie.MeasureT-loop
-μ-loop candidates starts₀ v₀ k₀ starts v k = (length candidates - k) + (65 - v)
+μ-loop candidates starts₀ k₀ i₀ starts k i = (length candidates - i) + (65 - k)
 
 loop-holds : tie.Need-loop-holds Inv-loop μ-loop
 loop-holds c = placed-start _ _ (length-replicate {A = ℕ} 65 0)
@@ -20,14 +20,14 @@ loop-holds c = placed-start _ _ (length-replicate {A = ℕ} 65 0)
 starts-below-requires : tie.Need-starts-below-requires Inv-loop μ-loop
 starts-below-requires c κs = search needs
 
-add-k : tie.Need-add-k Inv-loop μ-loop
-add-k c = omega (arith, there (c .before .before .before .before .args .candidates .now) (c .before .before .before .loop .k) (c .before .before .before .loop .v) (sym (c .before .starts-below .ensures) ∙ c .if1 .taken))
+add-i : tie.Need-add-i Inv-loop μ-loop
+add-i c = omega (arith, there (c .before .before .before .before .args .candidates .now) (c .before .before .before .loop .i) (c .before .before .before .loop .k) (sym (c .before .starts-below .ensures) ∙ c .if1 .taken))
 
 loop-less : tie.Need-loop-less Inv-loop μ-loop
-loop-less c = omega (arith, there (c .before .before .before .before .args .candidates .now) (c .before .before .before .loop .k) (c .before .before .before .loop .v) (sym (c .before .starts-below .ensures) ∙ c .if1 .taken))
+loop-less c = omega (arith, there (c .before .before .before .before .args .candidates .now) (c .before .before .before .loop .i) (c .before .before .before .loop .k) (sym (c .before .starts-below .ensures) ∙ c .if1 .taken))
 
 loop-again : tie.Need-loop-again Inv-loop μ-loop
-loop-again c = let t = there (c .before .before .before .before .args .candidates .now) (c .before .before .before .loop .k) (c .before .before .before .loop .v) (sym (c .before .starts-below .ensures) ∙ c .if1 .taken) in placed-pass _ (c .before .before .before .loop .inv) (t .0) (t .1)
+loop-again c = let t = there (c .before .before .before .before .args .candidates .now) (c .before .before .before .loop .i) (c .before .before .before .loop .k) (sym (c .before .starts-below .ensures) ∙ c .if1 .taken) in placed-pass _ (c .before .before .before .loop .inv) (t .0) (t .1)
 
 mul-starts : tie.Need-mul-starts Inv-loop μ-loop
 mul-starts c = search needs
@@ -35,8 +35,8 @@ mul-starts c = search needs
 array-write-starts : tie.Need-array-write-starts Inv-loop μ-loop
 array-write-starts c = search needs
 
-add-v : tie.Need-add-v Inv-loop μ-loop
-add-v c = search needs
+add-k : tie.Need-add-k Inv-loop μ-loop
+add-k c = search needs
 
 loop-less-2 : tie.Need-loop-less-2 Inv-loop μ-loop
 loop-less-2 c = omega (arith, c .before .before .before .loop .inv .range)
@@ -55,12 +55,12 @@ block-starts-spec =
     μ-loop
     loop-holds
     starts-below-requires
-    add-k
+    add-i
     loop-less
     loop-again
     mul-starts
     array-write-starts
-    add-v
+    add-k
     loop-less-2
     loop-again-2
     returns)
