@@ -10,6 +10,7 @@ use Rattle.polygon.specs.declared.Polygon.{Polygon}
 use Rattle.jobs.specs.Job.{entryAt, vertexC, hangs}
 use Rattle.lists.specs.Lists.{over, upFrom, when}
 use Rattle.lists.proofs.Ranges.{over-step, over-end}
+use Rattle.lists.proofs.Parts.{over-lengths}
 use Rattle.hinges.specs.Hinges.{Sorted, innersOn, innersAt, innersOf, endingIn}
 use Rattle.hinges.proofs.Blocks.{two-edges}
 use Rattle.dihedrals.specs.Weights.{rowAt, rowsOn, rowsOf}
@@ -51,11 +52,6 @@ edge-rows p cs s o h =
     rows-of-inners p cs o ∙ ap (map (rowAt p cs o)) (two-edges cs s o h) ∙ map-append (rowAt p cs o) (innersAt cs o 0) (innersAt cs o 1)
     ∙ ap (λ l. rowsAt p cs o 0 ++ l) (sym (append-nil (rowsAt p cs o 1)))
 
-up-lengths : {A B : Type 0} (f : ℕ → List A) (g : ℕ → List B) (lo k : ℕ) → ((i : ℕ) → length (f i) ≡ length (g i)) → length (upFrom f lo k) ≡ length (upFrom g lo k)
-unfolding upFrom
-up-lengths f g lo zero h = refl
-up-lengths f g lo (suc k) h = length-append (f lo) (upFrom f (suc lo) k) ∙ (λ j. h lo j + up-lengths f g (suc lo) k h j) ∙ sym (length-append (g lo) (upFrom g (suc lo) k))
-
 -- there are as many rows as hanging pairs
 pub row-count : (p : Polygon) (cs : List (List ℕ)) → length (rowsOf p cs) ≡ length (innersOf cs)
-row-count p cs = up-lengths (rowsOn p cs) (innersOn cs) 0 (length cs - 0) (λ o. ap length (rows-of-inners p cs o) ∙ length-map (innersOn cs o) (rowAt p cs o))
+row-count p cs = over-lengths (rowsOn p cs) (innersOn cs) 0 (length cs) (λ o l m. ap length (rows-of-inners p cs o) ∙ length-map (innersOn cs o) (rowAt p cs o))
