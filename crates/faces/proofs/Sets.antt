@@ -1,19 +1,19 @@
 -- What is in a set after the faces of a four were put in, and how many triples there can be. Assumes nothing.
-use mathlib.Core.Path.{_≡_, refl, sym, _∙_, ap, subst}
+use mathlib.Core.Path.{_≡_, sym, _∙_, ap}
 use mathlib.Core.Bool.{Bool, true, false}
-use mathlib.Core.List.{List, [], _∷_, _++_}
-use Prim.Native.Nat.{ℕ, zero, suc, _+_, _*_, _-_, _≤_, _<_}
+use mathlib.Core.List.{List}
+use Prim.Native.Nat.{ℕ, zero, suc, _+_, _-_, _≤_, _<_}
 use native.Mathlib.Nat.{le-trans}
 use native.Mathlib.Omega.{arith}
-use borrow.Author.Tests.{eqb-true, eqb-false, eq-eqb, ne-eqb}
+use borrow.Author.Tests.{eqb-true, eqb-false, eq-eqb}
 use lib.Dec.{eqb}
 use lib.ListN.{length, getD, set, replicate, length-append, length-set, getD-replicate}
 use lib.Seq.{getD-set-same, getD-set-other}
 use Rattle.lists.specs.Lists.{over, upFrom, when, both, either}
-use Rattle.lists.proofs.Choice.{Truth, holds, fails, truth, true-not-false, both-left, both-right, both-true, either-left, not-true-false}
+use Rattle.lists.proofs.Choice.{Truth, holds, fails, truth, both-left, both-right, both-true, not-true-false}
 use Rattle.lists.proofs.Ranges.{up-bound, when-bound}
 use Rattle.lists.proofs.Parts.{over-same}
-use Rattle.faces.proofs.Bools.{either-assoc}
+use Rattle.lists.proofs.Bools.{either-assoc}
 use Rattle.faces.proofs.Masks.{bit-set, bit-none}
 use Rattle.faces.specs.Faces.{sameTriple, isFace, pairAt, withVertex, hasVertex, has, withTriple, withFaces, triple, triplesOf}
 

@@ -2,7 +2,7 @@
 use mathlib.Core.Path.{_≡_, refl, sym, _∙_, ap}
 use mathlib.Core.Bool.{Bool, true, false, cond}
 use mathlib.Core.List.{List}
-use Prim.Native.Nat.{ℕ, _-_, _≤_, _<_}
+use Prim.Native.Nat.{ℕ, _-_}
 use native.Mathlib.Omega.{arith}
 use borrow.Author.Tests.{eq-eqb, le-ltb, eqb-true}
 use lib.Dec.{eqb}
@@ -16,7 +16,7 @@ use Rattle.faces.proofs.Sets.{triples-bound}
 use Rattle.lists.specs.Lists.{either}
 use Rattle.lists.proofs.Choice.{Truth, holds, fails, truth, yes, no}
 use Rattle.finder.specs.declared.Found.the-variants.{Refused}
-use Rattle.finder.specs.Finding.{Finding, finding, short, shortTables, shortBeside, findOr13, findCall, findBesideCall}
+use Rattle.finder.specs.Finding.{finding, short, shortTables, shortBeside, findOr13, findCall, findBesideCall}
 use Rattle.finder.specs.Filling.{fillOr13}
 
 -- one test after the other, as one

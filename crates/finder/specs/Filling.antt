@@ -12,8 +12,8 @@ use Rattle.finder.specs.declared.Found.the-variants.{Lists, Refused}
 use Rattle.finder.specs.Finding.{Finding, finding, short}
 
 -- the triangles of a set on the polygon's vertices
-abbrev pub trianglesOf : Polygon → List ℕ → List (List ℕ)
-trianglesOf p masks = triplesOf (p .n) (has masks)
+abbrev pub facesOf : Polygon → List ℕ → List (List ℕ)
+facesOf p masks = triplesOf (p .n) (has masks)
 
 -- the tables have a place for each candidate, weight and row
 pub record Room (p : Polygon) (found candidates : List (List ℕ)) (weights : List ℕ) (rows : List (List ℕ)) : Type 0 where

@@ -3,7 +3,7 @@ use polygon::Polygon;
 ghost use mathlib.Core.Path.{_≡_};
 ghost use Rattle.dihedrals.specs.Lists.{Solid};
 ghost use Rattle.finder.specs.Finding.{numberOf, candidateCountOf, rowCountOf, finding, findCall, findBesideCall};
-ghost use Rattle.finder.specs.Filling.{trianglesOf, Room, Written, fillOr13};
+ghost use Rattle.finder.specs.Filling.{facesOf, Room, Written, fillOr13};
 
 // What the finder answers.
 pub enum Found {
@@ -58,8 +58,8 @@ fn write_lists(
     weights: &mut [u32],
     rows: &mut [[u32; 3]],
 )
-    requires { ⌜ (Solid p (trianglesOf p (now masks))) × Room p (trianglesOf p (now masks)) (now candidates) (now weights) (now rows) ⌝ }
-    ensures { λ _. ⌜ Written p (trianglesOf p (now (masks .entry))) (now (candidates .entry)) (now (weights .entry)) (now (rows .entry)) (now (candidates .exit)) (now (weights .exit)) (now (rows .exit)) ⌝ }
+    requires { ⌜ (Solid p (facesOf p (now masks))) × Room p (facesOf p (now masks)) (now candidates) (now weights) (now rows) ⌝ }
+    ensures { λ _. ⌜ Written p (facesOf p (now (masks .entry))) (now (candidates .entry)) (now (weights .entry)) (now (rows .entry)) (now (candidates .exit)) (now (weights .exit)) (now (rows .exit)) ⌝ }
 {
     let n = p.n;
     let count = faces::list(masks, n, candidates);
@@ -81,8 +81,8 @@ fn fill(
     weights: &mut [u32],
     rows: &mut [[u32; 3]],
 ) -> Found
-    requires { ⌜ Solid p (trianglesOf p (now masks)) ⌝ }
-    ensures { λ r. ⌜ finding r (now (candidates .exit)) (now (weights .exit)) (now (rows .exit)) ≡ fillOr13 p (trianglesOf p (now (masks .entry))) «triangle_places» «work_places» (now (candidates .entry)) (now (weights .entry)) (now (rows .entry)) ⌝ }
+    requires { ⌜ Solid p (facesOf p (now masks)) ⌝ }
+    ensures { λ r. ⌜ finding r (now (candidates .exit)) (now (weights .exit)) (now (rows .exit)) ≡ fillOr13 p (facesOf p (now (masks .entry))) «triangle_places» «work_places» (now (candidates .entry)) (now (weights .entry)) (now (rows .entry)) ⌝ }
 {
     let n = p.n;
     let count = faces::count(masks, n);

@@ -1,7 +1,7 @@
 -- The candidates that hang on one of them stand in two blocks. Assumes nothing.
 use mathlib.Core.Path.{_≡_, refl, sym, _∙_, ap, subst}
-use mathlib.Core.Bool.{Bool, true, false}
-use mathlib.Core.List.{List, [], _∷_, _++_, append-nil}
+use mathlib.Core.Bool.{Bool, false}
+use mathlib.Core.List.{List, [], _++_, append-nil}
 use Prim.Native.Nat.{ℕ, zero, suc, _+_, _-_, _≤_, _<_}
 use native.Mathlib.Omega.{arith}
 use borrow.Author.Tests.{eq-eqb, ne-eqb, ltb-true, ltb-false}
@@ -11,7 +11,7 @@ use lib.Seq.{getD-set-same, getD-set-other}
 use Rattle.lists.specs.Lists.{over, when, both, either}
 use Rattle.lists.proofs.Choice.{Truth, holds, fails, truth}
 use Rattle.lists.proofs.Parts.{over-same, over-split, over-empty}
-use Rattle.faces.proofs.Bools.{either-no}
+use Rattle.lists.proofs.Bools.{either-no}
 use Rattle.jobs.specs.Job.{entryAt, vertexA, vertexB, vertexC, sameEdge, hangs}
 use Rattle.hinges.specs.Hinges.{innersOn, innersAt, endingIn, Sorted, BlockStart}
 

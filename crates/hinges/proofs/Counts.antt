@@ -1,29 +1,24 @@
 -- The hanging pairs of the triangles of a set, counted triangle by triangle. Assumes nothing.
 use mathlib.Core.Path.{_≡_, refl, sym, _∙_, ap}
 use mathlib.Core.Bool.{Bool, true, false, cond}
-use mathlib.Core.List.{List, [], _∷_, _++_, flatMap, append-nil}
+use mathlib.Core.List.{List, [], _++_, flatMap, append-nil}
 use Prim.Native.Nat.{ℕ, _+_, _*_, _-_, _≤_, _<_}
 use native.Mathlib.Nat.{le-trans}
 use native.Mathlib.Omega.{arith}
 use borrow.Author.Tests.{eq-eqb, ne-eqb, eqb-true}
 use lib.Dec.{eqb}
-use lib.ListN.{length, getD, length-append}
-use Rattle.lists.specs.Lists.{over, when, both, either}
-use Rattle.lists.proofs.Choice.{Truth, holds, fails, truth, true-not-false, both-true}
+use lib.ListN.{length, length-append}
+use Rattle.lists.specs.Lists.{over, when, both}
+use Rattle.lists.proofs.Choice.{Truth, holds, fails, truth, both-true}
+use Rattle.lists.proofs.Bools.{both-no}
 use Rattle.lists.proofs.Ranges.{up-bound, when-bound}
-use Rattle.lists.proofs.Parts.{over-split, over-empty, over-only, over-same, over-lengths}
+use Rattle.lists.proofs.Parts.{over-split, over-empty, over-only, over-same, over-lengths, when-length, when-either}
 use Rattle.lists.proofs.Flattening.{over-entries, flat-sum}
 use Rattle.faces.specs.Faces.{triple, triplesOf}
-use Rattle.faces.proofs.Bools.{both-no}
 use Rattle.faces.proofs.Sets.{triples-bound}
 use Rattle.faces.proofs.Triples.{left1, left3, next3, flat-triples, left-lengths}
-use Rattle.jobs.specs.Job.{entryAt, vertexA, vertexB, vertexC, sameEdge, hangs}
+use Rattle.jobs.specs.Job.{entryAt, vertexA, vertexC, sameEdge, hangs}
 use Rattle.hinges.specs.Hinges.{innersOn, innersOf, beneath}
-
--- one place for each, whatever stands in it
-when-length : {A B : Type 0} (b : Bool) (x : A) (y : B) → length (when b x) ≡ length (when b y)
-when-length true x y = refl
-when-length false x y = refl
 
 -- a candidate s that hangs on t; one whose edge from first to last vertex is (i, j)
 abbrev hanging : List ℕ → List ℕ → List (List ℕ)
@@ -40,14 +35,9 @@ pairs-are cs =
     ∙ ap length (over-entries (λ t. flatMap (hanging t) cs) cs [])
 
 -- a candidate hangs on (a, b, c) by (a, b) or by (b, c), not by both
-either-part : {A : Type 0} (p q : Bool) (x : A) → both p q ≡ false → length (when (either p q) x) ≡ length (when p x) + length (when q x)
-either-part true true x e = absurd (true-not-false refl e)
-either-part true false x e = refl
-either-part false q x e = omega arith
-
 two-parts : (a b c : ℕ) → a < b → (s : List ℕ) → length (hanging (triple a b c) s) ≡ length (onEdge a b s) + length (onEdge b c s)
 unfolding hangs
-two-parts a b c h s = either-part (sameEdge (vertexA s) (vertexC s) a b) (sameEdge (vertexA s) (vertexC s) b c) s (apart (truth (eqb (vertexA s) a)))
+two-parts a b c h s = when-either (sameEdge (vertexA s) (vertexC s) a b) (sameEdge (vertexA s) (vertexC s) b c) s (apart (truth (eqb (vertexA s) a)))
   where
     apart : Truth (eqb (vertexA s) a) → both (sameEdge (vertexA s) (vertexC s) a b) (sameEdge (vertexA s) (vertexC s) b c) ≡ false
     apart (holds e) = both-no (sameEdge (vertexA s) (vertexC s) a b) (ap (λ (t : Bool). both t (eqb (vertexC s) c)) (ne-eqb (vertexA s) b (λ z. omega (arith, eqb-true (vertexA s) a e))))

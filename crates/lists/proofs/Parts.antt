@@ -1,10 +1,12 @@
 -- Lists over a range of numbers, cut in parts and compared number by number. Assumes nothing.
 use mathlib.Core.Path.{_≡_, refl, sym, _∙_, ap}
+use mathlib.Core.Bool.{Bool, true, false}
 use mathlib.Core.List.{List, [], _++_, append-assoc, append-nil}
 use Prim.Native.Nat.{ℕ, zero, suc, _+_, _-_, _≤_, _<_}
 use native.Mathlib.Omega.{arith}
 use lib.ListN.{length, length-append}
-use Rattle.lists.specs.Lists.{upFrom, over}
+use Rattle.lists.specs.Lists.{upFrom, over, when, both, either}
+use Rattle.lists.proofs.Choice.{true-not-false}
 use Rattle.lists.proofs.Ranges.{over-step}
 
 module _ {A : Type 0} where
@@ -57,6 +59,7 @@ module _ {A : Type 0} where
   pub over-same : (lo hi : ℕ) (f g : ℕ → List A) → ((i : ℕ) → lo ≤ i → i < hi → f i ≡ g i) → over lo hi f ≡ over lo hi g
   over-same lo hi f g h = up-same f g lo (hi - lo) (λ i l m. h i l (omega arith))
 
+-- lengths
 module _ {A B : Type 0} (f : ℕ → List A) (g : ℕ → List B) where
   up-lengths : (lo k : ℕ) → ((i : ℕ) → lo ≤ i → i < lo + k → length (f i) ≡ length (g i)) → length (upFrom f lo k) ≡ length (upFrom g lo k)
   unfolding upFrom
@@ -68,3 +71,14 @@ module _ {A B : Type 0} (f : ℕ → List A) (g : ℕ → List B) where
 
   pub over-lengths : (lo hi : ℕ) → ((i : ℕ) → lo ≤ i → i < hi → length (f i) ≡ length (g i)) → length (over lo hi f) ≡ length (over lo hi g)
   over-lengths lo hi h = up-lengths lo (hi - lo) (λ i l m. h i l (omega arith))
+
+-- what stands there does not matter
+pub when-length : {A B : Type 0} (b : Bool) (x : A) (y : B) → length (when b x) ≡ length (when b y)
+when-length true x y = refl
+when-length false x y = refl
+
+-- one of two tests that exclude each other
+pub when-either : {A : Type 0} (p q : Bool) (x : A) → both p q ≡ false → length (when (either p q) x) ≡ length (when p x) + length (when q x)
+when-either true true x e = absurd (true-not-false refl e)
+when-either true false x e = refl
+when-either false q x e = omega arith

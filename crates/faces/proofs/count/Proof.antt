@@ -1,8 +1,8 @@
 -- `faces::count` meets its contract, by what is left to count at each loop's head. Assumes nothing.
-use mathlib.Core.Path.{_≡_, sym, _∙_}
+use mathlib.Core.Path.{sym, _∙_}
 use mathlib.Core.Bool.{true, false}
 use mathlib.Core.Logic.{⊎-elim}
-use Prim.Native.Nat.{ℕ, _+_, _-_, _≤_, _<_}
+use Prim.Native.Nat.{_-_}
 use native.Mathlib.Omega.{arith}
 use Rattle.lists.proofs.Counting.{Counting, count-start, count-turn, count-push, count-moved, count-all}
 use Rattle.faces.specs.Faces.{has, triplesOf}

@@ -11,7 +11,7 @@ use Rattle.dihedrals.specs.Weights.{rowsOf}
 use Rattle.dihedrals.proofs.Rows.{row-count}
 use Rattle.finder.specs.declared.Found.the-variants.{Lists}
 use Rattle.finder.specs.Finding.{finding}
-use Rattle.finder.specs.Filling.{trianglesOf, fillOr13}
+use Rattle.finder.specs.Filling.{facesOf, fillOr13}
 use Rattle.finder.proofs.fill.Statement.{statement}
 use Rattle.finder.proofs.fill.Tie as tie
 
@@ -30,7 +30,7 @@ module _ (g : tie.After-count-rows) where
   begin = g .before .before .before
 
   abbrev triangles : List (List ℕ)
-  triangles = trianglesOf (begin .args .p) (begin .args .masks .now)
+  triangles = facesOf (begin .args .p) (begin .args .masks .now)
 
   count-is : g .before .count .result ≡ length triangles
   count-is = g .before .count .ensures

@@ -14,7 +14,7 @@ use Rattle.faces.proofs.Sets.{none-in}
 use Rattle.delaunay.specs.Candidates.{candidatesOf, cospherical}
 use Rattle.delaunay.proofs.Marking.{listed-are}
 use Rattle.dihedrals.specs.Lists.{Solid}
-use Rattle.finder.specs.Filling.{trianglesOf, fillOr13}
+use Rattle.finder.specs.Filling.{facesOf, fillOr13}
 use Rattle.finder.proofs.Candidates.{candidates-solid}
 use Rattle.finder.proofs.Answers.{filled-is, refused-12, refused-code}
 use Rattle.finder.proofs.find_beside.Statement.{statement}
@@ -55,7 +55,7 @@ module _ (e : tie.Else2) where
   not-due : cospherical (polygon checked) ≡ false
   not-due = sym (e .before .mark-candidates .ensures .twelve) ∙ e .if2 .left
 
-  candidates-are : trianglesOf (polygon checked) (e .before .mark-candidates .last .1 .0) ≡ candidatesOf (polygon checked)
+  candidates-are : facesOf (polygon checked) (e .before .mark-candidates .last .1 .0) ≡ candidatesOf (polygon checked)
   candidates-are = listed-are (valid checked .most) (λ x y z hx hy hz. none-in 4096 (omega arith) (record { first = hx; second = hy; third = hz })) (e .if2 .left) (e .before .mark-candidates .ensures)
 
 fill-requires : tie.Need-fill-requires

@@ -13,7 +13,7 @@ use Rattle.lists.proofs.Writing.{taken, filled-length}
 use Rattle.dihedrals.specs.Weights.{faceNormal, lengthsOf, rowsOf}
 use Rattle.dihedrals.specs.Lists.{Solid, Lengths}
 use Rattle.dihedrals.proofs.Scaling.{first-lengths, lengths-there, weights-made}
-use Rattle.finder.specs.Filling.{trianglesOf}
+use Rattle.finder.specs.Filling.{facesOf}
 use Rattle.finder.proofs.write_lists.Statement.{statement}
 use Rattle.finder.proofs.write_lists.Tie as tie
 
@@ -32,7 +32,7 @@ module _ (g : tie.After-list) where
   polygon = begin .args .p
 
   abbrev triangles : List (List ℕ)
-  triangles = trianglesOf polygon (begin .args .masks .now)
+  triangles = facesOf polygon (begin .args .masks .now)
 
   abbrev count : ℕ
   count = g .list .result

@@ -1,11 +1,11 @@
 -- `hinges::count_rows` meets its contract, by what is left to count at each loop's head. Assumes nothing.
-use mathlib.Core.Path.{_≡_, sym, _∙_, ap}
+use mathlib.Core.Path.{sym, _∙_, ap}
 use mathlib.Core.Bool.{Bool, true, false}
 use mathlib.Core.List.{_++_}
 use mathlib.Core.Logic.{⊎-elim}
-use Prim.Native.Nat.{ℕ, _+_, _-_, _≤_, _<_}
+use Prim.Native.Nat.{ℕ, _+_, _-_, _≤_}
 use native.Mathlib.Omega.{arith}
-use lib.ListN.{length, length-append}
+use lib.ListN.{length-append}
 use Rattle.lists.proofs.Counting.{Counting, count-start, count-turn, count-part, count-moved, count-all}
 use Rattle.faces.specs.Faces.{has}
 use Rattle.faces.proofs.Triples.{left1, left2, left3, into2, into3, out1, out2, out3}
