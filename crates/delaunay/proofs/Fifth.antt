@@ -4,7 +4,7 @@ use mathlib.Core.Bool.{Bool, true, false, not}
 use Rattle.geometry.specs.declared.sphere.Position.{Position}
 use Rattle.geometry.specs.declared.sphere.Position.the-variants.{Inside, On, Outside}
 use Rattle.lists.specs.Lists.{both, either}
-use Rattle.faces.proofs.Bools.{both-no, both-yes}
+use Rattle.lists.proofs.Bools.{both-no, both-yes}
 use Rattle.delaunay.specs.Search.{isOn}
 
 -- where none was found before

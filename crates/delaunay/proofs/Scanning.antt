@@ -21,7 +21,7 @@ use Rattle.geometry.proofs.sphere.Position.{the-type}
 use Rattle.lists.specs.Lists.{both, either, every, some}
 use Rattle.lists.proofs.Choice.{true-not-false, not-true-false}
 use Rattle.lists.proofs.Ranges.{every-on, every-stop, every-end, every-at, some-step, some-end}
-use Rattle.faces.proofs.Bools.{either-assoc, either-no, both-no}
+use Rattle.lists.proofs.Bools.{either-assoc, either-no, both-no}
 use Rattle.delaunay.specs.Candidates.{vertex, insideFour, onFour, counts, isCorner, isFifth}
 use Rattle.delaunay.specs.Search.{isOn, Lifts, unlifted}
 

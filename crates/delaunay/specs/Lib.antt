@@ -1,3 +1,2 @@
 pub mod Candidates
-pub mod Listing
 pub mod Search

@@ -5,19 +5,12 @@ use geometry::sphere::Position;
 use polygon::Polygon;
 ghost use mathlib.Core.Path.{_≡_};
 ghost use mathlib.Core.Bool.{Bool, false, not};
-ghost use Prim.Native.Nat.{_<_, _≤_};
+ghost use Prim.Native.Nat.{_<_};
 ghost use lib.ListN.{length};
 ghost use Rattle.lists.specs.Lists.{both, either};
 ghost use Rattle.polygon.specs.Polygon.{Valid};
-ghost use Rattle.delaunay.specs.Candidates.{isCorner, candidatesOf};
-ghost use Rattle.delaunay.specs.Listing.{answerOf, tableOf};
+ghost use Rattle.delaunay.specs.Candidates.{isCorner};
 ghost use Rattle.delaunay.specs.Search.{Lifts, Marked, isOn};
-
-// How many candidates there are; or 12 is due.
-pub enum Listed {
-    Candidates(usize),
-    Cospherical,
-}
 
 // The vertices as seen from vertex a.
 fn lift_vertices(p: Polygon, a: usize) -> [Lifted; 64]
@@ -73,9 +66,9 @@ fn fifth_found(
     }
 }
 
-// Marks the faces of the fours that count; true, and what is marked then is of no use, where one of these has a fifth vertex on its sphere.
-// The vertex that dropped the last four is tried first.
-fn mark_candidates(p: Polygon, masks: &mut [u64; 4096]) -> bool
+// Puts the candidates, the faces of the fours that count, into the set; true where 12 is due, as one of these fours has a fifth vertex on its
+// sphere, and the set is of no use then. The vertex that dropped the last four is tried first.
+pub fn mark_candidates(p: Polygon, masks: &mut [u64; 4096]) -> bool
     requires { ⌜ (Valid p) × (length (now masks) ≡ 4096) ⌝ }
     ensures { λ r. ⌜ Marked p (now (masks .entry)) r (now (masks .exit)) ⌝ }
 {
@@ -113,17 +106,4 @@ fn mark_candidates(p: Polygon, masks: &mut [u64; 4096]) -> bool
         }
     }
     false
-}
-
-// The candidates, in ascending order; the table must have room for them.
-pub fn list_candidates(p: Polygon, out: &mut [[u8; 3]]) -> Listed
-    requires { ⌜ (Valid p) × (length (candidatesOf p) ≤ length (now out)) ⌝ }
-    ensures { λ r. ⌜ (r ≡ answerOf p) × (now (out .exit) ≡ tableOf p (now (out .entry))) ⌝ }
-{
-    let n = p.n;
-    let mut masks = [0u64; 4096];
-    if mark_candidates(p, &mut masks) {
-        return Listed::Cospherical;
-    }
-    Listed::Candidates(faces::list(&masks, n, out))
 }

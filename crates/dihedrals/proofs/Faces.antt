@@ -1,9 +1,10 @@
 -- A candidate's face as it is computed. Assumes nothing.
-use mathlib.Core.Path.{_≡_, refl, sym, _∙_, ap, subst}
-use mathlib.Core.List.{List, [], _∷_, map}
-use Prim.Native.Nat.{ℕ, zero, suc, _≤_, _<_}
+use mathlib.Core.Path.{_≡_, sym, _∙_, ap, subst}
+use mathlib.Core.List.{List, []}
+use Prim.Native.Nat.{ℕ, _≤_, _<_}
 use native.Mathlib.Omega.{arith}
 use lib.ListN.{length, getD}
+use Rattle.lists.proofs.Maps.{map-at}
 use Rattle.grid.specs.Point.{PointOnGrid}
 use Rattle.polygon.specs.declared.Polygon.{Polygon}
 use Rattle.polygon.specs.Polygon.{vertexAt, Valid}
@@ -43,11 +44,6 @@ module _ {p : Polygon} {t : List ℕ} {a b c : ℕ} (r : Read p t a b c) where
   -- the normal as it is computed
   pub normal-is : {n : Vector} → n ≡ normalOf (vertexAt (p .vertices) a) (vertexAt (p .vertices) b) (vertexAt (p .vertices) c) → n ≡ faceNormal p t
   normal-is e = e ∙ (λ h. normalOf (vertexAt (p .vertices) (r .a-is h)) (vertexAt (p .vertices) (r .b-is h)) (vertexAt (p .vertices) (r .c-is h)))
-
-map-at : {A B : Type 0} (f : A → B) (l : List A) (d : A) (e : B) (i : ℕ) → i < length l → getD (map f l) i e ≡ f (getD l i d)
-map-at f [] d e i h = absurd (omega arith)
-map-at f (x ∷ l) d e zero h = refl
-map-at f (x ∷ l) d e (suc i) h = map-at f l d e i (omega arith)
 
 pub length-at : (p : Polygon) (cs : List (List ℕ)) (i : ℕ) → i < length cs → getD (lengthsOf p cs) i 0 ≡ lengthOf (faceNormal p (entryAt cs i))
 length-at p cs i h = map-at (λ t. lengthOf (faceNormal p t)) cs [] 0 i h

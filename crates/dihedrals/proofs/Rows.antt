@@ -1,22 +1,19 @@
 -- The rows of an outer candidate by its inners, edge by edge. Assumes nothing.
-use mathlib.Core.Path.{_≡_, refl, sym, _∙_, ap}
-use mathlib.Core.Bool.{Bool, true, false}
-use mathlib.Core.List.{List, [], _∷_, _++_, append-nil, append-assoc, map}
-use Prim.Native.Nat.{ℕ, zero, suc, _+_, _-_, _≤_, _<_}
-use native.Mathlib.Omega.{arith}
+use mathlib.Core.Path.{_≡_, sym, _∙_, ap}
+use mathlib.Core.Bool.{Bool}
+use mathlib.Core.List.{List, _++_, append-nil, append-assoc, map, map-append}
+use Prim.Native.Nat.{ℕ, _+_, _-_, _≤_, _<_}
 use lib.Dec.{eqb}
-use lib.ListN.{length, getD, length-append, length-map}
+use lib.ListN.{length, length-map}
 use Rattle.polygon.specs.declared.Polygon.{Polygon}
 use Rattle.jobs.specs.Job.{entryAt, vertexC, hangs}
 use Rattle.lists.specs.Lists.{over, upFrom, when}
 use Rattle.lists.proofs.Ranges.{over-step, over-end}
+use Rattle.lists.proofs.Parts.{over-lengths}
+use Rattle.lists.proofs.Maps.{map-over-when}
 use Rattle.hinges.specs.Hinges.{Sorted, innersOn, innersAt, innersOf, endingIn}
 use Rattle.hinges.proofs.Blocks.{two-edges}
 use Rattle.dihedrals.specs.Weights.{rowAt, rowsOn, rowsOf}
-
-map-append : {A B : Type 0} (f : A → B) (l m : List A) → map f (l ++ m) ≡ map f l ++ map f m
-map-append f [] m = refl
-map-append f (x ∷ l) m = ap (λ t. f x ∷ t) (map-append f l m)
 
 -- the candidates from i on that end in vertex k, with the first one taken
 pub ending-step : {B : Type 0} (f : ℕ → B) (cs : List (List ℕ)) (i hi k : ℕ) (r : List B) (b : Bool) → i < hi → eqb (vertexC (entryAt cs i)) k ≡ b →
@@ -29,17 +26,8 @@ ending-step f cs i hi k r b h e =
 pub ending-end : {B : Type 0} (f : ℕ → B) (cs : List (List ℕ)) (i hi k : ℕ) (r : List B) → hi ≤ i → map f (endingIn cs i hi k) ++ r ≡ r
 ending-end f cs i hi k r h = ap (λ l. map f l ++ r) (over-end i hi _ h)
 
-map-over-when : {B : Type 0} (f : ℕ → B) (P : ℕ → Bool) (lo k : ℕ) → map f (upFrom (λ i. when (P i) i) lo k) ≡ upFrom (λ i. when (P i) (f i)) lo k
-unfolding upFrom
-map-over-when f P lo zero = refl
-map-over-when f P lo (suc k) = map-append f (when (P lo) lo) (upFrom (λ i. when (P i) i) (suc lo) k) ∙ (λ j. one (P lo) j ++ map-over-when f P (suc lo) k j)
-  where
-    one : (b : Bool) → map f (when b lo) ≡ when b (f lo)
-    one true = refl
-    one false = refl
-
 rows-of-inners : (p : Polygon) (cs : List (List ℕ)) (o : ℕ) → rowsOn p cs o ≡ map (rowAt p cs o) (innersOn cs o)
-rows-of-inners p cs o = sym (map-over-when (rowAt p cs o) (λ i. hangs (entryAt cs i) (entryAt cs o)) 0 (length cs - 0))
+rows-of-inners p cs o = sym (map-over-when (rowAt p cs o) (λ i. hangs (entryAt cs i) (entryAt cs o)) 0 (length cs))
 
 -- the rows of outer o at its edge e
 abbrev pub rowsAt : Polygon → List (List ℕ) → ℕ → ℕ → List (List ℕ)
@@ -51,11 +39,6 @@ edge-rows p cs s o h =
     rows-of-inners p cs o ∙ ap (map (rowAt p cs o)) (two-edges cs s o h) ∙ map-append (rowAt p cs o) (innersAt cs o 0) (innersAt cs o 1)
     ∙ ap (λ l. rowsAt p cs o 0 ++ l) (sym (append-nil (rowsAt p cs o 1)))
 
-up-lengths : {A B : Type 0} (f : ℕ → List A) (g : ℕ → List B) (lo k : ℕ) → ((i : ℕ) → length (f i) ≡ length (g i)) → length (upFrom f lo k) ≡ length (upFrom g lo k)
-unfolding upFrom
-up-lengths f g lo zero h = refl
-up-lengths f g lo (suc k) h = length-append (f lo) (upFrom f (suc lo) k) ∙ (λ j. h lo j + up-lengths f g (suc lo) k h j) ∙ sym (length-append (g lo) (upFrom g (suc lo) k))
-
 -- there are as many rows as hanging pairs
 pub row-count : (p : Polygon) (cs : List (List ℕ)) → length (rowsOf p cs) ≡ length (innersOf cs)
-row-count p cs = up-lengths (rowsOn p cs) (innersOn cs) 0 (length cs - 0) (λ o. ap length (rows-of-inners p cs o) ∙ length-map (innersOn cs o) (rowAt p cs o))
+row-count p cs = over-lengths (rowsOn p cs) (innersOn cs) 0 (length cs) (λ o l m. ap length (rows-of-inners p cs o) ∙ length-map (innersOn cs o) (rowAt p cs o))

@@ -1,22 +1,17 @@
 -- From the lengths in a table to the weights. Assumes nothing.
-use mathlib.Core.Path.{_≡_, refl, sym, _∙_, ap}
-use mathlib.Core.List.{List, [], _∷_, _++_, map}
-use Prim.Native.Nat.{ℕ, _≤_, _<_}
+use mathlib.Core.Path.{_≡_, sym, _∙_, ap}
+use mathlib.Core.List.{List, _++_, map, map-map}
+use Prim.Native.Nat.{ℕ}
 use native.Mathlib.Omega.{arith}
 use lib.ListN.{length, take, drop, getD, length-map, List·getD-append}
 use lib.Seq.{drop-at}
 use Rattle.polygon.specs.declared.Polygon.{Polygon}
 use Rattle.geometry.specs.Faces.{lengthOf, areaWeightOf}
-use Rattle.jobs.specs.Job.{entryAt}
 use Rattle.lists.specs.Lists.{filled}
 use Rattle.lists.proofs.Writing.{taken}
 use Rattle.dihedrals.specs.Weights.{faceNormal, lengthsOf, weightsOf}
 use Rattle.dihedrals.specs.Lists.{Solid, Lengths}
 use Rattle.dihedrals.proofs.Faces.{length-at, lengths-below}
-
-map-map : {A B C : Type 0} (f : B → C) (g : A → B) (l : List A) → map f (map g l) ≡ map (λ x. f (g x)) l
-map-map f g [] = refl
-map-map f g (x ∷ l) = ap (λ t. f (g x) ∷ t) (map-map f g l)
 
 module _ (p : Polygon) (cs : List (List ℕ)) (table : List ℕ) {lengths : List ℕ} (e : lengths ≡ filled (lengthsOf p cs) table) where
   count-is : length cs ≡ length (lengthsOf p cs)

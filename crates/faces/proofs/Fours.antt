@@ -1,11 +1,11 @@
 -- Loops over fours a < b < c < d of n vertices, by whether a test holds of one that is left; and the four that `someFour` finds. Assumes nothing.
-use mathlib.Core.Path.{_≡_, refl, sym, _∙_, ap}
+use mathlib.Core.Path.{_≡_, sym, _∙_, ap}
 use mathlib.Core.Bool.{Bool, true, false}
 use Prim.Native.Nat.{ℕ, _+_, _≤_, _<_}
 use native.Mathlib.Omega.{arith}
 use Rattle.lists.specs.Lists.{either, some}
-use Rattle.lists.proofs.Ranges.{some-step, some-end, some-found, some-here, Found}
-use Rattle.faces.proofs.Bools.{either-assoc}
+use Rattle.lists.proofs.Ranges.{some-step, some-end, some-found, some-here}
+use Rattle.lists.proofs.Bools.{either-assoc}
 use Rattle.faces.specs.Faces.{someFour}
 
 some-more : (lo hi : ℕ) (P : ℕ → Bool) (r : Bool) → lo < hi → either (some lo hi P) r ≡ either (P lo) (either (some (lo + 1) hi P) r)

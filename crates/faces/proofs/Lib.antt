@@ -1,5 +1,5 @@
-pub mod Bools
 pub mod Masks
 pub mod Sets
 pub mod Fours
+pub mod Triples
 pub mod Members

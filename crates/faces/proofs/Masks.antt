@@ -1,15 +1,14 @@
 -- The bits of a mask after one was set. Assumes nothing.
 use mathlib.Core.Path.{_≡_, refl, sym, _∙_, ap}
 use mathlib.Core.Bool.{Bool, true, false}
-use Prim.Native.Nat.{ℕ, zero, suc, _+_, _-_, _*_, _/_, _%_, _^_, _≤_, _<_}
+use Prim.Native.Nat.{ℕ, zero, suc, _+_, _-_, _*_, _/_, _%_, _^_, _<_}
 use native.Mathlib.Nat.{mod-lt, mod-eq-of-lt, div-eq-of-lt, div-self, one-mul}
 use native.Mathlib.Omega.{arith}
-use borrow.Author.Tests.{eqb-true, eqb-false, eq-eqb, ne-eqb}
-use lib.Bits.{bitOr, or-shr, or-mod, or-zero-l, or-zero-r, shifted-even}
+use borrow.Author.Tests.{eqb-true, eqb-false}
+use lib.Bits.{bitOr, or-shr, or-mod, or-zero-l, shifted-even}
 use lib.Dec.{eqb}
 use lib.Pow.{pow-pos, pow-lt, pow-add, shl-shr}
 use Rattle.lists.specs.Lists.{either}
-use Rattle.lists.proofs.Choice.{Truth, holds, fails, truth}
 use Rattle.faces.specs.Faces.{withVertex, hasVertex}
 
 -- bit z of 2 ^ c

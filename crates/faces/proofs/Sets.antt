@@ -1,18 +1,19 @@
 -- What is in a set after the faces of a four were put in, and how many triples there can be. Assumes nothing.
-use mathlib.Core.Path.{_≡_, refl, sym, _∙_, ap, subst}
+use mathlib.Core.Path.{_≡_, sym, _∙_, ap}
 use mathlib.Core.Bool.{Bool, true, false}
-use mathlib.Core.List.{List, [], _∷_, _++_}
-use Prim.Native.Nat.{ℕ, zero, suc, _+_, _*_, _-_, _≤_, _<_}
+use mathlib.Core.List.{List}
+use Prim.Native.Nat.{ℕ, zero, suc, _+_, _-_, _≤_, _<_}
 use native.Mathlib.Nat.{le-trans}
 use native.Mathlib.Omega.{arith}
-use borrow.Author.Tests.{eqb-true, eqb-false, eq-eqb, ne-eqb}
+use borrow.Author.Tests.{eqb-true, eqb-false, eq-eqb}
 use lib.Dec.{eqb}
 use lib.ListN.{length, getD, set, replicate, length-append, length-set, getD-replicate}
 use lib.Seq.{getD-set-same, getD-set-other}
 use Rattle.lists.specs.Lists.{over, upFrom, when, both, either}
-use Rattle.lists.proofs.Choice.{Truth, holds, fails, truth, true-not-false, both-left, both-right, both-true, either-left, not-true-false}
+use Rattle.lists.proofs.Choice.{Truth, holds, fails, truth, both-left, both-right, both-true, not-true-false}
 use Rattle.lists.proofs.Ranges.{up-bound, when-bound}
-use Rattle.faces.proofs.Bools.{either-assoc}
+use Rattle.lists.proofs.Parts.{over-same}
+use Rattle.lists.proofs.Bools.{either-assoc}
 use Rattle.faces.proofs.Masks.{bit-set, bit-none}
 use Rattle.faces.specs.Faces.{sameTriple, isFace, pairAt, withVertex, hasVertex, has, withTriple, withFaces, triple, triplesOf}
 
@@ -107,14 +108,6 @@ triples-bound n P h =
     up-sum _ (λ a. sumFrom (λ b. 63 - b) (a + 1) (63 - a)) 0 (n - 0) 64 (omega arith)
     (λ a. up-sum _ (λ b. 63 - b) (a + 1) (n - (a + 1)) (63 - a) (omega arith)
     (λ b. le-trans (up-bound _ 1 (b + 1) (n - (b + 1)) (λ c. when-bound (P a b c) (triple a b c))) (omega arith)))
-
-up-same : {A : Type 0} (f g : ℕ → List A) (lo k : ℕ) → ((i : ℕ) → lo ≤ i → i < lo + k → f i ≡ g i) → upFrom f lo k ≡ upFrom g lo k
-unfolding upFrom
-up-same f g lo zero h = refl
-up-same f g lo (suc k) h = (λ j. h lo (omega arith) (omega arith) j ++ up-same f g (suc lo) k (λ i l m. h i (omega arith) (omega arith)) j)
-
-pub over-same : {A : Type 0} (lo hi : ℕ) (f g : ℕ → List A) → ((i : ℕ) → lo ≤ i → i < hi → f i ≡ g i) → over lo hi f ≡ over lo hi g
-over-same lo hi f g h = up-same f g lo (hi - lo) (λ i l m. h i l (omega arith))
 
 -- two tests that agree on the triples of n vertices list the same triples
 pub triples-same : (n : ℕ) (P Q : ℕ → ℕ → ℕ → Bool) → ((a b c : ℕ) → a < b → b < c → c < n → P a b c ≡ Q a b c) → triplesOf n P ≡ triplesOf n Q

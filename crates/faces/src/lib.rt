@@ -46,12 +46,31 @@ pub fn insert_faces(masks: &mut [u64; 4096], a: usize, b: usize, c: usize, d: us
     masks[ab] = with_vertex(masks[ab], c);
 }
 
-fn contains(masks: &[u64; 4096], a: usize, b: usize, c: usize) -> bool
+// Is (a, b, c) in the set?
+pub fn contains(masks: &[u64; 4096], a: usize, b: usize, c: usize) -> bool
     requires { ⌜ (a < 64) × (b < 64) × (c < 64) ⌝ }
     ensures { λ r. ⌜ r ≡ has (now (masks .entry)) a b c ⌝ }
 {
     let index = pair_index(a, b);
     has_vertex(masks[index], c)
+}
+
+// How many triangles on the first n vertices the set has.
+pub fn count(masks: &[u64; 4096], n: usize) -> usize
+    requires { ⌜ n ≤ 64 ⌝ }
+    ensures { λ r. ⌜ r ≡ length (triplesOf n (has (now (masks .entry)))) ⌝ }
+{
+    let mut count = 0;
+    for i in 0..n {
+        for j in i + 1..n {
+            for k in j + 1..n {
+                if contains(masks, i, j, k) {
+                    count += 1;
+                }
+            }
+        }
+    }
+    count
 }
 
 // The triangles of the set on the first n vertices, in ascending order.

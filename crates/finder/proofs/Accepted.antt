@@ -1,12 +1,11 @@
 -- The lists of a valid polygon are those of a direct job that no number of 15, 16 and 17 is due on. Assumes nothing.
-use mathlib.Core.Path.{_≡_, refl, sym, _∙_, ap, subst}
-use mathlib.Core.Bool.{Bool, true, false}
-use mathlib.Core.List.{List, [], _∷_, map, List·Memᴰ}
-use Prim.Native.Nat.{ℕ, zero, suc, _+_, _≤_, _<_}
+use mathlib.Core.Path.{_≡_, sym, _∙_, ap, subst}
+use mathlib.Core.List.{List, [], List·Memᴰ}
+use Prim.Native.Nat.{ℕ, _≤_, _<_}
 use native.Mathlib.Nat.{le-trans}
 use native.Mathlib.Omega.{arith}
 use lib.Dec.{lit≤}
-use lib.ListN.{length, getD, length-map}
+use lib.ListN.{length}
 use Rattle.polygon.specs.declared.Polygon.{Polygon}
 use Rattle.polygon.specs.Polygon.{Valid}
 use Rattle.geometry.specs.Vectors.{dotOf}
@@ -16,10 +15,10 @@ use Rattle.geometry.proofs.Bends.{bend-bound}
 use Rattle.jobs.specs.Job.{entryAt, vertexA, vertexB, vertexC, outer, inner, rowWeight, hangs}
 use Rattle.jobs.proofs.Order.{RowBefore, by-outer, by-inner, Hangs, hangs-true, true-hangs}
 use Rattle.jobs.proofs.Lists as lists
-use Rattle.lists.specs.Lists.{over, when}
-use Rattle.faces.proofs.Members.{Ascending, over-member, over-put, when-member, when-put, over-ascending, when-ascending, ascending-at, entry-member}
+use Rattle.lists.specs.Lists.{when}
+use Rattle.lists.proofs.Members.{Ascending, over-member, over-put, when-member, when-put, over-ascending, when-ascending, ascending-at, entry-member}
 use Rattle.delaunay.specs.Candidates.{isCandidate, candidatesOf}
-use Rattle.dihedrals.specs.Weights.{faceNormal, faceWeight, weightsOf, hingeWeight, rowAt, rowsOn, rowsOf}
+use Rattle.dihedrals.specs.Weights.{faceNormal, weightsOf, rowAt, rowsOn, rowsOf}
 use Rattle.dihedrals.proofs.Faces.{face-within, weight-at}
 use Rattle.finder.proofs.Candidates.{triples-ascend, candidate-at, candidates-solid}
 

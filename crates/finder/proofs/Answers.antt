@@ -1,8 +1,8 @@
--- From the search's answer to the finder's. Assumes nothing.
+-- The finder's answer, test by test. Assumes nothing.
 use mathlib.Core.Path.{_≡_, refl, sym, _∙_, ap}
 use mathlib.Core.Bool.{Bool, true, false, cond}
 use mathlib.Core.List.{List}
-use Prim.Native.Nat.{ℕ, _-_, _≤_, _<_}
+use Prim.Native.Nat.{ℕ, _-_}
 use native.Mathlib.Omega.{arith}
 use borrow.Author.Tests.{eq-eqb, le-ltb, eqb-true}
 use lib.Dec.{eqb}
@@ -10,25 +10,14 @@ use lib.ListN.{length}
 use Rattle.polygon.specs.declared.Polygon.{Polygon}
 use Rattle.polygon.specs.Polygon.{codeOf}
 use Rattle.polygon.proofs.Validity.{code-valid}
-use Rattle.delaunay.specs.declared.Listed.{Listed}
-use Rattle.delaunay.specs.declared.Listed.the-variants.{Candidates, Cospherical}
 use Rattle.delaunay.specs.Candidates.{candidatesOf, cospherical, isCandidate}
 use Rattle.dihedrals.specs.Weights.{rowsOf}
 use Rattle.faces.proofs.Sets.{triples-bound}
 use Rattle.lists.specs.Lists.{either}
 use Rattle.lists.proofs.Choice.{Truth, holds, fails, truth, yes, no}
 use Rattle.finder.specs.declared.Found.the-variants.{Refused}
-use Rattle.finder.specs.Finding.{Finding, finding, short, shortTables, shortBeside, findOr13, findCall, findBesideCall}
+use Rattle.finder.specs.Finding.{finding, short, shortTables, shortBeside, findOr13, findCall, findBesideCall}
 use Rattle.finder.specs.Filling.{fillOr13}
-
--- what the search's answer says
-pub listed-some : (b : Bool) (n m : ℕ) → cond b Cospherical (Candidates n) ≡ Candidates m → (b ≡ false) × (m ≡ n)
-listed-some true n m e = let z : _≡_ {A = ℕ} 0 1 = cc in absurd (omega arith)
-listed-some false n m e = (refl, cc)
-
-pub listed-none : (b : Bool) (n : ℕ) → cond b Cospherical (Candidates n) ≡ Cospherical → b ≡ true
-listed-none true n e = refl
-listed-none false n e = let z : _≡_ {A = ℕ} 0 1 = cc in absurd (omega arith)
 
 -- one test after the other, as one
 one-test : {A : Type 0} (a b c d e : Bool) (x y : A) → cond a x (cond b x (cond c x (cond d x (cond e x y)))) ≡ cond (either (either a b) (either c (either d e))) x y

@@ -1,15 +1,15 @@
 -- The candidates of a valid polygon are triples of its vertices in ascending order, and none has its corners on one line. Assumes nothing.
 use mathlib.Core.Path.{_≡_, refl, sym, _∙_, ap, subst}
 use mathlib.Core.Bool.{Bool, true, false, not}
-use mathlib.Core.List.{List, [], _∷_, List·Memᴰ}
-use mathlib.Core.Logic.{_⊎_, inl, inr, ⊎-elim}
+use mathlib.Core.List.{List, [], List·Memᴰ}
+use mathlib.Core.Logic.{_⊎_, ⊎-elim}
 use Prim.Native.Nat.{ℕ, zero, suc, _+_, _-_, _≤_, _<_}
 use native.Mathlib.Nat.{le-refl}
 use native.Mathlib.Omega.{arith}
-use lib.ListN.{length, getD}
+use lib.ListN.{length}
 use borrow.Author.Tests.{not-true}
 use Rattle.polygon.specs.declared.Polygon.{Polygon}
-use Rattle.polygon.specs.Polygon.{vertexAt, Valid}
+use Rattle.polygon.specs.Polygon.{Valid}
 use Rattle.geometry.specs.Faces.{normalOf, lengthOf}
 use Rattle.geometry.specs.Spheres.{coplanar}
 use Rattle.geometry.proofs.Faces.{face-length-pqr, face-length-pqs, face-length-prs, face-length-qrs}
@@ -17,13 +17,14 @@ use Rattle.jobs.specs.Job.{entryAt, vertexA, vertexB, vertexC}
 use Rattle.jobs.proofs.Order.{Before, by-a, by-b, by-c}
 use Rattle.lists.specs.Lists.{both, either, every, over, when}
 use Rattle.lists.proofs.Choice.{both-left, both-right, either-cases}
+use Rattle.lists.proofs.Members.{Ascending, over-member, when-member, over-ascending, when-ascending, ascending-at, entry-member}
 use Rattle.faces.specs.Faces.{triple, sameTriple, isFace, triplesOf}
 use Rattle.faces.proofs.Sets.{triples-bound, triple-same}
-use Rattle.faces.proofs.Fours.{Four, four-found}
-use Rattle.faces.proofs.Members.{Triple, Ascending, over-member, when-member, over-ascending, when-ascending, ascending-at, entry-member, triples-member}
+use Rattle.faces.proofs.Fours.{four-found}
+use Rattle.faces.proofs.Members.{Triple, triples-member}
 use Rattle.hinges.specs.Hinges.{Sorted}
 use Rattle.dihedrals.specs.Weights.{faceNormal}
-use Rattle.dihedrals.specs.Lists.{Corners, Solid}
+use Rattle.dihedrals.specs.Lists.{Solid}
 use Rattle.delaunay.specs.Candidates.{vertex, insideFour, counts, isCandidate, candidatesOf}
 
 -- ---- a list of triples ascends

@@ -16,10 +16,11 @@ use Rattle.jobs.proofs.Order.{true-before, hangs-true, true-hangs, row-before-s
 use Rattle.lists.specs.Lists.{both, either, every}
 use Rattle.lists.proofs.Choice.{true-not-false, both-left, both-right, both-true, either-left, either-right, either-cases}
 use Rattle.lists.proofs.Ranges.{every-at, every-all}
+use Rattle.lists.proofs.Members.{entry-member, member-entry}
 use Rattle.faces.specs.Faces.{triple, sameTriple, isFace}
 use Rattle.faces.proofs.Sets.{triple-same, same-triple}
 use Rattle.faces.proofs.Fours.{Four, four-found, four-here}
-use Rattle.faces.proofs.Members.{entry-member, member-entry, triples-member, triples-put}
+use Rattle.faces.proofs.Members.{triples-member, triples-put}
 use Rattle.delaunay.specs.Candidates.{vertex, insideFour, counts, isCandidate, candidatesOf}
 use Rattle.dihedrals.specs.Weights.{faceWeight, weightsOf, hingeWeight, rowAt, rowsOf}
 use Rattle.dihedrals.proofs.Faces.{weight-at}

@@ -1,14 +1,33 @@
--- What is left once candidates were found: 13, or the lists. Definitions only.
+-- What is left once the set of candidates is known: 13, or the lists. Definitions only.
+use mathlib.Core.Path.{_≡_}
 use mathlib.Core.Bool.{cond}
 use mathlib.Core.List.{List}
-use Prim.Native.Nat.{ℕ, _-_}
+use Prim.Native.Nat.{ℕ, _-_, _≤_}
 use lib.ListN.{length}
 use Rattle.polygon.specs.declared.Polygon.{Polygon}
+use Rattle.faces.specs.Faces.{has, triplesOf}
 use Rattle.dihedrals.specs.Weights.{weightsOf, rowsOf}
 use Rattle.lists.specs.Lists.{filled}
 use Rattle.finder.specs.declared.Found.the-variants.{Lists, Refused}
 use Rattle.finder.specs.Finding.{Finding, finding, short}
 
+-- the triangles of a set on the polygon's vertices
+abbrev pub facesOf : Polygon → List ℕ → List (List ℕ)
+facesOf p masks = triplesOf (p .n) (has masks)
+
+-- the tables have a place for each candidate, weight and row
+pub record Room (p : Polygon) (found candidates : List (List ℕ)) (weights : List ℕ) (rows : List (List ℕ)) : Type 0 where
+  pub for-candidates : length found ≤ length candidates
+  pub for-weights : length found ≤ length weights
+  pub for-rows : length (rowsOf p found) ≤ length rows
+
+-- what the tables hold then: the lists in their first places
+pub record Written (p : Polygon) (found candidates : List (List ℕ)) (weights : List ℕ) (rows candidates′ : List (List ℕ)) (weights′ : List ℕ) (rows′ : List (List ℕ)) : Type 0 where
+  pub the-candidates : candidates′ ≡ filled found candidates
+  pub the-weights : weights′ ≡ filled (weightsOf p found) weights
+  pub the-rows : rows′ ≡ filled (rowsOf p found) rows
+
+-- the tables in the order in which they are tested
 unfoldable pub fillOr13 : Polygon → List (List ℕ) → ℕ → ℕ → List (List ℕ) → List ℕ → List (List ℕ) → Finding
 fillOr13 p found trianglePlaces workPlaces candidates weights rows =
     cond (short trianglePlaces (p .n - 2)) (finding (Refused 13) candidates weights rows)

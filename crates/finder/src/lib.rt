@@ -1,14 +1,9 @@
 // The candidate finder: from a polygon to its candidates, their weights and the rows of hanging pairs.
-use delaunay::Listed;
 use polygon::Polygon;
 ghost use mathlib.Core.Path.{_≡_};
-ghost use Prim.Native.Nat.{_≤_};
-ghost use lib.ListN.{length};
-ghost use Rattle.lists.specs.Lists.{filled};
-ghost use Rattle.polygon.specs.Polygon.{Valid};
 ghost use Rattle.dihedrals.specs.Lists.{Solid};
 ghost use Rattle.finder.specs.Finding.{numberOf, candidateCountOf, rowCountOf, finding, findCall, findBesideCall};
-ghost use Rattle.finder.specs.Filling.{fillOr13};
+ghost use Rattle.finder.specs.Filling.{facesOf, Room, Written, fillOr13};
 
 // What the finder answers.
 pub enum Found {
@@ -55,34 +50,43 @@ impl Found {
     }
 }
 
-fn copy(from: &[[u8; 3]], to: &mut [[u8; 3]])
-    requires { ⌜ length (now from) ≤ length (now to) ⌝ }
-    ensures { λ _. ⌜ now (to .exit) ≡ filled (now (from .entry)) (now (to .entry)) ⌝ }
+// Writes the lists of the set's triangles. The weight table holds the lengths of the normals until the rows are made.
+fn write_lists(
+    p: Polygon,
+    masks: &[u64; 4096],
+    candidates: &mut [[u8; 3]],
+    weights: &mut [u32],
+    rows: &mut [[u32; 3]],
+)
+    requires { ⌜ (Solid p (facesOf p (now masks))) × Room p (facesOf p (now masks)) (now candidates) (now weights) (now rows) ⌝ }
+    ensures { λ _. ⌜ Written p (facesOf p (now (masks .entry))) (now (candidates .entry)) (now (weights .entry)) (now (rows .entry)) (now (candidates .exit)) (now (weights .exit)) (now (rows .exit)) ⌝ }
 {
-    for i in 0..from.len() {
-        let t = from[i];
-        to[i] = t;
-    }
+    let n = p.n;
+    let count = faces::list(masks, n, candidates);
+    let found = &candidates[..count];
+    let starts = hinges::block_starts(found);
+    dihedrals::write_lengths(p, found, weights);
+    dihedrals::write_rows(p, found, &starts, &weights[..count], rows);
+    let factor = p.area_factor;
+    dihedrals::scale_lengths(factor, weights, count);
 }
 
-// 13, or the lists of candidates that were found. All tables are tested before one is written. The weight table holds the lengths of the normals
-// until the rows are made.
+// 13, or the lists of the set's triangles. They are counted first: all tables are tested before one is written.
 fn fill(
     p: Polygon,
-    found: &[[u8; 3]],
+    masks: &[u64; 4096],
     triangle_places: usize,
     work_places: usize,
     candidates: &mut [[u8; 3]],
     weights: &mut [u32],
     rows: &mut [[u32; 3]],
 ) -> Found
-    requires { ⌜ Solid p (now found) ⌝ }
-    ensures { λ r. ⌜ finding r (now (candidates .exit)) (now (weights .exit)) (now (rows .exit)) ≡ fillOr13 p (now (found .entry)) «triangle_places» «work_places» (now (candidates .entry)) (now (weights .entry)) (now (rows .entry)) ⌝ }
+    requires { ⌜ Solid p (facesOf p (now masks)) ⌝ }
+    ensures { λ r. ⌜ finding r (now (candidates .exit)) (now (weights .exit)) (now (rows .exit)) ≡ fillOr13 p (facesOf p (now (masks .entry))) «triangle_places» «work_places» (now (candidates .entry)) (now (weights .entry)) (now (rows .entry)) ⌝ }
 {
-    let count = found.len();
-    let starts = hinges::block_starts(found);
-    let row_count = hinges::count_rows(found, &starts);
     let n = p.n;
+    let count = faces::count(masks, n);
+    let row_count = hinges::count_rows(masks, n);
     if triangle_places < n - 2 {
         return Found::Refused(codes::TABLE_TOO_SHORT);
     }
@@ -98,11 +102,7 @@ fn fill(
     if rows.len() < row_count {
         return Found::Refused(codes::TABLE_TOO_SHORT);
     }
-    copy(found, candidates);
-    dihedrals::write_lengths(p, found, weights);
-    dihedrals::write_rows(p, found, &starts, &weights[..count], rows);
-    let factor = p.area_factor;
-    dihedrals::scale_lengths(factor, weights, count);
+    write_lists(p, masks, candidates, weights, rows);
     Found::Lists {
         candidates: count,
         rows: row_count,
@@ -125,23 +125,19 @@ pub fn find_beside(
     if code != 0 {
         return Found::Refused(code);
     }
-    let mut buffer = [[0u8; 3]; 41664];
-    let listed = delaunay::list_candidates(p, &mut buffer);
-    match listed {
-        Listed::Cospherical => Found::Refused(codes::COSPHERICAL),
-        Listed::Candidates(count) => {
-            let found = &buffer[..count];
-            fill(
-                p,
-                found,
-                triangle_places,
-                work_places,
-                candidates,
-                weights,
-                rows,
-            )
-        }
+    let mut masks = [0u64; 4096];
+    if delaunay::mark_candidates(p, &mut masks) {
+        return Found::Refused(codes::COSPHERICAL);
     }
+    fill(
+        p,
+        &masks,
+        triangle_places,
+        work_places,
+        candidates,
+        weights,
+        rows,
+    )
 }
 
 // The finder. A polygon that no rim file gives is refused by the number due on it: 2, 5, 9, 10 or 11. Then 12, then 13.

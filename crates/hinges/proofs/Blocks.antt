@@ -1,54 +1,19 @@
 -- The candidates that hang on one of them stand in two blocks. Assumes nothing.
 use mathlib.Core.Path.{_≡_, refl, sym, _∙_, ap, subst}
-use mathlib.Core.Bool.{Bool, true, false}
-use mathlib.Core.List.{List, [], _∷_, _++_, append-assoc, append-nil}
-use Prim.Native.Nat.{ℕ, zero, suc, _+_, _*_, _-_, _≤_, _<_}
-use native.Mathlib.Nat.{le-trans}
+use mathlib.Core.Bool.{Bool, false}
+use mathlib.Core.List.{List, [], _++_, append-nil}
+use Prim.Native.Nat.{ℕ, zero, suc, _+_, _-_, _≤_, _<_}
 use native.Mathlib.Omega.{arith}
 use borrow.Author.Tests.{eq-eqb, ne-eqb, ltb-true, ltb-false}
 use lib.Dec.{eqb, ltb}
-use lib.ListN.{length, getD, set, length-append, length-set}
+use lib.ListN.{length, getD, set, length-set}
 use lib.Seq.{getD-set-same, getD-set-other}
-use Rattle.lists.specs.Lists.{over, upFrom, when, both, either}
+use Rattle.lists.specs.Lists.{over, when, both, either}
 use Rattle.lists.proofs.Choice.{Truth, holds, fails, truth}
-use Rattle.lists.proofs.Ranges.{up-bound, when-bound}
-use Rattle.faces.proofs.Bools.{either-no}
-use Rattle.faces.proofs.Sets.{over-same}
+use Rattle.lists.proofs.Parts.{over-same, over-split, over-empty}
+use Rattle.lists.proofs.Bools.{either-no}
 use Rattle.jobs.specs.Job.{entryAt, vertexA, vertexB, vertexC, sameEdge, hangs}
-use Rattle.hinges.specs.Hinges.{innersOn, innersAt, innersOf, endingIn, Sorted, BlockStart}
-
-module _ {A : Type 0} where
-  up-split : (f : ℕ → List A) (lo j k : ℕ) → upFrom f lo (j + k) ≡ upFrom f lo j ++ upFrom f (lo + j) k
-  unfolding upFrom
-  up-split f lo zero k = (λ i. upFrom f (z i) (y i))
-    where
-      y : 0 + k ≡ k
-      y = omega arith
-
-      z : lo ≡ lo + 0
-      z = omega arith
-  up-split f lo (suc j) k =
-      ap (λ (m : ℕ). upFrom f lo m) e ∙ ap (λ (l : List A). f lo ++ l) (up-split f (suc lo) j k ∙ ap (λ (m : ℕ). upFrom f (suc lo) j ++ upFrom f m k) d) ∙ sym (append-assoc (f lo) (upFrom f (suc lo) j) (upFrom f (lo + suc j) k))
-    where
-      e : suc j + k ≡ suc (j + k)
-      e = omega arith
-
-      d : suc lo + j ≡ lo + suc j
-      d = omega arith
-
-  pub over-split : (f : ℕ → List A) (lo mid hi : ℕ) → lo ≤ mid → mid ≤ hi → over lo hi f ≡ over lo mid f ++ over mid hi f
-  over-split f lo mid hi h k =
-      let e : hi - lo ≡ (mid - lo) + (hi - mid) = omega arith in
-      let d : lo + (mid - lo) ≡ mid = omega arith in
-      ap (λ (m : ℕ). upFrom f lo m) e ∙ up-split f lo (mid - lo) (hi - mid) ∙ ap (λ (m : ℕ). over lo mid f ++ upFrom f m (hi - mid)) d
-
-  up-empty : (f : ℕ → List A) (lo k : ℕ) → ((i : ℕ) → lo ≤ i → i < lo + k → f i ≡ []) → upFrom f lo k ≡ []
-  unfolding upFrom
-  up-empty f lo zero h = refl
-  up-empty f lo (suc k) h = (λ j. h lo (omega arith) (omega arith) j ++ up-empty f (suc lo) k (λ i l m. h i (omega arith) (omega arith)) j)
-
-  pub over-empty : (f : ℕ → List A) (lo hi : ℕ) → ((i : ℕ) → lo ≤ i → i < hi → f i ≡ []) → over lo hi f ≡ []
-  over-empty f lo hi h = up-empty f lo (hi - lo) (λ i l m. h i l (omega arith))
+use Rattle.hinges.specs.Hinges.{innersOn, innersAt, endingIn, Sorted, BlockStart}
 
 -- candidate t hangs on u only if it begins in u's first or second vertex, and then by its last vertex
 module _ (t u : List ℕ) where
@@ -116,9 +81,6 @@ module _ (cs : List (List ℕ)) (o la ha lb hb : ℕ)
       ∙ (λ i. second i ++ after i)
       ∙ append-nil (endingIn cs lb hb (vertexC (entryAt cs o))))
 
-  pub two-counts : length (innersOn cs o) ≡ length (endingIn cs la ha (vertexB (entryAt cs o))) + length (endingIn cs lb hb (vertexC (entryAt cs o)))
-  two-counts = ap length two-blocks ∙ length-append (endingIn cs la ha (vertexB (entryAt cs o))) (endingIn cs lb hb (vertexC (entryAt cs o)))
-
 -- the candidates on one edge of o stand in one block
 module _ (cs : List (List ℕ)) (o e lo hi : ℕ) (s : BlockStart cs (getD (entryAt cs o) e 0) lo) (t : BlockStart cs (getD (entryAt cs o) e 0 + 1) hi) where
   abbrev on-edge : ℕ → List ℕ
@@ -139,16 +101,6 @@ module _ (cs : List (List ℕ)) (o e lo hi : ℕ) (s : BlockStart cs (getD (entr
       ∙ over-split on-edge lo hi n order (t .within)
       ∙ (λ i. inside i ++ after i)
       ∙ append-nil (endingIn cs lo hi (getD (entryAt cs o) (e + 1) 0))
-
--- how many hinges there can be
-module _ (cs : List (List ℕ)) where
-  pub inners-bound : (o : ℕ) → length (innersOn cs o) ≤ length cs
-  inners-bound o = le-trans (up-bound _ 1 0 (length cs - 0) (λ i. when-bound (hangs (entryAt cs i) (entryAt cs o)) i)) (omega arith)
-
-  pub hinges-bound : length cs ≤ 41664 → length (innersOf cs) ≤ 1735888896
-  hinges-bound h =
-      let b : length (innersOf cs) ≤ (length cs - 0) * 41664 = up-bound _ 41664 0 (length cs - 0) (λ o. le-trans (inners-bound o) h) in
-      omega arith
 
 -- bisection for a block's start: it is from low to high
 pub record Search (cs : List (List ℕ)) (k low high : ℕ) : Type 0 where

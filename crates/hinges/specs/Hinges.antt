@@ -1,4 +1,5 @@
 -- Hinges: pairs of candidates that share an edge, the inner hanging on the outer. Definitions only.
+use mathlib.Core.Bool.{Bool}
 use mathlib.Core.List.{List}
 use Prim.Native.Nat.{ℕ, _+_, _≤_, _<_}
 use lib.Dec.{eqb}
@@ -21,6 +22,10 @@ innersAt candidates o e = over 0 (length candidates) (λ i. when (sameEdge (vert
 -- the candidates from lo to hi - 1 that end in vertex c
 abbrev pub endingIn : List (List ℕ) → ℕ → ℕ → ℕ → List ℕ
 endingIn candidates lo hi c = over lo hi (λ i. when (eqb (vertexC (entryAt candidates i)) c) i)
+
+-- the vertices x between i and j for which P holds of (i, x, j)
+abbrev pub beneath : (ℕ → ℕ → ℕ → Bool) → ℕ → ℕ → List ℕ
+beneath P i j = over (i + 1) j (λ x. when (P i x j) x)
 
 -- triples a < b < c of at most 64 vertices, ascending by their first vertex
 pub record Sorted (candidates : List (List ℕ)) : Type 0 where

@@ -2,7 +2,8 @@
 ghost use mathlib.Core.Path.{_≡_};
 ghost use Prim.Native.Nat.{_<_, _≤_};
 ghost use lib.ListN.{length};
-ghost use Rattle.hinges.specs.Hinges.{innersOn, innersOf, endingIn, Sorted, BlockStart, Starts};
+ghost use Rattle.faces.specs.Faces.{has, triplesOf};
+ghost use Rattle.hinges.specs.Hinges.{innersOf, beneath, Sorted, BlockStart, Starts};
 
 fn wide(x: u8) -> usize
     ensures { λ r. ⌜ r ≡ x ⌝ }
@@ -29,21 +30,6 @@ fn block_start(candidates: &[[u8; 3]], k: usize) -> usize
     low
 }
 
-// How many of the candidates from lo to hi - 1 end in vertex c.
-fn count_ending(candidates: &[[u8; 3]], lo: usize, hi: usize, c: u8) -> usize
-    requires { ⌜ (lo ≤ hi) × (hi ≤ length (now candidates)) ⌝ }
-    ensures { λ r. ⌜ r ≡ length (endingIn (now (candidates .entry)) lo hi c) ⌝ }
-{
-    let mut count = 0;
-    for i in lo..hi {
-        let t = candidates[i];
-        if t[2] == c {
-            count += 1;
-        }
-    }
-    count
-}
-
 // Where the block of each first vertex begins, up to one past the last.
 pub fn block_starts(candidates: &[[u8; 3]]) -> [usize; 65]
     requires { ⌜ Sorted (now candidates) ⌝ }
@@ -56,27 +42,36 @@ pub fn block_starts(candidates: &[[u8; 3]]) -> [usize; 65]
     starts
 }
 
-// How many candidates hang on candidate o. They begin where o does and end in its second vertex, or begin in that and end where o does.
-fn count_on(candidates: &[[u8; 3]], starts: &[usize; 65], o: usize) -> usize
-    requires { ⌜ (Sorted (now candidates)) × (Starts (now candidates) (now starts)) × (o < length (now candidates)) ⌝ }
-    ensures { λ r. ⌜ r ≡ length (innersOn (now (candidates .entry)) o) ⌝ }
-{
-    let t = candidates[o];
-    let a = wide(t[0]);
-    let b = wide(t[1]);
-    let first = count_ending(candidates, starts[a], starts[a + 1], t[1]);
-    let second = count_ending(candidates, starts[b], starts[b + 1], t[2]);
-    first + second
-}
-
-// How many hanging pairs there are.
-pub fn count_rows(candidates: &[[u8; 3]], starts: &[usize; 65]) -> usize
-    requires { ⌜ (Sorted (now candidates)) × (Starts (now candidates) (now starts)) ⌝ }
-    ensures { λ r. ⌜ r ≡ length (innersOf (now (candidates .entry))) ⌝ }
+// How many triangles of the set have (i, j) as the edge from their first to their last vertex.
+fn count_beneath(masks: &[u64; 4096], i: usize, j: usize) -> usize
+    requires { ⌜ (i < 64) × (j < 64) ⌝ }
+    ensures { λ r. ⌜ r ≡ length (beneath (has (now (masks .entry))) i j) ⌝ }
 {
     let mut count = 0;
-    for o in 0..candidates.len() {
-        count += count_on(candidates, starts, o);
+    for x in i + 1..j {
+        if faces::contains(masks, i, x, j) {
+            count += 1;
+        }
+    }
+    count
+}
+
+// How many hanging pairs the triangles of the set on the first n vertices make: on (a, b, c) hang those beneath (a, b) and beneath (b, c).
+pub fn count_rows(masks: &[u64; 4096], n: usize) -> usize
+    requires { ⌜ n ≤ 64 ⌝ }
+    ensures { λ r. ⌜ r ≡ length (innersOf (triplesOf n (has (now (masks .entry))))) ⌝ }
+{
+    let mut count = 0;
+    for a in 0..n {
+        for b in a + 1..n {
+            for c in b + 1..n {
+                if faces::contains(masks, a, b, c) {
+                    let first = count_beneath(masks, a, b);
+                    let second = count_beneath(masks, b, c);
+                    count += first + second;
+                }
+            }
+        }
     }
     count
 }

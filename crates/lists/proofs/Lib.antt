@@ -1,4 +1,9 @@
 pub mod Choice
+pub mod Bools
 pub mod Ranges
+pub mod Parts
+pub mod Members
+pub mod Maps
+pub mod Flattening
 pub mod Writing
 pub mod Counting

@@ -1,6 +1,6 @@
 -- Lists and tests over a range of numbers, taken from the front, and what such a test says of each number. Assumes nothing.
-use mathlib.Core.Path.{_≡_, refl, sym, _∙_, ap, subst}
-use mathlib.Core.Bool.{Bool, true, false, cond}
+use mathlib.Core.Path.{_≡_, refl, sym, _∙_, ap}
+use mathlib.Core.Bool.{Bool, true, false}
 use mathlib.Core.List.{List, [], _∷_, _++_, append-assoc, append-nil}
 use mathlib.Core.Logic.{⊎-elim}
 use Prim.Native.Nat.{ℕ, zero, suc, _+_, _*_, _-_, _≤_, _<_}
@@ -9,7 +9,7 @@ use native.Mathlib.Numerals.{add-one}
 use native.Mathlib.Omega.{arith}
 use lib.ListN.{length, getD, length-append}
 use Rattle.lists.specs.Lists.{upFrom, over, when, both, either, everyFrom, every, someFrom, some}
-use Rattle.lists.proofs.Choice.{true-not-false, both-left, both-right, both-true, either-left, either-right, either-cases, either-neither, not-false-true, not-true-false}
+use Rattle.lists.proofs.Choice.{true-not-false, both-left, both-right, both-true, either-left, either-cases, either-neither, not-false-true, not-true-false}
 
 module _ {A : Type 0} where
   up-step : (f : ℕ → List A) (lo k m : ℕ) → k ≡ suc m → upFrom f lo k ≡ f lo ++ upFrom f (lo + 1) m

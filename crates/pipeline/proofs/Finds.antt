@@ -9,7 +9,7 @@ use lib.Dec.{eqb, ltb}
 use lib.ListN.{length}
 use Rattle.lists.specs.Lists.{either, filled}
 use Rattle.lists.proofs.Choice.{yes, no, true-not-false, either-left, either-neither, not-true-false}
-use Rattle.faces.proofs.Bools.{either-assoc}
+use Rattle.lists.proofs.Bools.{either-assoc}
 use Rattle.polygon.specs.declared.Polygon.{Polygon}
 use Rattle.polygon.specs.Polygon.{codeOf}
 use Rattle.delaunay.specs.Candidates.{candidatesOf, cospherical}

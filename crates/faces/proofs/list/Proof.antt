@@ -1,45 +1,31 @@
 -- `faces::list` meets its contract, by what is left to write at each loop's head. Assumes nothing.
-use mathlib.Core.Path.{_≡_, sym, _∙_, ap}
-use mathlib.Core.Bool.{Bool, true, false}
-use mathlib.Core.List.{List, _∷_, _++_}
+use mathlib.Core.Path.{sym, _∙_}
+use mathlib.Core.Bool.{true, false}
+use mathlib.Core.List.{_∷_}
 use mathlib.Core.Logic.{⊎-elim}
-use Prim.Native.Nat.{ℕ, _+_, _-_, _<_}
+use Prim.Native.Nat.{_+_, _-_}
 use native.Mathlib.Omega.{arith}
-use Rattle.lists.specs.Lists.{over, when}
 use Rattle.lists.proofs.Ranges.{over-step, over-more, over-end, over-none}
 use Rattle.lists.proofs.Writing.{Writing, start, turn, enter, leave, place, push, moved, all}
 use Rattle.faces.specs.Faces.{has, triple, triplesOf}
+use Rattle.faces.proofs.Triples.{left1, left2, left3, listed, next-listed}
 use Rattle.faces.proofs.list.Statement.{statement}
 use Rattle.faces.proofs.list.Tie as tie
 
--- what is left at each loop's head
-module _ (n : ℕ) (P : ℕ → ℕ → ℕ → Bool) where
-  abbrev R1 : ℕ → List (List ℕ)
-  R1 a = over a n (λ a. over (a + 1) n (λ b. over (b + 1) n (λ c. when (P a b c) (triple a b c))))
-
-  abbrev R2 : ℕ → ℕ → List (List ℕ)
-  R2 a b = over b n (λ b. over (b + 1) n (λ c. when (P a b c) (triple a b c))) ++ R1 (a + 1)
-
-  abbrev R3 : ℕ → ℕ → ℕ → List (List ℕ)
-  R3 a b c = over c n (λ c. when (P a b c) (triple a b c)) ++ R2 a (b + 1)
-
-  one : (a b c : ℕ) (t : Bool) → c < n → t ≡ P a b c → R3 a b c ≡ when t (triple a b c) ++ R3 a b (c + 1)
-  one a b c t h e = over-more c n _ (R2 a (b + 1)) h ∙ ap (λ (t : Bool). when t (triple a b c) ++ R3 a b (c + 1)) (sym e)
-
 abbrev Inv-loop3 : tie.InvT-loop3
-Inv-loop3 masks n out₀ count₀ a b c₀ out count c = Writing (triplesOf n (has masks)) (R3 n (has masks) a b c) out₀ count₀ out count
+Inv-loop3 masks n out₀ count₀ a b c₀ out count c = Writing (triplesOf n (has masks)) (left3 n (listed (has masks)) a b c) out₀ count₀ out count
 
 abbrev μ-loop3 : tie.MeasureT-loop3
 μ-loop3 masks n out₀ count₀ a b c₀ out count c = n - c
 
 abbrev Inv-loop2 : tie.InvT-loop2
-Inv-loop2 masks n out₀ count₀ a b₀ out count b = Writing (triplesOf n (has masks)) (R2 n (has masks) a b) out₀ count₀ out count
+Inv-loop2 masks n out₀ count₀ a b₀ out count b = Writing (triplesOf n (has masks)) (left2 n (listed (has masks)) a b) out₀ count₀ out count
 
 abbrev μ-loop2 : tie.MeasureT-loop2
 μ-loop2 masks n out₀ count₀ a b₀ out count b = n - b
 
 abbrev Inv-loop : tie.InvT-loop
-Inv-loop masks n out₀ count₀ a₀ out count a = Writing (triplesOf n (has masks)) (R1 n (has masks) a) out₀ count₀ out count
+Inv-loop masks n out₀ count₀ a₀ out count a = Writing (triplesOf n (has masks)) (left1 n (listed (has masks)) a) out₀ count₀ out count
 
 abbrev μ-loop : tie.MeasureT-loop
 μ-loop masks n out₀ count₀ a₀ out count a = n - a
@@ -81,12 +67,12 @@ next : (c : tie.Then1 Inv-loop3 μ-loop3 Inv-loop2 μ-loop2 Inv-loop μ-loop) �
     let u = m .before .before in
     let n = u .before .args .n in
     let P = has (u .before .args .masks .now) in
-    Writing (triplesOf n P) (triple (u .loop .a) (m .loop2 .b) (l .loop3 .c) ∷ R3 n P (u .loop .a) (m .loop2 .b) (l .loop3 .c + 1)) (m .loop2 .out) (m .loop2 .count) (l .loop3 .out) (l .loop3 .count)
+    Writing (triplesOf n P) (triple (u .loop .a) (m .loop2 .b) (l .loop3 .c) ∷ left3 n (listed P) (u .loop .a) (m .loop2 .b) (l .loop3 .c + 1)) (m .loop2 .out) (m .loop2 .count) (l .loop3 .out) (l .loop3 .count)
 next c =
     let l = c .before .before .before in
     let m = l .before .before in
     let u = m .before .before in
-    turn (one (u .before .args .n) (has (u .before .args .masks .now)) (u .loop .a) (m .loop2 .b) (l .loop3 .c) true (omega arith) (sym (c .if1 .taken) ∙ c .before .contains .ensures)) (l .loop3 .inv)
+    turn (next-listed (u .before .args .n) (has (u .before .args .masks .now)) (u .loop .a) (m .loop2 .b) (l .loop3 .c) {t = true} (omega arith) (sym (c .if1 .taken) ∙ c .before .contains .ensures)) (l .loop3 .inv)
 
 slice-set-from-out :
     tie.Need-slice-set-from-out Inv-loop3 μ-loop3 Inv-loop2 μ-loop2 Inv-loop μ-loop
@@ -108,7 +94,7 @@ loop3-again c =
     let u = m .before .before in
     ⊎-elim
     (λ w. moved (w .1) (w .2) (push (next (record { before = c .before; if1 = w .0 }))))
-    (λ w. moved (w .1) (w .2) (turn (one (u .before .args .n) (has (u .before .args .masks .now)) (u .loop .a) (m .loop2 .b) (l .loop3 .c) false (omega arith) (sym (w .0 .left) ∙ c .before .contains .ensures)) (l .loop3 .inv)))
+    (λ w. moved (w .1) (w .2) (turn (next-listed (u .before .args .n) (has (u .before .args .masks .now)) (u .loop .a) (m .loop2 .b) (l .loop3 .c) {t = false} (omega arith) (sym (w .0 .left) ∙ c .before .contains .ensures)) (l .loop3 .inv)))
     (c .if1 .came)
 
 add-b-2 : tie.Need-add-b-2 Inv-loop3 μ-loop3 Inv-loop2 μ-loop2 Inv-loop μ-loop
