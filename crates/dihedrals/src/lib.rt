@@ -8,7 +8,7 @@ ghost use Prim.Native.Nat.{_<_, _≤_};
 ghost use lib.ListN.{length, take};
 ghost use Rattle.lists.specs.Lists.{filled};
 ghost use Rattle.geometry.specs.Faces.{areaWeightOf, bendBetween, bendWeightOf};
-ghost use Rattle.hinges.specs.Hinges.{Starts};
+ghost use Rattle.blocks.specs.Blocks.{Starts};
 ghost use Rattle.dihedrals.specs.Weights.{lengthsOf, rowsOf};
 ghost use Rattle.dihedrals.specs.Lists.{Solid, Lengths, Measured};
 

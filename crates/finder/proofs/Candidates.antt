@@ -75,12 +75,8 @@ module _ (p : Polygon) (v : Valid p) where
     a<b = λ i h. let t = candidate-at i h in omega (arith, ap vertexA (t .is), ap vertexB (t .is), t .a<b);
     b<c = λ i h. let t = candidate-at i h in omega (arith, ap vertexB (t .is), ap vertexC (t .is), t .b<c);
     c<64 = λ i h. let t = candidate-at i h in omega (arith, ap vertexC (t .is), t .c<n, v .most);
-    ascend = λ i j h k. ascend i j (j - i) refl h k;
+    by-first = record { up = λ i j h k. before-first (ascending-at [] (triples-ascend (p .n) (isCandidate p)) i j h k) };
   }
-    where
-      ascend : (i j d : ℕ) → j - i ≡ d → i ≤ j → j < length (candidatesOf p) → vertexA (entryAt (candidatesOf p) i) ≤ vertexA (entryAt (candidatesOf p) j)
-      ascend i j zero e h k = subst (λ (m : ℕ). vertexA (entryAt (candidatesOf p) i) ≤ vertexA (entryAt (candidatesOf p) m)) (omega arith) (le-refl (vertexA (entryAt (candidatesOf p) i)))
-      ascend i j (suc d) e h k = before-first (ascending-at [] (triples-ascend (p .n) (isCandidate p)) i j (omega arith) k)
 
   -- ---- a candidate's normal is not 0
   module _ (a b c d : ℕ) (ha : a < p .n) (hb : b < p .n) (hc : c < p .n) (hd : d < p .n) (e : counts p a b c d ≡ true) where

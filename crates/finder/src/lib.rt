@@ -64,7 +64,7 @@ fn write_lists(
     let n = p.n;
     let count = faces::list(masks, n, candidates);
     let found = &candidates[..count];
-    let starts = hinges::block_starts(found);
+    let starts = blocks::block_starts(found);
     dihedrals::write_lengths(p, found, weights);
     dihedrals::write_rows(p, found, &starts, &weights[..count], rows);
     let factor = p.area_factor;

@@ -1,19 +1,19 @@
 -- The candidates that hang on one of them stand in two blocks. Assumes nothing.
-use mathlib.Core.Path.{_≡_, refl, sym, _∙_, ap, subst}
+use mathlib.Core.Path.{_≡_, sym, _∙_, ap}
 use mathlib.Core.Bool.{Bool, false}
 use mathlib.Core.List.{List, [], _++_, append-nil}
-use Prim.Native.Nat.{ℕ, zero, suc, _+_, _-_, _≤_, _<_}
+use Prim.Native.Nat.{ℕ, _+_, _≤_, _<_}
 use native.Mathlib.Omega.{arith}
-use borrow.Author.Tests.{eq-eqb, ne-eqb, ltb-true, ltb-false}
-use lib.Dec.{eqb, ltb}
-use lib.ListN.{length, getD, set, length-set}
-use lib.Seq.{getD-set-same, getD-set-other}
+use borrow.Author.Tests.{eq-eqb, ne-eqb}
+use lib.Dec.{eqb}
+use lib.ListN.{length, getD}
 use Rattle.lists.specs.Lists.{over, when, both, either}
-use Rattle.lists.proofs.Choice.{Truth, holds, fails, truth}
 use Rattle.lists.proofs.Parts.{over-same, over-split, over-empty}
 use Rattle.lists.proofs.Bools.{either-no}
 use Rattle.jobs.specs.Job.{entryAt, vertexA, vertexB, vertexC, sameEdge, hangs}
-use Rattle.hinges.specs.Hinges.{innersOn, innersAt, endingIn, Sorted, BlockStart}
+use Rattle.blocks.specs.Blocks.{BlockStart}
+use Rattle.blocks.proofs.Starts.{start-order, start-of}
+use Rattle.hinges.specs.Hinges.{innersOn, innersAt, endingIn, Sorted}
 
 -- candidate t hangs on u only if it begins in u's first or second vertex, and then by its last vertex
 module _ (t u : List ℕ) where
@@ -28,22 +28,6 @@ module _ (t u : List ℕ) where
   pub hangs-second : (vertexA t ≡ vertexA u → ⊥) → vertexA t ≡ vertexB u → hangs t u ≡ eqb (vertexC t) (vertexC u)
   unfolding hangs
   hangs-second h k = (λ i. either (both (ne-eqb (vertexA t) (vertexA u) h i) (eqb (vertexC t) (vertexB u))) (both (eq-eqb (vertexA t) (vertexB u) k i) (eqb (vertexC t) (vertexC u))))
-
--- where block starts stand
-module _ (cs : List (List ℕ)) where
-  pub start-order : {j k x y : ℕ} → BlockStart cs j x → BlockStart cs k y → j ≤ k → x ≤ y
-  start-order {j} {k} {x} {y} p q l = go (x - y) refl
-    where
-      go : (d : ℕ) → x - y ≡ d → x ≤ y
-      go zero e = omega arith
-      go (suc d) e =
-          let m : y < x = omega arith in
-          let u = p .below y m in
-          let v = q .above y (omega arith) (omega (arith, p .within)) in
-          absurd (omega arith)
-
-  pub start-at : {j k x : ℕ} → j ≡ k → BlockStart cs j x → BlockStart cs k x
-  start-at {x = x} e s = subst (λ (k : ℕ). BlockStart cs k x) e s
 
 module _ (cs : List (List ℕ)) (o la ha lb hb : ℕ)
     (h : vertexA (entryAt cs o) < vertexB (entryAt cs o))
@@ -102,74 +86,12 @@ module _ (cs : List (List ℕ)) (o e lo hi : ℕ) (s : BlockStart cs (getD (entr
       ∙ (λ i. inside i ++ after i)
       ∙ append-nil (endingIn cs lo hi (getD (entryAt cs o) (e + 1) 0))
 
--- bisection for a block's start: it is from low to high
-pub record Search (cs : List (List ℕ)) (k low high : ℕ) : Type 0 where
-  pub order-of : low ≤ high
-  pub within : high ≤ length cs
-  pub below : (i : ℕ) → i < low → vertexA (entryAt cs i) < k
-  pub above : (i : ℕ) → high ≤ i → i < length cs → k ≤ vertexA (entryAt cs i)
-
-module _ (cs : List (List ℕ)) (k : ℕ) where
-  pub search-start : Search cs k 0 (length cs)
-  search-start = record { order-of = omega arith; within = omega arith; below = λ i h. absurd (omega arith); above = λ i h l. absurd (omega arith) }
-
-  module _ (s : Sorted cs) (low mid high : ℕ) (f : Search cs k low high) (l : low ≤ mid) (h : mid < high) where
-    pub search-up : vertexA (entryAt cs mid) < k → Search cs k (mid + 1) high
-    search-up e = record {
-      order-of = omega arith;
-      within = f .within;
-      below = λ i m. let u = s .ascend i mid (omega arith) (omega (arith, f .within)) in omega arith;
-      above = f .above;
-    }
-
-    pub search-down : k ≤ vertexA (entryAt cs mid) → Search cs k low mid
-    search-down e = record {
-      order-of = l;
-      within = omega (arith, f .within);
-      below = f .below;
-      above = λ i m n. let u = s .ascend mid i m n in omega arith;
-    }
-
-  pub search-end : (low high : ℕ) → high ≤ low → Search cs k low high → BlockStart cs k low
-  search-end low high h f = record { within = omega (arith, f .order-of, f .within); below = f .below; above = λ i m n. f .above i (omega arith) n }
-
--- there is a block's start
-pub record Start (cs : List (List ℕ)) (k : ℕ) : Type 0 where
-  pub at : ℕ
-  pub is : BlockStart cs k at
-
-module _ (cs : List (List ℕ)) (s : Sorted cs) (k : ℕ) where
-  start-from : (d low : ℕ) → length cs - low ≡ d → Search cs k low (length cs) → Start cs k
-  start-from zero low e f = record { at = low; is = search-end cs k low (length cs) (omega (arith, f .order-of)) f }
-  start-from (suc d) low e f = go (λ g. start-from d (low + 1) (omega arith) g) (truth (ltb (vertexA (entryAt cs low)) k))
-    where
-      go : (Search cs k (low + 1) (length cs) → Start cs k) → Truth (ltb (vertexA (entryAt cs low)) k) → Start cs k
-      go next (holds h) = next (search-up cs k s low low (length cs) f (omega arith) (omega arith) (ltb-true (vertexA (entryAt cs low)) k h))
-      go next (fails h) = record { at = low; is = search-end cs k low low (omega arith) (search-down cs k s low low (length cs) f (omega arith) (omega arith) (ltb-false (vertexA (entryAt cs low)) k h)) }
-
-  pub start-of : Start cs k
-  start-of = start-from (length cs - 0) 0 refl (search-start cs k)
-
 -- the candidates that hang on o are those on its two edges
 pub two-edges : (cs : List (List ℕ)) → Sorted cs → (o : ℕ) → o < length cs → innersOn cs o ≡ innersAt cs o 0 ++ innersAt cs o 1
 two-edges cs s o h =
-    let la = start-of cs s (vertexA (entryAt cs o)) in
-    let ha = start-of cs s (vertexA (entryAt cs o) + 1) in
-    let lb = start-of cs s (vertexB (entryAt cs o)) in
-    let hb = start-of cs s (vertexB (entryAt cs o) + 1) in
+    let la = start-of cs (s .by-first) (vertexA (entryAt cs o)) in
+    let ha = start-of cs (s .by-first) (vertexA (entryAt cs o) + 1) in
+    let lb = start-of cs (s .by-first) (vertexB (entryAt cs o)) in
+    let hb = start-of cs (s .by-first) (vertexB (entryAt cs o) + 1) in
     two-blocks cs o (la .at) (ha .at) (lb .at) (hb .at) (s .a<b o h) (la .is) (ha .is) (lb .is) (hb .is)
     ∙ sym (λ i. edge-block cs o 0 (la .at) (ha .at) (la .is) (ha .is) i ++ edge-block cs o 1 (lb .at) (hb .at) (lb .is) (hb .is) i)
-
--- the starts that are known, up to the one that comes next
-pub record StartsTo (cs : List (List ℕ)) (k : ℕ) (starts : List ℕ) : Type 0 where
-  pub long : length starts ≡ 65
-  pub at : (j : ℕ) → j < k → BlockStart cs j (getD starts j 0)
-
-pub starts-more : {cs : List (List ℕ)} {k : ℕ} {starts : List ℕ} (r : ℕ) → k < 65 → BlockStart cs k r → StartsTo cs k starts → StartsTo cs (k + 1) (set starts k r)
-starts-more {cs} {k} {starts} r h b f = record { long = length-set starts k r ∙ f .long; at = λ j m. go j (k - j) m refl }
-  where
-    go : (j d : ℕ) → j < k + 1 → k - j ≡ d → BlockStart cs j (getD (set starts k r) j 0)
-    go j zero m z =
-        let w : k ≡ j = omega arith in
-        subst (λ (j : ℕ). BlockStart cs j (getD (set starts k r) j 0)) w (subst (λ (v : ℕ). BlockStart cs k v) (sym (getD-set-same starts k r 0 (omega (arith, f .long)))) b)
-    go j (suc d) m z = subst (λ (v : ℕ). BlockStart cs j v) (sym (getD-set-other starts k j r 0 (λ w. omega arith))) (f .at j (omega arith))

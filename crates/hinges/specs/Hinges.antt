@@ -6,6 +6,7 @@ use lib.Dec.{eqb}
 use lib.ListN.{length, getD}
 use Rattle.jobs.specs.Job.{entryAt, vertexA, vertexB, vertexC, sameEdge, hangs}
 use Rattle.lists.specs.Lists.{over, when}
+use Rattle.blocks.specs.Blocks.{ByFirst}
 
 -- the candidates that hang on candidate o, in ascending order
 abbrev pub innersOn : List (List ℕ) → ℕ → List ℕ
@@ -33,14 +34,4 @@ pub record Sorted (candidates : List (List ℕ)) : Type 0 where
   pub a<b : (i : ℕ) → i < length candidates → vertexA (entryAt candidates i) < vertexB (entryAt candidates i)
   pub b<c : (i : ℕ) → i < length candidates → vertexB (entryAt candidates i) < vertexC (entryAt candidates i)
   pub c<64 : (i : ℕ) → i < length candidates → vertexC (entryAt candidates i) < 64
-  pub ascend : (i j : ℕ) → i ≤ j → j < length candidates → vertexA (entryAt candidates i) ≤ vertexA (entryAt candidates j)
-
--- r candidates have a first vertex below k, and these come first
-pub record BlockStart (candidates : List (List ℕ)) (k r : ℕ) : Type 0 where
-  pub within : r ≤ length candidates
-  pub below : (i : ℕ) → i < r → vertexA (entryAt candidates i) < k
-  pub above : (i : ℕ) → r ≤ i → i < length candidates → k ≤ vertexA (entryAt candidates i)
-
--- place k holds how many candidates have a first vertex below k
-pub record Starts (candidates : List (List ℕ)) (starts : List ℕ) : Type 0 where
-  pub at : (k : ℕ) → k < 65 → BlockStart candidates k (getD starts k 0)
+  pub by-first : ByFirst candidates

@@ -3,44 +3,7 @@ ghost use mathlib.Core.Path.{_≡_};
 ghost use Prim.Native.Nat.{_<_, _≤_};
 ghost use lib.ListN.{length};
 ghost use Rattle.faces.specs.Faces.{has, triplesOf};
-ghost use Rattle.hinges.specs.Hinges.{innersOf, beneath, Sorted, BlockStart, Starts};
-
-fn wide(x: u8) -> usize
-    ensures { λ r. ⌜ r ≡ x ⌝ }
-{
-    x as usize
-}
-
-// The first candidate whose first vertex is not below k, by bisection.
-fn block_start(candidates: &[[u8; 3]], k: usize) -> usize
-    requires { ⌜ Sorted (now candidates) ⌝ }
-    ensures { λ r. ⌜ BlockStart (now (candidates .entry)) k r ⌝ }
-{
-    let mut low = 0;
-    let mut high = candidates.len();
-    while low < high {
-        let mid = low + (high - low) / 2;
-        let t = candidates[mid];
-        if wide(t[0]) < k {
-            low = mid + 1;
-        } else {
-            high = mid;
-        }
-    }
-    low
-}
-
-// Where the block of each first vertex begins, up to one past the last.
-pub fn block_starts(candidates: &[[u8; 3]]) -> [usize; 65]
-    requires { ⌜ Sorted (now candidates) ⌝ }
-    ensures { λ r. ⌜ Starts (now (candidates .entry)) r ⌝ }
-{
-    let mut starts = [0usize; 65];
-    for k in 0..65 {
-        starts[k] = block_start(candidates, k);
-    }
-    starts
-}
+ghost use Rattle.hinges.specs.Hinges.{innersOf, beneath};
 
 // How many triangles of the set have (i, j) as the edge from their first to their last vertex.
 fn count_beneath(masks: &[u64; 4096], i: usize, j: usize) -> usize

@@ -16,8 +16,10 @@ use Rattle.jobs.specs.Job.{entryAt, vertexC}
 use Rattle.lists.specs.Lists.{over, when}
 use Rattle.lists.proofs.Ranges.{over-step, over-more, over-none, over-end}
 use Rattle.lists.proofs.Writing.{Writing, start, turn, enter, leave, place, push, moved, all}
-use Rattle.hinges.specs.Hinges.{Sorted, endingIn, BlockStart}
-use Rattle.hinges.proofs.Blocks.{start-order, start-at, edge-block}
+use Rattle.blocks.specs.Blocks.{BlockStart}
+use Rattle.blocks.proofs.Starts.{start-order, start-at}
+use Rattle.hinges.specs.Hinges.{Sorted, endingIn}
+use Rattle.hinges.proofs.Blocks.{edge-block}
 use Rattle.dihedrals.specs.Weights.{faceNormal, lengthsOf, rowAt, rowsOn, rowsOf}
 use Rattle.dihedrals.proofs.Faces.{Read, a<64, b<64, c<64, on-grid, normal-is, length-at, face-measured}
 use Rattle.dihedrals.proofs.Rows.{rowsAt, edge-rows, ending-step, ending-end}

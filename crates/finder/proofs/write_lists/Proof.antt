@@ -53,7 +53,7 @@ slice-aggregate-found : tie.Need-slice-aggregate-found
 slice-aggregate-found c = let g = c .before .before in count-is g ∙ sym (ap length (found-are g))
 
 block-starts-requires : tie.Need-block-starts-requires
-block-starts-requires c κs = solid (c .before .before) .sorted
+block-starts-requires c κs = solid (c .before .before) .sorted .by-first
 
 write-lengths-requires : tie.Need-write-lengths-requires
 write-lengths-requires c κs = let g = c .before .before .before .before in (solid g, omega (arith, ap length (found-are g), begin g .pre .1 .for-weights))

@@ -1,5 +1,6 @@
 -- `minimum_weight::choice::best_in_block` meets its contract. Assumes nothing.
-use Rattle.minimum_weight.proofs.Picks.{starts-up, block-start, block-next, block-end, pick-bounded}
+use Rattle.blocks.proofs.Starts.{starts-up}
+use Rattle.minimum_weight.proofs.Picks.{block-start, block-next, block-end, pick-bounded}
 use Prim.Native.Nat.{_+_, _-_, _≤_}
 use mathlib.Core.Path.{_≡_, sym, _∙_}
 use native.Mathlib.Omega.{arith}

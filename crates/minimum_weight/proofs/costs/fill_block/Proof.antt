@@ -5,7 +5,7 @@ use borrow.Author.Needs.{needs}
 use lib.ListN.{length, getD}
 use Rattle.triangulation.specs.Jobs.{jobOf}
 use Rattle.minimum_weight.specs.Tables.{Cut}
-use Rattle.minimum_weight.proofs.Picks.{starts-up}
+use Rattle.blocks.proofs.Starts.{starts-up}
 use Rattle.minimum_weight.proofs.Runs.{run-of}
 use Rattle.minimum_weight.proofs.Filling.{Filling, filling-start, filling-next, filling-end, left-ready, right-ready}
 use Rattle.minimum_weight.proofs.costs.fill_block.Statement.{statement}
