@@ -4,12 +4,16 @@ use mathlib.Core.Bool.{Bool, true, false, not}
 use Rattle.geometry.specs.declared.sphere.Position.{Position}
 use Rattle.geometry.specs.declared.sphere.Position.the-variants.{Inside, On, Outside}
 use Rattle.lists.specs.Lists.{both, either}
-use Rattle.lists.proofs.Bools.{both-no, both-yes}
+use Rattle.lists.proofs.Choice.{either-right}
+use Rattle.lists.proofs.Bools.{either-no, both-no, both-yes}
 use Rattle.delaunay.specs.Search.{isOn}
 
--- where none was found before
-pub not-on : (found corner : Bool) (place : Position) → found ≡ false → isOn place ≡ false → false ≡ either found (both (not corner) (isOn place))
-not-on found corner place e d = sym ((λ i. either (e i) (both (not corner) (isOn place))) ∙ both-no (not corner) d)
+module _ (found corner : Bool) (place : Position) where
+  pub not-on : isOn place ≡ false → found ≡ either found (both (not corner) (isOn place))
+  not-on d = sym (ap (either found) (both-no (not corner) d) ∙ either-no found)
 
-pub now-on : (found corner answer : Bool) (place : Position) → found ≡ false → isOn place ≡ true → answer ≡ corner → not answer ≡ either found (both (not corner) (isOn place))
-now-on found corner answer place e d w = ap not w ∙ sym ((λ i. either (e i) (both (not corner) (isOn place))) ∙ both-yes (not corner) d)
+  pub on-corner : isOn place ≡ true → corner ≡ true → found ≡ either found (both (not corner) (isOn place))
+  on-corner d w = sym (ap (either found) (both-yes (not corner) d ∙ ap not w) ∙ either-no found)
+
+  pub on-other : isOn place ≡ true → corner ≡ false → true ≡ either found (both (not corner) (isOn place))
+  on-other d w = sym (either-right found (both (not corner) (isOn place)) (both-yes (not corner) d ∙ ap not w))

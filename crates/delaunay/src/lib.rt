@@ -56,13 +56,16 @@ fn fifth_found(
 ) -> bool
     ensures { λ r. ⌜ r ≡ either found (both (not (isCorner a b c d v)) (isOn place)) ⌝ }
 {
-    if found {
-        return true;
-    }
     match place {
-        Position::On => !is_corner(a, b, c, d, v),
-        Position::Inside => false,
-        Position::Outside => false,
+        Position::On => {
+            if is_corner(a, b, c, d, v) {
+                found
+            } else {
+                true
+            }
+        }
+        Position::Inside => found,
+        Position::Outside => found,
     }
 }
 
