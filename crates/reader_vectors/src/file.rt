@@ -1,5 +1,6 @@
 // Rim files built in an array. Where a number would lie past the array's end, nothing is written.
-
+use crate::text;
+use crate::text::Text;
 ghost use Prim.Native.Nat.{_≤_};
 
 // Room for 258 records, one more than any file here has.
@@ -8,68 +9,29 @@ pub const SPACE: usize = 4136;
 pub type Bytes = [u8; SPACE];
 
 // The patterns of some values in millimetres.
-pub const ZERO: u32 = 0;
+const ZERO: u32 = 0;
 
-pub const ONE: u32 = 0x3f80_0000;
+const ONE: u32 = 0x3f80_0000;
 
-pub const THREE_QUARTERS: u32 = 0x3f40_0000;
+const THREE_QUARTERS: u32 = 0x3f40_0000;
 
-pub const MINUS_ZERO: u32 = 0x8000_0000;
-
-pub const ABOVE_125: u32 = 0x42fa_0001;
-
-pub const INFINITY: u32 = 0x7f80_0000;
-
-pub const NAN: u32 = 0x7fc0_0000;
-
-// Where a number starts in a record. The last four bytes of a level point are at Z.
-pub const NEXT: u32 = 0;
-
-pub const KIND: u32 = 2;
-
-pub const X: u32 = 4;
-
-pub const Y: u32 = 8;
-
-pub const Z: u32 = 12;
-
-// Where a number starts in the header.
-pub const FIRST: u32 = 0;
-
-pub const COUNT: u32 = 2;
-
-pub const AREA_FACTOR: u32 = 4;
-
-pub const BEND_FACTOR: u32 = 6;
-
-// A record, or 0 for the header, where in it a number starts, and the number.
-pub type Change = [u32; 3];
-
-fn put_byte(file: &mut Bytes, at: usize, value: u32) {
-    if at < SPACE {
-        file[at] = (value % 256) as u8;
-    }
-}
-
-fn put_u16(file: &mut Bytes, at: usize, value: u32) {
-    if at < SPACE {
-        put_byte(file, at, value);
-        put_byte(file, at + 1, value / 256);
-    }
-}
-
-fn put_u32(file: &mut Bytes, at: usize, value: u32) {
-    if at < SPACE {
-        put_u16(file, at, value % 65536);
-        put_u16(file, at + 2, value / 65536);
+// A number of so many bytes, little-endian.
+fn put(file: &mut Bytes, at: usize, size: u32, value: u32) {
+    let mut left = size;
+    let mut rest = value;
+    for i in at..SPACE {
+        if left == 0 {
+            return;
+        }
+        file[i] = (rest % 256) as u8;
+        rest = rest / 256;
+        left = left - 1;
     }
 }
 
 // Every byte is 255. As a record that is junk: a next record over any count, no kind, and no numbers.
 pub(crate) fn clear(file: &mut Bytes) {
-    for i in 0..SPACE {
-        file[i] = 255;
-    }
+    *file = [255; SPACE];
 }
 
 // Where a record starts; past every array where there is no such record.
@@ -85,37 +47,21 @@ fn start(record: u32) -> usize
     8 + 16 * (record as usize - 1)
 }
 
-pub(crate) fn change(file: &mut Bytes, change: Change) {
-    let record = change[0];
-    let place = change[1];
-    let value = change[2];
-    if 16 <= place {
-        return;
-    }
-    if record == 0 {
-        put_u16(file, place as usize, value);
-    } else if place < X {
-        put_u16(file, start(record) + place as usize, value);
-    } else {
-        put_u32(file, start(record) + place as usize, value);
-    }
-}
-
 // The header, with both factors 1.
-pub(crate) fn set_header(file: &mut Bytes, first: u32, count: u32) {
-    put_u16(file, 0, first);
-    put_u16(file, 2, count);
-    put_u16(file, 4, 1);
-    put_u16(file, 6, 1);
+fn set_header(file: &mut Bytes, first: u32, count: u32) {
+    put(file, 0, 2, first);
+    put(file, 2, 2, count);
+    put(file, 4, 2, 1);
+    put(file, 6, 2, 1);
 }
 
-pub(crate) fn set_record(file: &mut Bytes, record: u32, next: u32, kind: u32, numbers: [u32; 3]) {
+fn set_record(file: &mut Bytes, record: u32, next: u32, kind: u32, numbers: [u32; 3]) {
     let at = start(record);
-    put_u16(file, at, next);
-    put_u16(file, at + 2, kind);
-    put_u32(file, at + 4, numbers[0]);
-    put_u32(file, at + 8, numbers[1]);
-    put_u32(file, at + 12, numbers[2]);
+    put(file, at, 2, next);
+    put(file, at + 2, 2, kind);
+    put(file, at + 4, 4, numbers[0]);
+    put(file, at + 8, 4, numbers[1]);
+    put(file, at + 12, 4, numbers[2]);
 }
 
 // Rim file P of document 01: (0, 0, 0), (1, 0, 0), (1, 1, 0.75), (0, 1, 0), 72 bytes.
@@ -125,6 +71,19 @@ pub(crate) fn four_points(file: &mut Bytes) {
     set_record(file, 2, 3, 1, [ONE, ZERO, ZERO]);
     set_record(file, 3, 4, 1, [ONE, ONE, THREE_QUARTERS]);
     set_record(file, 4, 0, 1, [ZERO, ONE, ZERO]);
+}
+
+// Points (1, 2, 3) and (6, 7, 8) with the level point (4, 5) between them, 56 bytes, and `bits` at one of the
+// five places where a used number can stand: x, y, z of a point, and x, y of the level point, before which
+// stand its link and its kind.
+pub(crate) fn three_points_with(file: &mut Bytes, place: usize, bits: u32)
+    requires { ⌜ place ≤ 4 ⌝ }
+{
+    set_header(file, 1, 3);
+    set_record(file, 1, 2, 1, [0x3f80_0000, 0x4000_0000, 0x4040_0000]);
+    set_record(file, 2, 3, 2, [0x4080_0000, 0x40a0_0000, 0]);
+    set_record(file, 3, 0, 1, [0x40c0_0000, 0x40e0_0000, 0x4100_0000]);
+    put(file, 12 + 4 * (place + place / 3), 4, bits);
 }
 
 // The record that stands `stride` records after one of `count`, going round.
@@ -146,9 +105,8 @@ fn set_position(file: &mut Bytes, record: u32, next: u32, i: u32) {
     }
 }
 
-// A chain of n records among `count`, from record 1 on by steps of `stride`. The other records are junk.
+// A chain of n records among `count`, from record 1 on by steps of `stride`.
 pub(crate) fn chain(file: &mut Bytes, n: u32, count: u32, stride: u32) {
-    clear(file);
     set_header(file, 1, count);
     let mut record = 1;
     for i in 0..n {
@@ -159,5 +117,61 @@ pub(crate) fn chain(file: &mut Bytes, n: u32, count: u32, stride: u32) {
             set_position(file, record, next, i);
         }
         record = next;
+    }
+}
+
+// Where a number starts in the header or in a record, by the first letter of its name; past every array
+// for a name that is neither's.
+fn place(name: u8) -> usize
+    ensures { λ r. ⌜ r ≤ 4136 ⌝ }
+{
+    match name {
+        b'f' | b'n' => 0, // first, next
+        b'R' | b'k' => 2, // R, kind
+        b'a' | b'x' => 4, // area factor, x
+        b'b' => 6, // bend factor
+        b'y' => 8,
+        b'z' => 12,
+        _ => SPACE,
+    }
+}
+
+// Sets the number named at `at`, in the header or in the record that starts at `start`. The numbers x, y
+// and z are bits.
+fn set_number(file: &mut Bytes, start: usize, text: &Text, at: usize)
+    requires { ⌜ start ≤ 4136 ⌝ }
+{
+    let name = text::byte(text, at);
+    if name < b'x' {
+        let number = text::decimal(text, at);
+        put(file, start + place(name), 2, number.value);
+    } else {
+        let bits = text::number_in(text, at, 16);
+        put(file, start + place(name), 4, bits.value);
+    }
+}
+
+// A change is a number of the header, by its name, or a number of a record, by "record", the record and
+// its name.
+fn change(file: &mut Bytes, text: &Text, at: usize) {
+    if text::byte(text, at) == b'r' {
+        let record = text::decimal(text, at);
+        let space = text::find(text, record.end, b' ');
+        set_number(file, start(record.value), text, space + 1);
+    } else {
+        set_number(file, 0, text, at);
+    }
+}
+
+// The changes from `at` to the colon, each after a comma and a space.
+pub(crate) fn change_all(file: &mut Bytes, text: &Text, at: usize) {
+    for i in at..text::ROOM {
+        let c = text[i];
+        if c == b':' {
+            return;
+        }
+        if c == b',' {
+            change(file, text, i + 2);
+        }
     }
 }

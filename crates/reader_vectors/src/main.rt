@@ -1,21 +1,15 @@
-// The reader on stored files. The expected answers are worked out from document 01, "The rim file" and
-// "Who causes which number". Each line is a case: what the file is, and the number that came, or ok.
+// The reader on stored files. The cases stand on standard input, with the answers that are worked out from
+// document 01, "The rim file" and "Who causes which number". Each case is printed with the answer that
+// came: a number, or ok.
+mod answers;
 mod cases;
-mod chains;
 mod compare;
 mod file;
-mod header;
-mod numbers;
-mod pairs;
-mod records;
+mod text;
 
 fn main() {
+    let mut text = [0u8; text::ROOM];
+    io::read_full(0, &mut text);
     let mut file = [0u8; file::SPACE];
-    file::clear(&mut file);
-    header::run_header(&mut file);
-    chains::run_chains(&mut file);
-    records::run_records(&mut file);
-    numbers::run_numbers(&mut file);
-    pairs::run_to_5(&mut file);
-    pairs::run_from_6(&mut file);
+    cases::run(&mut file, &text);
 }

@@ -5,22 +5,28 @@ use Rattle.reader_vectors.proofs.cases.run.Statement.{statement}
 use Rattle.reader_vectors.proofs.cases.run.Tie as tie
 
 abbrev Inv-loop : tie.InvT-loop
-Inv-loop file₀ cases i₀ i-end file i = Unit
+Inv-loop file₀ text i₀ file i = Unit
 
 abbrev μ-loop : tie.MeasureT-loop
-μ-loop file₀ cases i₀ i-end file i = i-end - i
+μ-loop file₀ text i₀ file i = 16384 - i
 
 loop-holds : tie.Need-loop-holds Inv-loop μ-loop
 loop-holds c = search needs
 
-mul-case : tie.Need-mul-case Inv-loop μ-loop
-mul-case c = search needs
+element-copy-out-if1 : tie.Need-element-copy-out-if1 Inv-loop μ-loop
+element-copy-out-if1 c = search needs
 
-shared-slice-copy-out-case : tie.Need-shared-slice-copy-out-case Inv-loop μ-loop
-shared-slice-copy-out-case c = search needs
+add-byte : tie.Need-add-byte Inv-loop μ-loop
+add-byte c = search needs
 
-run-case-requires : tie.Need-run-case-requires Inv-loop μ-loop
-run-case-requires c κs = search needs
+byte-requires : tie.Need-byte-requires Inv-loop μ-loop
+byte-requires c κs = search needs
+
+add-run-line : tie.Need-add-run-line Inv-loop μ-loop
+add-run-line c = search needs
+
+run-line-requires : tie.Need-run-line-requires Inv-loop μ-loop
+run-line-requires c κs = search needs
 
 add-i : tie.Need-add-i Inv-loop μ-loop
 add-i c = search needs
@@ -41,9 +47,11 @@ run-spec =
     Inv-loop
     μ-loop
     loop-holds
-    mul-case
-    shared-slice-copy-out-case
-    run-case-requires
+    element-copy-out-if1
+    add-byte
+    byte-requires
+    add-run-line
+    run-line-requires
     add-i
     loop-less
     loop-again

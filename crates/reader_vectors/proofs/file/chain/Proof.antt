@@ -1,7 +1,5 @@
 -- `reader_vectors::file::chain` meets its contract. Assumes nothing.
-use Prim.Native.Nat.{_-_, _≤_}
-use lib.ListN.{length}
-use native.Mathlib.Omega.{arith}
+use Prim.Native.Nat.{_-_}
 use borrow.Author.Needs.{needs}
 use Rattle.reader_vectors.proofs.file.chain.Statement.{statement}
 use Rattle.reader_vectors.proofs.file.chain.Tie as tie
@@ -11,9 +9,6 @@ Inv-loop file₀ n count stride record₀ i₀ file «record» i = Unit
 
 abbrev μ-loop : tie.MeasureT-loop
 μ-loop file₀ n count stride record₀ i₀ file «record» i = n - i
-
-clear-requires : tie.Need-clear-requires Inv-loop μ-loop
-clear-requires c κs = search needs
 
 set-header-requires : tie.Need-set-header-requires Inv-loop μ-loop
 set-header-requires c κs = search needs
@@ -51,7 +46,6 @@ chain-spec =
     (tie.spec
     Inv-loop
     μ-loop
-    clear-requires
     set-header-requires
     loop-holds
     step-requires

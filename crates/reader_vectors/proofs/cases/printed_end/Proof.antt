@@ -1,20 +1,20 @@
--- `reader_vectors::compare::origin_from` meets its contract. Assumes nothing.
+-- `reader_vectors::cases::printed_end` meets its contract. Assumes nothing.
 use Prim.Native.Nat.{_-_}
 use borrow.Author.Needs.{needs}
-use Rattle.reader_vectors.proofs.compare.origin_from.Statement.{statement}
-use Rattle.reader_vectors.proofs.compare.origin_from.Tie as tie
+use Rattle.reader_vectors.proofs.cases.printed_end.Statement.{statement}
+use Rattle.reader_vectors.proofs.cases.printed_end.Tie as tie
 
 abbrev Inv-loop : tie.InvT-loop
-Inv-loop polygon start i₀ i = Unit
+Inv-loop text at i₀ i = Unit
 
 abbrev μ-loop : tie.MeasureT-loop
-μ-loop polygon start i₀ i = 64 - i
+μ-loop text at i₀ i = 16384 - i
 
 loop-holds : tie.Need-loop-holds Inv-loop μ-loop
 loop-holds c = search needs
 
-is-vertex-requires : tie.Need-is-vertex-requires Inv-loop μ-loop
-is-vertex-requires c κs = search needs
+element-copy-out-c : tie.Need-element-copy-out-c Inv-loop μ-loop
+element-copy-out-c c = search needs
 
 returns : tie.Need-returns Inv-loop μ-loop
 returns c = search needs
@@ -31,14 +31,14 @@ loop-again c = search needs
 returns-2 : tie.Need-returns-2 Inv-loop μ-loop
 returns-2 c = search needs
 
-pub origin-from-spec : {M : Type 1} → statement M
-origin-from-spec =
+pub printed-end-spec : {M : Type 1} → statement M
+printed-end-spec =
     tie.close
     (tie.spec
     Inv-loop
     μ-loop
     loop-holds
-    is-vertex-requires
+    element-copy-out-c
     returns
     add-i
     loop-less

@@ -1,0 +1,54 @@
+-- `reader_vectors::file::change_all` meets its contract. Assumes nothing.
+use Prim.Native.Nat.{_-_}
+use borrow.Author.Needs.{needs}
+use Rattle.reader_vectors.proofs.file.change_all.Statement.{statement}
+use Rattle.reader_vectors.proofs.file.change_all.Tie as tie
+
+abbrev Inv-loop : tie.InvT-loop
+Inv-loop file₀ text at i₀ file i = Unit
+
+abbrev μ-loop : tie.MeasureT-loop
+μ-loop file₀ text at i₀ file i = 16384 - i
+
+loop-holds : tie.Need-loop-holds Inv-loop μ-loop
+loop-holds c = search needs
+
+element-copy-out-c : tie.Need-element-copy-out-c Inv-loop μ-loop
+element-copy-out-c c = search needs
+
+returns : tie.Need-returns Inv-loop μ-loop
+returns c = search needs
+
+add-change : tie.Need-add-change Inv-loop μ-loop
+add-change c = search needs
+
+change-requires : tie.Need-change-requires Inv-loop μ-loop
+change-requires c κs = search needs
+
+add-i : tie.Need-add-i Inv-loop μ-loop
+add-i c = search needs
+
+loop-less : tie.Need-loop-less Inv-loop μ-loop
+loop-less c = search needs
+
+loop-again : tie.Need-loop-again Inv-loop μ-loop
+loop-again c = search needs
+
+returns-2 : tie.Need-returns-2 Inv-loop μ-loop
+returns-2 c = search needs
+
+pub change-all-spec : {M : Type 1} → statement M
+change-all-spec =
+    tie.close
+    (tie.spec
+    Inv-loop
+    μ-loop
+    loop-holds
+    element-copy-out-c
+    returns
+    add-change
+    change-requires
+    add-i
+    loop-less
+    loop-again
+    returns-2)
