@@ -6,7 +6,7 @@ ghost use lib.Signed.{_<ℤ_};
 ghost use Rattle.integers.specs.Bounds.{AtMost};
 ghost use Rattle.integers.specs.Rounding.{floorRoot, floorDiv, clamped};
 
-// The whole part of the square root: it is at least `root` and below root + span. A round only chooses a value, which takes the machine no branch.
+// The whole part of the square root: it is at least `root` and below root + span. A round takes the machine no branch, which it could not foresee.
 pub fn floor_root(x: u64) -> u64
     requires { ⌜ x < 2 ^ 52 ⌝ }
     ensures { λ r. ⌜ r ≡ floorRoot x ⌝ }
@@ -16,9 +16,8 @@ pub fn floor_root(x: u64) -> u64
     while span > 1 {
         let half = span / 2;
         let next = root + half;
-        if next * next <= x {
-            root = next;
-        }
+        let fits = (next * next <= x) as u64;
+        root += half * fits;
         span -= half;
     }
     root
