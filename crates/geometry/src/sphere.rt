@@ -79,23 +79,25 @@ fn scaled_sum(a: Vector, k: i64, b: Vector) -> Vector
     }
 }
 
-// Where four corners turn the other way all signs are changed, so that one comparison places a point: by a sign, with no branch.
+// Where four corners turn the other way all signs are changed, so that one comparison places a point.
 fn turn(o: i64, c: Vector) -> Sphere
     requires { ⌜ (AtMost 48000000000 o) × (Within 288000000000000 c) ⌝ }
     ensures { λ r. ⌜ r ≡ turned o c ⌝ }
 {
-    let sign = 1 - 2 * (o < 0) as i64;
-    let x = c.x;
-    let y = c.y;
-    let z = c.z;
-    let centre = Vector {
-        x: sign * x,
-        y: sign * y,
-        z: sign * z,
-    };
+    if o < 0 {
+        let x = c.x;
+        let y = c.y;
+        let z = c.z;
+        let centre = Vector {
+            x: -x,
+            y: -y,
+            z: -z,
+        };
+        return Sphere { orient: -o, centre };
+    }
     Sphere {
-        orient: sign * o,
-        centre,
+        orient: o,
+        centre: c,
     }
 }
 
