@@ -2,7 +2,7 @@
  *
  * A table is lent as a pointer and its number of places. Tables of one call must not overlap, and each pointer is valid for its places; a table of
  * no places has any non-null pointer. The calls keep nothing, allocate nothing and may run at once in several threads, over tables of their own.
- * They use less than 512 KB of stack.
+ * They use less than 64 KB of stack.
  *
  *   triangles   places of u16: numbers of candidates
  *   candidates  places of three bytes: vertices a < b < c; the candidates ascend, and are numbered from 0 in that order

@@ -1,8 +1,7 @@
 -- Whether a fifth vertex was found on a sphere, by where it lies. Assumes nothing.
-use mathlib.Core.Path.{_≡_, refl, sym, _∙_, ap}
+use mathlib.Core.Path.{_≡_, sym, _∙_, ap}
 use mathlib.Core.Bool.{Bool, true, false, not}
 use Rattle.geometry.specs.declared.sphere.Position.{Position}
-use Rattle.geometry.specs.declared.sphere.Position.the-variants.{Inside, On, Outside}
 use Rattle.lists.specs.Lists.{both, either}
 use Rattle.lists.proofs.Choice.{either-right}
 use Rattle.lists.proofs.Bools.{either-no, both-no, both-yes}

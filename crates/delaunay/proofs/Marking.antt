@@ -10,7 +10,7 @@ use Rattle.lists.specs.Lists.{both, either, some}
 use Rattle.lists.proofs.Choice.{true-not-false}
 use Rattle.faces.specs.Faces.{isFace, has, withFaces, triplesOf}
 use Rattle.lists.proofs.Bools.{either-no, either-swap, both-no, both-yes}
-use Rattle.faces.proofs.Fours.{left1, left2, left3, left4, into2, into3, into4, next4, out1, out2, out3, out4}
+use Rattle.faces.proofs.Fours.{left1, left4, next4, out1}
 use Rattle.faces.proofs.Sets.{faces-in, faces-long, triples-same}
 use Rattle.delaunay.specs.Candidates.{counts, isFifth, isCandidate, candidatesOf, cospherical}
 use Rattle.delaunay.specs.Search.{Marked}

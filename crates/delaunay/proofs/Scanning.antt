@@ -1,7 +1,7 @@
 -- The scan of the vertices for one four, by what is left to scan; and what a vertex's position says. Assumes nothing.
 use mathlib.Core.Path.{_≡_, refl, sym, _∙_, ap, subst}
 use mathlib.Core.Bool.{Bool, true, false, not}
-use mathlib.Core.List.{List, [], _∷_}
+use mathlib.Core.List.{[], _∷_}
 use mathlib.Core.Logic.{⊎-elim}
 use Prim.Native.Nat.{ℕ, _+_, _≤_, _<_}
 use native.Mathlib.Omega.{arith}
@@ -15,15 +15,15 @@ use Rattle.geometry.specs.declared.sphere.Sphere.{Sphere}
 use Rattle.geometry.specs.declared.sphere.Position.{Position}
 use Rattle.geometry.specs.declared.sphere.Position.the-variants.{Inside, On, Outside}
 use Rattle.integers.specs.Order.{equal}
-use Rattle.geometry.specs.Spheres.{coplanar, strictlyInside, onSphere, positionOf, liftOf, pencilOf, sphereOf, positionBy}
+use Rattle.geometry.specs.Spheres.{coplanar, positionOf, liftOf, pencilOf, sphereOf, positionBy}
 use Rattle.geometry.proofs.Spheres.{computedSphere, coplanar-is, position-is, position-inside, position-on, position-outside}
 use Rattle.geometry.proofs.sphere.Position.{the-type}
 use Rattle.lists.specs.Lists.{both, either, every, some}
 use Rattle.lists.proofs.Choice.{true-not-false, not-true-false}
-use Rattle.lists.proofs.Ranges.{every-on, every-stop, every-end, every-at, some-step, some-end}
+use Rattle.lists.proofs.Ranges.{every-on, every-end, every-at, some-step, some-end}
 use Rattle.lists.proofs.Bools.{either-assoc, either-no, both-no}
 use Rattle.delaunay.specs.Candidates.{vertex, insideFour, onFour, counts, isCorner, isFifth}
-use Rattle.delaunay.specs.Search.{isOn, Lifts, unlifted}
+use Rattle.delaunay.specs.Search.{isOn}
 
 module _ (p : Polygon) (a b c d : ℕ) where
   -- up to vertex v none is strictly inside, and `fifth` says whether one other than the corners is on the sphere

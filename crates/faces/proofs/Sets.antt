@@ -7,9 +7,9 @@ use native.Mathlib.Nat.{le-trans}
 use native.Mathlib.Omega.{arith}
 use borrow.Author.Tests.{eqb-true, eqb-false, eq-eqb}
 use lib.Dec.{eqb}
-use lib.ListN.{length, getD, set, replicate, length-append, length-set, getD-replicate}
+use lib.ListN.{length, getD, replicate, length-append, length-set, getD-replicate}
 use lib.Seq.{getD-set-same, getD-set-other}
-use Rattle.lists.specs.Lists.{over, upFrom, when, both, either}
+use Rattle.lists.specs.Lists.{upFrom, when, both, either}
 use Rattle.lists.proofs.Choice.{Truth, holds, fails, truth, both-left, both-right, both-true, not-true-false}
 use Rattle.lists.proofs.Ranges.{up-bound, when-bound}
 use Rattle.lists.proofs.Parts.{over-same}

@@ -1,7 +1,6 @@
 -- Document 01's rim file P, computed over the definitions: candidates, area weights and rows, with a place left over in each table.
 use mathlib.Core.Path.{_≡_, refl}
-use mathlib.Core.List.{List, [], _∷_}
-use Prim.Native.Nat.{ℕ}
+use mathlib.Core.List.{[], _∷_}
 use lib.IntN.{pos}
 use lib.ListN.{replicate}
 use Rattle.grid.specs.Point.{point}

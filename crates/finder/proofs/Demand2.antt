@@ -1,16 +1,15 @@
 -- Demand 2: the lists of a valid polygon are exactly what document 01 defines. Assumes nothing.
 use mathlib.Core.Path.{_≡_, refl, sym, _∙_, ap, subst}
-use mathlib.Core.Bool.{Bool, true, false, not}
+use mathlib.Core.Bool.{true, not}
 use mathlib.Core.List.{List, [], _∷_, List·Memᴰ, List·Memᴰ·head}
-use mathlib.Core.Logic.{_⊎_, inl, inr, ⊎-elim}
-use Prim.Native.Nat.{ℕ, zero, suc, _+_, _-_, _≤_, _<_}
+use mathlib.Core.Logic.{_⊎_, ⊎-elim}
+use Prim.Native.Nat.{ℕ, zero, suc, _-_, _≤_, _<_}
 use native.Mathlib.Omega.{arith}
-use borrow.Author.Tests.{not-true, eq-eqb}
-use lib.Dec.{eqb}
-use lib.ListN.{length, getD, length-map}
+use borrow.Author.Tests.{not-true}
+use lib.ListN.{length, length-map}
 use Rattle.polygon.specs.declared.Polygon.{Polygon}
 use Rattle.polygon.specs.Polygon.{Valid}
-use Rattle.geometry.specs.Spheres.{coplanar, strictlyInside}
+use Rattle.geometry.specs.Spheres.{coplanar}
 use Rattle.jobs.specs.Job.{entryAt, outer, inner, rowWeight}
 use Rattle.jobs.proofs.Order.{true-before, hangs-true, true-hangs, row-before-same}
 use Rattle.lists.specs.Lists.{both, either, every}
@@ -19,7 +18,7 @@ use Rattle.lists.proofs.Ranges.{every-at, every-all}
 use Rattle.lists.proofs.Members.{entry-member, member-entry}
 use Rattle.faces.specs.Faces.{triple, sameTriple, isFace}
 use Rattle.faces.proofs.Sets.{triple-same, same-triple}
-use Rattle.faces.proofs.Fours.{Four, four-found, four-here}
+use Rattle.faces.proofs.Fours.{four-found, four-here}
 use Rattle.faces.proofs.Members.{triples-member, triples-put}
 use Rattle.delaunay.specs.Candidates.{vertex, insideFour, counts, isCandidate, candidatesOf}
 use Rattle.dihedrals.specs.Weights.{faceWeight, weightsOf, hingeWeight, rowAt, rowsOf}

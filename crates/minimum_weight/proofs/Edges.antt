@@ -3,14 +3,14 @@ use Prim.Native.Nat.{ℕ, zero, suc, _+_, _^_, _≤_, _<_}
 use mathlib.Core.Path.{_≡_, refl, sym, ap, ap₂, _∙_}
 use mathlib.Core.Bool.{Bool, true, false, cond, _&&_, false≢true}
 use mathlib.Core.Logic.{_⊎_, inl, inr, ⊎-elim, _≢_}
-use mathlib.Core.List.{List, [], _∷_, map, List·Memᴰ, Memᴰ·map, cons≢nil, head-eq-of-cons-eq, tail-eq-of-cons-eq}
+use mathlib.Core.List.{List, [], _∷_, map, List·Memᴰ, Memᴰ·map, cons≢nil, head-eq-of-cons-eq}
 use native.Mathlib.Omega.{arith}
 use native.Mathlib.Nat.{eq-or-lt-of-le}
 use lib.ListN.{getD}
 use lib.Dec.{eqb, ltb}
-use borrow.Author.Tests.{eqb-true, eqb-false, ltb-true, ltb-false, le-ltb, lt-ltb, lt-leb}
+use borrow.Author.Tests.{eqb-true, eqb-false, ltb-true, ltb-false, lt-leb}
 use Rattle.triangulation.specs.Triangulations.{Job, Valid, keep, upFrom, least, noLater, longEdge}
-use Rattle.triangulation.specs.Jobs.{Bounded, jobOf, rowWeight}
+use Rattle.triangulation.specs.Jobs.{Bounded, jobOf}
 use Rattle.triangulation.specs.Recursion.{addRow, join, bestUnder, bestFrom, costOf}
 use Rattle.triangulation.proofs.SetParts.{both-eq}
 use Rattle.triangulation.proofs.Sums.{Mem, mem-keep, keep-mem}

@@ -1,6 +1,5 @@
 -- The lists of a valid polygon are those of a job on which no number is due. Assumes nothing.
-use mathlib.Core.Path.{_≡_, sym}
-use Prim.Native.Nat.{ℕ}
+use mathlib.Core.Path.{_≡_}
 use native.Mathlib.Omega.{arith}
 use lib.ListN.{length, length-map}
 use Rattle.polygon.specs.declared.Polygon.{Polygon}

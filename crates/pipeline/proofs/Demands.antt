@@ -1,26 +1,23 @@
 -- Demands 1 and 3 for rim files, of the one call's outcome and tables. Demand 2 is finder's. Assumes nothing.
 use Prim.Native.Nat.{ℕ, zero, suc, _-_, _<_}
 use mathlib.Core.Path.{_≡_, refl, sym, ap, _∙_, subst}
-use mathlib.Core.Bool.{Bool, true, false, cond}
-use mathlib.Core.List.{List, [], _∷_}
+use mathlib.Core.Bool.{Bool, true, false}
+use mathlib.Core.List.{List}
 use native.Mathlib.Omega.{arith}
 use borrow.Author.Tests.{eq-eqb}
 use lib.Dec.{eqb}
 use lib.ListN.{length, getD}
-use Rattle.lists.proofs.Choice.{yes, no, true-not-false, not-true-false}
-use Rattle.polygon.specs.declared.Polygon.{Polygon}
+use Rattle.lists.proofs.Choice.{yes, no, true-not-false}
 use Rattle.polygon.specs.Polygon.{Valid, codeOf}
 use Rattle.polygon.proofs.Validity.{valid-code}
-use Rattle.reader.specs.Due.{Due}
 use Rattle.reader.specs.Reading.{numberDue, polygonOf, answer, readingOf}
 use Rattle.reader.specs.declared.Status.the-variants.{Complete}
-use Rattle.reader.proofs.Demand1.{number-due, read-when, read-only-when, read-valid}
+use Rattle.reader.proofs.Demand1.{number-due, read-only-when, read-valid}
 use Rattle.delaunay.specs.Candidates.{candidatesOf, cospherical}
 use Rattle.triangulation.specs.Triangulations.{Answer, best}
 use Rattle.triangulation.specs.Demand3.{Demand3}
 use Rattle.triangulation.proofs.Demand3.{demand3}
 use Rattle.triangulator.specs.declared.Outcome.the-variants.{Refused}
-use Rattle.triangulator.specs.Call.{numberOf, settled}
 use Rattle.triangulator.specs.declared.Outcome.{Outcome}
 use Rattle.triangulator.specs.Demands.{stated, Taken, a-patch, a-none}
 use Rattle.triangulator.proofs.Accepting.{well-formed}

@@ -1,6 +1,6 @@
 -- What the finder's answer says of a polygon and of the tables. Assumes nothing.
 use mathlib.Core.Path.{_≡_, refl, sym, ap, _∙_}
-use mathlib.Core.Bool.{Bool, true, false, cond}
+use mathlib.Core.Bool.{Bool, true, false}
 use mathlib.Core.List.{List}
 use Prim.Native.Nat.{ℕ, _-_, _≤_}
 use native.Mathlib.Omega.{arith}
@@ -19,7 +19,7 @@ use Rattle.finder.specs.declared.Found.the-variants as found
 use Rattle.finder.specs.Finding.{Finding, finding, shortTables, shortBeside, findOr13, findBesideCall}
 use Rattle.triangulator.specs.declared.Outcome.{Outcome}
 use Rattle.triangulator.specs.declared.Outcome.the-variants.{None, Refused}
-use Rattle.pipeline.specs.Patching.{Tables, tables, Patching, patching, refused, weightsIn, rowsIn, tablesShort, patched, patchPolygon}
+use Rattle.pipeline.specs.Patching.{Tables, tables, Patching, patching, weightsIn, rowsIn, tablesShort, patched, patchPolygon}
 
 module _ (p : Polygon) (triangles : List ℕ) (candidates : List (List ℕ)) (weights : List ℕ) (rows : List (List ℕ)) (work : List ℕ) where
   lent : Tables

@@ -1,5 +1,5 @@
 -- Once the lists are found, the tiler has what it needs, and its answer is that of the call. Assumes nothing.
-use mathlib.Core.Path.{_≡_, refl, sym, ap, _∙_, subst}
+use mathlib.Core.Path.{_≡_, sym, ap, _∙_}
 use mathlib.Core.List.{List}
 use Prim.Native.Nat.{ℕ, _+_, _-_, _≤_}
 use native.Mathlib.Omega.{arith}
@@ -20,7 +20,7 @@ use Rattle.triangulator.specs.declared.Outcome.{Outcome}
 use Rattle.triangulator.specs.Call.{Result, result, settled}
 use Rattle.triangulator.proofs.Accepting.{well-formed}
 use Rattle.pipeline.specs.Patching.{tables, patching, weightsIn, rowsIn, jobIn, patchedBy, patchPolygon}
-use Rattle.pipeline.proofs.Finds.{Lists-found, find-lists, Room, room, patched-is}
+use Rattle.pipeline.proofs.Finds.{Lists-found, find-lists, room, patched-is}
 use Rattle.pipeline.proofs.Accepted.{weight-count, lists-accepted}
 
 -- what the tiler asks of the tables, the lists in their first places

@@ -11,7 +11,7 @@ use Rattle.geometry.specs.declared.Vector.{Vector}
 use Rattle.geometry.specs.Faces.{bendOf, bendBetween}
 use Rattle.delaunay.specs.Candidates.{candidatesOf}
 use Rattle.jobs.specs.Job.{jobCode}
-use Rattle.triangulation.specs.Triangulations.{Job, Answer, none, patch, best, totalWeight}
+use Rattle.triangulation.specs.Triangulations.{Answer, none, patch, best, totalWeight}
 use Rattle.triangulation.specs.Jobs.{jobOf}
 use Rattle.pipeline.specs.Patching.{weightsIn, rowsIn, jobIn}
 

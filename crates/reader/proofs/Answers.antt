@@ -1,20 +1,19 @@
 -- The reader's answer from its tests, in their order. Assumes nothing.
-use mathlib.Core.Path.{_≡_, refl, sym, ap, _∙_, subst}
+use mathlib.Core.Path.{_≡_, refl, sym, ap, _∙_}
 use mathlib.Core.Bool.{Bool, true, false, cond}
 use mathlib.Core.List.{List}
 use Prim.Native.Nat.{ℕ, zero, suc, _+_, _≤_, _<_}
 use native.Mathlib.Omega.{arith}
-use borrow.Author.Tests.{le-ltb, lt-ltb, lt-leb, le-leb, eq-eqb, ne-eqb, eqb-true, eqb-false}
-use lib.ListN.{length}
+use borrow.Author.Tests.{le-ltb, lt-ltb, le-leb, eqb-true, eqb-false}
 use lib.Dec.{ltb, leb, eqb}
-use Rattle.lists.proofs.Choice.{yes, no, Truth, holds, fails, truth}
+use Rattle.lists.proofs.Choice.{yes, no}
 use Rattle.grid.specs.declared.GridPoint.{GridPoint}
-use Rattle.polygon.specs.Polygon.{emptyPolygon, repeatedVertex, maxVertices}
+use Rattle.polygon.specs.Polygon.{repeatedVertex, maxVertices}
 use Rattle.polygon.specs.declared.Polygon.{Polygon}
 use Rattle.reader.specs.File.{areaFactor, bendFactor, recordCount, lengthWrong}
-use Rattle.reader.specs.Chain.{metBefore, vertexAt, numberOf, positionCode, codeFrom, endFrom, chainCode, vertexCount, verticesOf}
+use Rattle.reader.specs.Chain.{metBefore, positionCode, codeFrom, endFrom, chainCode, vertexCount, verticesOf}
 use Rattle.reader.specs.Chain as chain
-use Rattle.reader.specs.Steps.{stoppedAt, walked, chainOf}
+use Rattle.reader.specs.Steps.{walked, chainOf}
 use Rattle.reader.specs.Reading.{firstDue, numberDue, polygonOf, refusal, answer, readingOf, statusNumber}
 use Rattle.reader.specs.declared.Chain.{Chain}
 use Rattle.reader.specs.declared.Reading.{Reading}

@@ -3,35 +3,32 @@
 use mathlib.Core.Path.{_≡_, refl, sym, ap, _∙_, subst}
 use mathlib.Core.Bool.{Bool, true, false, cond}
 use mathlib.Core.List.{List, [], _∷_}
-use Prim.Native.Nat.{ℕ, zero, suc, _+_, _-_, _*_, _≤_, _<_}
+use Prim.Native.Nat.{ℕ, zero, suc, _+_, _-_, _≤_, _<_}
 use native.Mathlib.Omega.{arith}
-use borrow.Author.Tests.{ltb-true, ltb-false, leb-true, leb-false, eqb-true, eqb-false, eq-eqb, ne-eqb, lt-ltb, le-ltb}
+use borrow.Author.Tests.{ltb-true, ltb-false, eqb-true, eqb-false}
 use lib.ListN.{length, getD, replicate}
-use lib.Dec.{ltb, leb, eqb}
-use Rattle.lists.specs.Lists.{over, some, filled}
+use lib.Dec.{ltb, eqb}
+use Rattle.lists.specs.Lists.{over, some}
 use mathlib.Core.Logic.{⊎-elim}
 use Rattle.lists.proofs.Choice.{yes, no, true-not-false, below-or-same}
 use Rattle.lists.proofs.Ranges.{over-length, over-at, some-found}
 use Rattle.lists.proofs.Writing.{filled-at}
-use Rattle.grid.specs.declared.GridPoint.{GridPoint}
 use Rattle.grid.specs.Number.{finite, inRange}
 use Rattle.grid.specs.Point.{OnGrid, PointOnGrid}
 use Rattle.polygon.specs.Polygon.{maxVertices, origin, samePoint, repeatedVertex, emptyPolygon, Valid}
 use Rattle.polygon.specs.Polygon as polygon
 use Rattle.polygon.proofs.Points.{point-equal}
 use Rattle.polygon.proofs.Validity.{repeated-none}
-use Rattle.reader.specs.File.{areaFactor, bendFactor, lengthWrong, offset}
-use Rattle.reader.specs.Record.{known, heightOf, recordAt, vertexOf}
+use Rattle.reader.specs.File.{areaFactor, lengthWrong, offset}
+use Rattle.reader.specs.Record.{known, heightOf}
 use Rattle.reader.specs.Chain.{heightBefore, vertexAt, numberOf, pointOf, positionCode, codeFrom, endFrom, chainCode, vertexCount, verticesOf}
 use Rattle.reader.specs.Chain as chain
 use Rattle.reader.specs.Due.{OnChain, usedAt, Due, length-wrong, area-factor, link-over, met-again, too-many, kind-unknown, no-height, not-finite, tail-not-zero, out-of-range, too-few, vertex-repeated}
 use Rattle.reader.specs.Reading.{firstDue, numberDue, polygonOf, answer, readingOf}
 use Rattle.reader.specs.declared.Height.{Height}
-use Rattle.reader.specs.declared.Height.the-variants.{Unknown, Known}
 use Rattle.reader.specs.declared.Vertex.{Vertex}
 use Rattle.reader.specs.declared.Vertex.the-variants.{At}
 use Rattle.reader.specs.declared.Vertex.the-variants as vertex-variants
-use Rattle.reader.specs.declared.Status.{Status}
 use Rattle.reader.specs.declared.Status.the-variants.{Complete, Refused}
 use Rattle.reader.proofs.Vertices.{Vertexed, vertexed, refused-positive}
 use Rattle.reader.proofs.Answers.{code-step, end-step, Passed, passed, count-within}

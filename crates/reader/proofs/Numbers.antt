@@ -1,17 +1,16 @@
 -- Grid numbers of a record's floats, and signed numbers as the machine holds them. Assumes nothing.
-use mathlib.Core.Path.{_≡_, refl, sym, ap, _∙_, subst}
+use mathlib.Core.Path.{_≡_, refl, _∙_}
 use mathlib.Core.Bool.{Bool, true, false, cond}
-use mathlib.Core.List.{List, [], _∷_}
-use Prim.Native.Nat.{ℕ, _≤_, _<_, _^_}
+use mathlib.Core.List.{[], _∷_}
+use Prim.Native.Nat.{ℕ, _<_, _^_}
 use native.Mathlib.Omega.{arith}
-use lib.IntN.{ℤ, pos, natAbs}
+use lib.IntN.{ℤ}
 use lib.Signed.{mag}
 use lib.Ieee.{Float}
 use mir.Syntax.{w64}
 use mir.Val.{SFits, toZ, ofZ}
 use mir.Facts.{toZ-ofZ}
 use Rattle.lists.specs.Lists.{both}
-use Rattle.grid.specs.declared.GridPoint.{GridPoint}
 use Rattle.grid.specs.declared.GridNumber.{GridNumber}
 use Rattle.grid.specs.declared.GridNumber.the-variants.{Value, NotFinite, OutOfRange}
 use Rattle.grid.specs.Number.{finite, inRange, roundEighths, gridNumberOf}
@@ -19,7 +18,6 @@ use Rattle.grid.specs.Point.{point, OnGrid}
 use Rattle.grid.proofs.HalfStep.{in-range-on-grid}
 use Rattle.reader.specs.Record.{numbersCode, vertexUnless}
 use Rattle.reader.specs.Steps.{isFinite, isValue, valueOf, placed}
-use Rattle.reader.specs.declared.Vertex.{Vertex}
 use Rattle.reader.specs.declared.Vertex.the-variants.{At}
 
 sfit : (r : ℤ) → mag r < 2 ^ 63 → SFits w64 r

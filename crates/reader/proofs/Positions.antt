@@ -3,27 +3,24 @@ use mathlib.Core.Path.{_≡_, refl, sym, ap, _∙_, subst}
 use mathlib.Core.Bool.{Bool, true, false, cond}
 use mathlib.Core.List.{List, [], _∷_, List·Memᴰ, List·Memᴰ·head, List·Memᴰ·tail, List·Memᴰ·cases-cons, List·Memᴰ·not-nil}
 use mathlib.Core.Logic.{⊎-elim}
-use Prim.Native.Nat.{ℕ, zero, suc, _+_, _≤_, _<_}
+use Prim.Native.Nat.{ℕ, zero, suc, _≤_, _<_}
 use native.Mathlib.Omega.{arith}
 use borrow.Author.Tests.{ltb-true, ltb-false, leb-true, leb-false, eqb-true, eqb-false, eq-eqb, ne-eqb}
-use lib.IntN.{ℤ, pos}
+use lib.IntN.{ℤ}
 use lib.Dec.{ltb, leb, eqb}
 use lib.Ieee.{Float}
-use Rattle.lists.specs.Lists.{both, either}
+use Rattle.lists.specs.Lists.{both}
 use Rattle.lists.proofs.Choice.{yes, no, true-not-false, both-left, both-right, either-left, either-right, either-cases, below-or-same}
 use Rattle.grid.specs.declared.GridPoint.{GridPoint}
 use Rattle.grid.specs.Number.{finite, inRange, roundEighths}
 use Rattle.grid.specs.Point.{point}
 use Rattle.polygon.specs.Polygon.{maxVertices}
-use Rattle.reader.specs.File.{recordCount, offset, kind, firstNumber, secondNumber, thirdNumber, tailZero}
-use Rattle.reader.specs.Record.{known, heightOf, recordAt, everyNumber, numbersCode, vertexUnless, vertexOf}
+use Rattle.reader.specs.File.{recordCount, offset, firstNumber, secondNumber, thirdNumber}
+use Rattle.reader.specs.Record.{known, heightOf, everyNumber, numbersCode, vertexUnless}
 use Rattle.reader.specs.Chain.{metBefore, heightBefore, vertexAt, numberOf, positionCode}
 use Rattle.reader.specs.Chain as chain
-use Rattle.reader.specs.Due.{OnChain, kindAt, tailZeroAt, usedNumbers, usedAt, Due, link-over, met-again, too-many, kind-unknown, no-height, not-finite, tail-not-zero, out-of-range}
-use Rattle.reader.specs.declared.Height.{Height}
-use Rattle.reader.specs.declared.Height.the-variants.{Unknown, Known}
-use Rattle.reader.specs.declared.Vertex.{Vertex}
-use Rattle.reader.specs.declared.Vertex.the-variants.{At, Refused}
+use Rattle.reader.specs.Due.{OnChain, kindAt, tailZeroAt, usedAt, Due, link-over, met-again, too-many, kind-unknown, no-height, not-finite, tail-not-zero, out-of-range}
+use Rattle.reader.specs.declared.Height.the-variants.{Known}
 use Rattle.reader.proofs.Vertices.{shape, shape-is, numbers-fine}
 
 -- ---- numbers of a record

@@ -2,13 +2,13 @@
 use mathlib.Core.Path.{_≡_, refl, sym, ap, _∙_, subst}
 use mathlib.Core.Bool.{Bool, true, false, cond}
 use mathlib.Core.List.{List, [], _∷_}
-use Prim.Native.Nat.{ℕ, zero, suc, _≤_, _<_}
+use Prim.Native.Nat.{ℕ, zero, suc, _<_}
 use native.Mathlib.Omega.{arith}
-use lib.IntN.{ℤ, pos}
+use lib.IntN.{ℤ}
 use lib.Dec.{eqb}
 use lib.Ieee.{Float}
 use Rattle.lists.specs.Lists.{both}
-use Rattle.lists.proofs.Choice.{Truth, holds, fails, truth, both-left, both-right}
+use Rattle.lists.proofs.Choice.{both-left, both-right}
 use Rattle.grid.specs.declared.GridPoint.{GridPoint}
 use Rattle.grid.specs.Number.{finite, inRange, roundEighths}
 use Rattle.grid.specs.Point.{point, OnGrid, PointOnGrid}
@@ -17,8 +17,6 @@ use Rattle.reader.specs.File.{kind, firstNumber, secondNumber, thirdNumb
 use Rattle.reader.specs.Record.{known, heightOf, recordAt, everyNumber, numbersCode, vertexUnless, vertexOf}
 use Rattle.reader.specs.declared.Height.{Height}
 use Rattle.reader.specs.declared.Height.the-variants.{Unknown, Known}
-use Rattle.reader.specs.declared.Record.{Record}
-use Rattle.reader.specs.declared.Record.the-variants.{Point, Level}
 use Rattle.reader.specs.declared.Vertex.{Vertex}
 use Rattle.reader.specs.declared.Vertex.the-variants.{At, Refused}
 

@@ -12,21 +12,20 @@ use mir.Val.{SFits, toZ, ofZ}
 use mir.Facts.{toZ-ofZ}
 use lib.ListN.{length, getD, set, replicate, length-set, length-replicate}
 use lib.Seq.{getD-set-same, getD-set-other}
-use lib.Dec.{ltb, leb, eqb}
+use lib.Dec.{ltb, eqb}
 use Rattle.lists.specs.Lists.{either, upFrom, over, filled}
 use mathlib.Core.Logic.{⊎-elim}
 use Rattle.lists.proofs.Choice.{yes, no, below-or-same}
 use Rattle.lists.proofs.Ranges.{over-last, over-length}
 use Rattle.lists.proofs.Writing.{filled-next}
 use Rattle.grid.specs.declared.GridPoint.{GridPoint}
-use Rattle.grid.specs.Point.{point, OnGrid, PointOnGrid}
+use Rattle.grid.specs.Point.{point, OnGrid}
 use Rattle.grid.specs.Number.{roundEighths}
 use Rattle.reader.specs.File.{u16At, firstRecord, recordCount, offset, kind, thirdNumber}
 use Rattle.reader.specs.Record.{known, heightOf, recordAt, vertexOf}
 use Rattle.reader.specs.Chain.{metBefore, heightBefore, vertexAt, numberOf, pointOf, positionCode, codeFrom, endFrom, chainCode, vertexCount, verticesOf}
 use Rattle.reader.specs.Chain as chain
 use Rattle.reader.specs.Steps.{stoppedAt, walked, chainOf}
-use Rattle.reader.specs.declared.Chain.{Chain}
 use Rattle.reader.specs.declared.Height.{Height}
 use Rattle.reader.specs.declared.Height.the-variants.{Unknown, Known}
 use Rattle.reader.specs.declared.Vertex.{Vertex}

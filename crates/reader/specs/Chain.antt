@@ -1,6 +1,6 @@
 -- The chain of records, by its positions from 0. Document 01, "The rim file" and numbers 3 to 9. Definitions only.
 use Prim.Native.Nat.{ℕ, zero, suc}
-use mathlib.Core.Bool.{Bool, true, false, cond}
+use mathlib.Core.Bool.{Bool, false, cond}
 use mathlib.Core.List.{List, [], _∷_}
 use lib.ListN.{replicate}
 use lib.Dec.{ltb, leb, eqb}

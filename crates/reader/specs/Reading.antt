@@ -1,8 +1,8 @@
 -- The reader's answer: the polygon, or the first number due of 1 to 11. Document 01, "Who causes which number". Definitions only.
 use Prim.Native.Nat.{ℕ, zero, suc}
-use mathlib.Core.Bool.{Bool, cond}
+use mathlib.Core.Bool.{cond}
 use mathlib.Core.List.{List}
-use lib.Dec.{ltb, eqb}
+use lib.Dec.{ltb}
 use Rattle.polygon.specs.Polygon.{emptyPolygon, repeatedVertex}
 use Rattle.polygon.specs.declared.Polygon.{Polygon}
 use Rattle.reader.specs.File.{areaFactor, bendFactor, lengthWrong}

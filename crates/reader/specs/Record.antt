@@ -10,7 +10,6 @@ use Rattle.grid.specs.Number.{finite, inRange, roundEighths}
 use Rattle.grid.specs.Point.{point}
 use Rattle.grid.specs.declared.GridPoint.{GridPoint}
 use Rattle.reader.specs.File.{kind, firstNumber, secondNumber, thirdNumber, tailZero}
-use Rattle.reader.specs.declared.Coordinates.{Coordinates}
 use Rattle.reader.specs.declared.Height.{Height}
 use Rattle.reader.specs.declared.Height.the-variants.{Unknown, Known}
 use Rattle.reader.specs.declared.Record.{Record}

@@ -1,15 +1,15 @@
 -- Demand 3 holds of the answer, and of no other; and a triangulation has n − 2 triangles.
-use Prim.Native.Nat.{ℕ, zero, suc, _+_, _-_, _≤_, _<_}
+use Prim.Native.Nat.{ℕ, zero, suc, _-_, _≤_, _<_}
 use mathlib.Core.Path.{_≡_, refl, sym, ap, ap₂, _∙_}
-use mathlib.Core.Bool.{Bool, true, false, cond, false≢true}
+use mathlib.Core.Bool.{Bool, true, false, false≢true}
 use mathlib.Core.Logic.{_⊎_, inl, inr, ⊎-elim, _≢_}
-use mathlib.Core.List.{List, [], _∷_, _++_, map, List·Memᴰ, List·Memᴰ·head, List·Memᴰ·tail, List·Memᴰ·not-nil, List·Memᴰ·cases-cons, List·Memᴰ·append-cases, Memᴰ·map, cons≢nil, head-eq-of-cons-eq, tail-eq-of-cons-eq}
+use mathlib.Core.List.{List, [], _∷_, map, List·Memᴰ, List·Memᴰ·head, List·Memᴰ·tail, List·Memᴰ·not-nil, List·Memᴰ·cases-cons, List·Memᴰ·append-cases, Memᴰ·map, cons≢nil, head-eq-of-cons-eq, tail-eq-of-cons-eq}
 use native.Mathlib.Omega.{arith}
 use native.Mathlib.Nat.{le-antisymm}
 use lib.ListN.{length}
 use lib.Dec.{eqb}
 use borrow.Author.Tests.{eqb-true, eqb-false}
-use Rattle.triangulation.specs.Triangulations.{Job, Valid, Answer, none, patch, answerOf, sum, keep, upFrom, subsets, noLater, least, isTriangulation, triangulations, totalWeight, preorder, key, bestKey, best}
+use Rattle.triangulation.specs.Triangulations.{Job, Valid, Answer, none, patch, answerOf, sum, upFrom, subsets, noLater, least, isTriangulation, triangulations, totalWeight, preorder, key, bestKey, best}
 use Rattle.triangulation.specs.Demand3.{Triangulates, Earlier, here, later, Optimal, Demand3}
 use Rattle.triangulation.proofs.Sums.{Mem, mem-keep, keep-mem}
 use Rattle.triangulation.proofs.Parts.{part-length}

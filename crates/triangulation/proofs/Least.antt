@@ -1,11 +1,11 @@
 -- The answer is the least part from 0 to n − 1.
-use Prim.Native.Nat.{ℕ, zero, suc, _+_, _-_, _≤_, _<_}
-use mathlib.Core.Path.{_≡_, refl, sym, ap, ap₂, _∙_}
+use Prim.Native.Nat.{ℕ, _+_, _-_}
+use mathlib.Core.Path.{_≡_, refl, ap, ap₂}
 use mathlib.Core.Bool.{Bool, true, false, cond}
-use mathlib.Core.Logic.{_⊎_, inl, inr, ⊎-elim}
+use mathlib.Core.Logic.{_⊎_, ⊎-elim}
 use mathlib.Core.List.{List, [], _∷_, _++_, map, List·Memᴰ, List·Memᴰ·head, List·Memᴰ·tail, List·Memᴰ·not-nil, List·Memᴰ·cases-cons, List·Memᴰ·append-cases, Memᴰ·append-left, Memᴰ·append-right}
 use native.Mathlib.Omega.{arith}
-use Rattle.triangulation.specs.Triangulations.{Job, Valid, keep, upFrom, subsets, noLater, least, isTriangulation, triangulations, totalWeight, preorderFrom, key, bestKey}
+use Rattle.triangulation.specs.Triangulations.{Job, Valid, keep, upFrom, subsets, noLater, isTriangulation, triangulations, key, bestKey}
 use Rattle.triangulation.proofs.Sums.{Mem, mem-keep, keep-mem}
 use Rattle.triangulation.proofs.Parts.{Part}
 use Rattle.triangulation.proofs.SetsToParts.{set-part}

@@ -1,15 +1,15 @@
 -- Triangulations by recursion, in preorder, and their edge counts.
-use Prim.Native.Nat.{ℕ, zero, suc, _+_, _-_, _≤_, _<_, min}
-use mathlib.Core.Path.{_≡_, refl, sym, ap, ap₂, _∙_}
-use mathlib.Core.Bool.{Bool, true, false, cond, _&&_, _||_, false≢true}
+use Prim.Native.Nat.{ℕ, _+_, _-_, _≤_, _<_, min}
+use mathlib.Core.Path.{_≡_, refl, ap, ap₂}
+use mathlib.Core.Bool.{Bool, true, false, _&&_, _||_}
 use mathlib.Core.Logic.{_⊎_, inl, inr, ⊎-elim, _≢_}
 use mathlib.Core.List.{List, [], _∷_, _++_}
 use native.Mathlib.Omega.{arith}
 use lib.ListN.{length, length-append}
 use lib.Dec.{eqb}
-use borrow.Author.Tests.{eqb-true, eqb-false, eq-eqb, ne-eqb}
-use Rattle.triangulation.specs.Triangulations.{Job, Valid, only, sum, keep, longEdge, shortEdge, countBetween, countOutside}
-use Rattle.triangulation.proofs.Sums.{Mem, sum-append, split}
+use borrow.Author.Tests.{eqb-true, eqb-false}
+use Rattle.triangulation.specs.Triangulations.{Job, Valid, only, longEdge, shortEdge, countBetween, countOutside}
+use Rattle.triangulation.proofs.Sums.{sum-append}
 
 -- 1 where (i, j) is the edge (p, q)
 abbrev pub isEdge : ℕ → ℕ → ℕ → ℕ → ℕ

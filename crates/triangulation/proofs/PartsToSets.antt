@@ -1,15 +1,15 @@
 -- Every part from 0 to n − 1 is a triangulation, as a set.
 use Prim.Native.Nat.{ℕ, zero, suc, _+_, _-_, _≤_, _<_, min}
 use mathlib.Core.Path.{_≡_, refl, sym, ap, ap₂, _∙_}
-use mathlib.Core.Bool.{Bool, true, false, cond, _&&_, _||_, false≢true, true≢false}
+use mathlib.Core.Bool.{Bool, true, false, cond, _&&_, _||_, false≢true}
 use mathlib.Core.Logic.{_⊎_, inl, inr, ⊎-elim, _≢_}
-use mathlib.Core.List.{List, [], _∷_, _++_, map, List·Memᴰ, List·Memᴰ·head, List·Memᴰ·tail, List·Memᴰ·not-nil, List·Memᴰ·cases-cons, List·Memᴰ·append-cases, Memᴰ·append-left, Memᴰ·append-right}
+use mathlib.Core.List.{List, [], _∷_, List·Memᴰ, List·Memᴰ·head, List·Memᴰ·tail, List·Memᴰ·not-nil, List·Memᴰ·cases-cons, List·Memᴰ·append-cases}
 use native.Mathlib.Omega.{arith}
 use native.Mathlib.Nat.{le-antisymm}
 use lib.Dec.{eqb, leb}
 use borrow.Author.Tests.{eqb-true, eqb-false, eq-eqb, ne-eqb, leb-true, le-leb}
-use Rattle.triangulation.specs.Triangulations.{Job, Valid, only, sum, keep, upFrom, subsets, allBelow, longEdge, shortEdge, countBetween, countOutside, totalWeight, preorderFrom, isBoundary, edgeOk, isTriangulation}
-use Rattle.triangulation.proofs.Sums.{Mem, count, sum-same, sum-keep, sum-ext, count-mono, mem-count, mem-keep, keep-mem}
+use Rattle.triangulation.specs.Triangulations.{Job, Valid, only, sum, keep, upFrom, allBelow, longEdge, shortEdge, countBetween, countOutside, totalWeight, preorderFrom, isBoundary, edgeOk, isTriangulation}
+use Rattle.triangulation.proofs.Sums.{Mem, count, sum-same, count-mono, mem-count, mem-keep, keep-mem}
 use Rattle.triangulation.proofs.Parts.{Part, edge, node, boundary, within, Within, between-le, isEdge, isStep, IsEdge, IsStep, isEdge-cases, isStep-cases}
 use Rattle.triangulation.proofs.SetParts.{Set, longEdge-is, share, part-total, part-list, and-true}
 

@@ -1,15 +1,15 @@
 -- The recursion that the dynamic programme computes gives the least part, and so the answer.
-use Prim.Native.Nat.{ℕ, zero, suc, _+_, _-_, _*_, _^_, _≤_, _<_}
+use Prim.Native.Nat.{ℕ, zero, suc, _+_, _-_, _≤_, _<_}
 use mathlib.Core.Path.{_≡_, refl, sym, ap, ap₂, _∙_}
 use mathlib.Core.Bool.{Bool, true, false, cond, false≢true}
-use mathlib.Core.Logic.{_⊎_, inl, inr, ⊎-elim, _≢_}
-use mathlib.Core.List.{List, [], _∷_, _++_, map, List·Memᴰ, List·Memᴰ·head, List·Memᴰ·tail, List·Memᴰ·not-nil, Memᴰ·map, cons≢nil}
+use mathlib.Core.Logic.{_≢_}
+use mathlib.Core.List.{List, [], _∷_, _++_, map, List·Memᴰ, List·Memᴰ·head, List·Memᴰ·tail, Memᴰ·map, cons≢nil}
 use native.Mathlib.Omega.{arith}
-use lib.ListN.{length, length-append}
+use lib.ListN.{length}
 use lib.Dec.{eqb}
 use borrow.Author.Tests.{eqb-true, eqb-false, eq-eqb, ne-eqb}
 use Rattle.triangulation.specs.Triangulations.{Job, Valid, keep, upFrom, noLater, least, longEdge, bestKey}
-use Rattle.triangulation.specs.Recursion.{addRow, join, bestUnder, bestFrom, costOf}
+use Rattle.triangulation.specs.Recursion.{addRow, join, bestUnder, bestFrom}
 use Rattle.triangulation.proofs.Sums.{Mem, mem-keep, keep-mem}
 use Rattle.triangulation.proofs.Parts.{Part, edge, node, hingeWeight, part-length}
 use Rattle.triangulation.proofs.SetParts.{both-eq, longEdge-is}

@@ -2,13 +2,13 @@
 use Prim.Native.Nat.{ℕ, zero, suc, _+_, _-_, _≤_, _<_}
 use mathlib.Core.Path.{_≡_, refl, sym, ap, ap₂, _∙_}
 use mathlib.Core.Bool.{Bool, true, false, _&&_, _||_, false≢true}
-use mathlib.Core.Logic.{_⊎_, inl, inr, ⊎-elim, _≢_}
+use mathlib.Core.Logic.{_≢_}
 use mathlib.Core.List.{List, [], _∷_, _++_, append-nil, List·Memᴰ·head, List·Memᴰ·tail, Memᴰ·append-left, Memᴰ·append-right}
 use native.Mathlib.Omega.{arith}
 use lib.Dec.{eqb}
 use borrow.Author.Tests.{eqb-true, eqb-false, eq-eqb, ne-eqb}
-use Rattle.triangulation.specs.Triangulations.{Job, Valid, only, sum, keep, joined, longEdge, shortEdge, countBetween, countOutside, totalWeight, preorderFrom}
-use Rattle.triangulation.proofs.Sums.{Mem, count, sum-append, sum-ext, sum-add, sum-keep, keep-one, keep-none, mem-count, Any, any, none, some, split}
+use Rattle.triangulation.specs.Triangulations.{Job, Valid, only, sum, keep, longEdge, shortEdge, countBetween, preorderFrom}
+use Rattle.triangulation.proofs.Sums.{Mem, count, sum-append, sum-ext, sum-add, sum-keep, keep-one, keep-none, Any, any, none, some}
 use Rattle.triangulation.proofs.Parts.{Part, edge, node, hingeWeight}
 
 pub and-true : (x y : Bool) → x ≡ true → y ≡ true → (x && y) ≡ true

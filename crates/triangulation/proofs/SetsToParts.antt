@@ -1,16 +1,16 @@
 -- Every triangulation, as a set, is a part from 0 to n − 1.
 use Prim.Native.Nat.{ℕ, zero, suc, _+_, _-_, _≤_, _<_}
 use mathlib.Core.Path.{_≡_, refl, sym, ap, ap₂, _∙_}
-use mathlib.Core.Bool.{Bool, true, false, _&&_, _||_, false≢true, true≢false}
+use mathlib.Core.Bool.{Bool, true, false, _&&_, _||_, false≢true}
 use mathlib.Core.Logic.{_⊎_, inl, inr, ⊎-elim, _≢_}
-use mathlib.Core.List.{List, [], _∷_, _++_, append-nil, List·Memᴰ·head, List·Memᴰ·tail, List·Memᴰ·not-nil, List·Memᴰ·cases-cons, List·Memᴰ·append-cases, head-eq-of-cons-eq}
+use mathlib.Core.List.{List, _∷_, _++_, append-nil, List·Memᴰ·not-nil, List·Memᴰ·cases-cons, List·Memᴰ·append-cases, head-eq-of-cons-eq}
 use native.Mathlib.Omega.{arith}
 use native.Mathlib.Nat.{le-antisymm}
 use lib.Dec.{eqb}
-use borrow.Author.Tests.{eqb-true, eqb-false, eq-eqb, ne-eqb}
-use Rattle.triangulation.specs.Triangulations.{Job, Valid, only, sum, keep, joined, allBelow, longEdge, shortEdge, countBetween, countOutside, totalWeight, preorderFrom, preorder, isBoundary, edgeOk, isTriangulation}
+use borrow.Author.Tests.{eqb-true, eqb-false, eq-eqb}
+use Rattle.triangulation.specs.Triangulations.{Job, Valid, sum, keep, joined, allBelow, longEdge, shortEdge, countBetween, countOutside, totalWeight, preorderFrom, preorder, isBoundary, edgeOk, isTriangulation}
 use Rattle.triangulation.proofs.Sums.{Mem, count, sum-same, count-mono, mem-count, Any, any, none, some, One, one, the-one}
-use Rattle.triangulation.proofs.Parts.{Part, edge, node, hingeWeight, boundary, within, Within, between-le, isEdge, isStep, IsEdge, IsStep, isEdge-cases, isStep-cases}
+use Rattle.triangulation.proofs.Parts.{Part, edge, node, boundary, between-le, isStep, IsEdge, IsStep, isEdge-cases, isStep-cases}
 use Rattle.triangulation.proofs.Parts as W
 use Rattle.triangulation.proofs.SetParts.{and-left, and-right, and-true, both-eq, Set, longEdge-is, none-on-step, one-on-edge, share, part-total}
 

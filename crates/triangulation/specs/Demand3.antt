@@ -3,7 +3,7 @@ use Prim.Native.Nat.{ℕ, _≤_, _<_}
 use mathlib.Core.Path.{_≡_}
 use mathlib.Core.Logic.{_≢_}
 use mathlib.Core.Bool.{true}
-use mathlib.Core.List.{List, [], _∷_, List·Memᴰ}
+use mathlib.Core.List.{List, _∷_, List·Memᴰ}
 use Rattle.triangulation.specs.Triangulations.{Job, Answer, none, patch, upFrom, subsets, isTriangulation, totalWeight, preorder}
 
 -- the set s of candidates is a tiling

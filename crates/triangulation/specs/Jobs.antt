@@ -4,7 +4,7 @@ use mathlib.Core.Bool.{cond, _&&_}
 use mathlib.Core.List.{List, [], _∷_}
 use lib.ListN.{length, getD}
 use lib.Dec.{eqb}
-use Rattle.triangulation.specs.Triangulations.{Job, Valid}
+use Rattle.triangulation.specs.Triangulations.{Job}
 
 -- the weight of the row (outer o, inner i, weight), or 0: "a pair with no row adds 0"
 abbrev pub rowWeight : List (List ℕ) → ℕ → ℕ → ℕ

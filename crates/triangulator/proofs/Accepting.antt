@@ -1,6 +1,6 @@
 -- A job on which no number is due has all that the dynamic programme needs, and demand 3 holds of its answer.
-use Prim.Native.Nat.{ℕ, zero, suc, _+_, _-_, _≤_, _<_}
-use mathlib.Core.Path.{_≡_, refl, sym, ap, _∙_}
+use Prim.Native.Nat.{ℕ, suc, _+_, _-_, _≤_, _<_}
+use mathlib.Core.Path.{_≡_}
 use mathlib.Core.Bool.{Bool, true, false, cond, _&&_}
 use mathlib.Core.Logic.{inl, inr}
 use mathlib.Core.List.{List, [], _∷_}
@@ -11,9 +11,8 @@ use Rattle.triangulation.specs.Triangulations.{best}
 use Rattle.triangulation.specs.Jobs.{jobOf, rowWeight}
 use Rattle.triangulation.specs.Demand3.{Demand3}
 use Rattle.triangulation.proofs.Demand3.{demand3}
-use Rattle.jobs.specs.Job.{jobCode, entryAt, vertexA, vertexB}
+use Rattle.jobs.specs.Job.{jobCode, vertexA, vertexB}
 use Rattle.jobs.proofs.Order.{Before, by-a, by-b, by-c, RowBefore, by-outer, by-inner}
-use Rattle.jobs.proofs.Lists.{Candidates}
 use Rattle.jobs.proofs.Count.{candidates-bounded}
 use Rattle.jobs.proofs.Acceptance.{ListsAccepted, accepted}
 use Rattle.minimum_weight.specs.Tables.{WellFormed, rowIsBefore}

@@ -1,22 +1,18 @@
 -- Demands 1 and 3 for direct jobs, of the call's outcome and tables. Assumes nothing.
-use Prim.Native.Nat.{ℕ, zero, suc, _<_}
+use Prim.Native.Nat.{ℕ, zero, suc}
 use mathlib.Core.Path.{_≡_, refl, sym, ap, _∙_, subst}
-use mathlib.Core.Bool.{Bool, true, false}
-use mathlib.Core.List.{List, [], _∷_}
+use mathlib.Core.List.{List}
 use native.Mathlib.Omega.{arith}
-use lib.ListN.{length, take}
-use lib.Dec.{eqb}
+use lib.ListN.{length}
 use borrow.Author.Tests.{eq-eqb, ne-eqb}
-use Rattle.lists.specs.Lists.{filled}
 use Rattle.lists.proofs.Choice.{yes, no}
 use Rattle.lists.proofs.Writing.{filled-take}
 use Rattle.triangulation.specs.Triangulations.{Answer, none, patch, best}
 use Rattle.triangulation.specs.Jobs.{jobOf}
 use Rattle.triangulation.specs.Demand3.{Demand3}
 use Rattle.jobs.specs.Job.{jobCode}
-use Rattle.jobs.proofs.Acceptance.{FirstDue, Accepted, accepted, accepted-zero, first-due}
-use Rattle.triangulator.specs.declared.Outcome.{Outcome}
-use Rattle.triangulator.specs.declared.Outcome.the-variants.{Patch, None, Refused}
+use Rattle.jobs.proofs.Acceptance.{FirstDue, Accepted, accepted-zero, first-due}
+use Rattle.triangulator.specs.declared.Outcome.the-variants.{Refused}
 use Rattle.triangulator.specs.Call.{Result, result, settled, triangulated, numberOf}
 use Rattle.triangulator.specs.Demands.{stated, Taken, a-patch, a-none}
 use Rattle.triangulator.proofs.Accepting.{accepted-demand3}

@@ -1,17 +1,16 @@
 -- What a call answers and leaves, from what the dynamic programme returns and leaves.
 use Prim.Native.Nat.{ℕ, _-_, _^_, _≤_, _<_}
 use mathlib.Core.Path.{_≡_, refl, sym, ap, ap₂, _∙_}
-use mathlib.Core.Logic.{_⊎_, inl, inr, ⊎-elim}
+use mathlib.Core.Logic.{_⊎_, inl, inr}
 use mathlib.Core.List.{List, [], _∷_}
 use native.Mathlib.Omega.{arith}
-use lib.ListN.{length, take, drop, replicate, length-append}
+use lib.ListN.{length, drop, replicate, length-append}
 use lib.Seq.{take-at}
 use borrow.Author.Tests.{le-leb}
 use Rattle.lists.specs.Lists.{filled}
 use Rattle.lists.proofs.Choice.{yes}
 use Rattle.triangulation.specs.Triangulations.{answerOf}
 use Rattle.triangulation.specs.Recursion.{costOf, restOf}
-use Rattle.triangulator.specs.declared.Outcome.{Outcome}
 use Rattle.triangulator.specs.declared.Outcome.the-variants.{Patch, None}
 use Rattle.triangulator.specs.Call.{result, settled, partOf}
 

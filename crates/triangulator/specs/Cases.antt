@@ -1,5 +1,5 @@
 -- The starred direct jobs of document 01 as calls: tables with one place more than needed, each holding 9, and what the call answers and leaves.
-use Prim.Native.Nat.{ℕ, _+_, _-_}
+use Prim.Native.Nat.{_+_, _-_}
 use mathlib.Core.List.{List, [], _∷_}
 use lib.ListN.{length, replicate}
 use Rattle.triangulation.specs.Cases.{Lists, triple, quadrilateral, ones, single, empty, fileP, tie, tieWithRow, holed}

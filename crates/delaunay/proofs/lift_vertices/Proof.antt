@@ -1,6 +1,6 @@
 -- `delaunay::lift_vertices` meets its contract. Assumes nothing.
-use mathlib.Core.Path.{_≡_, refl}
-use Prim.Native.Nat.{ℕ, _+_, _-_, _≤_, _<_}
+use mathlib.Core.Path.{refl}
+use Prim.Native.Nat.{_-_, _≤_}
 use native.Mathlib.Omega.{arith}
 use Rattle.delaunay.proofs.Lifting.{LiftedTo, lifted-more}
 use Rattle.delaunay.proofs.lift_vertices.Statement.{statement}

@@ -4,9 +4,8 @@ use mathlib.Core.Bool.{Bool, true, false, not}
 use mathlib.Core.List.{List}
 use Prim.Native.Nat.{ℕ, _+_, _-_, _≤_, _<_}
 use native.Mathlib.Omega.{arith}
-use borrow.Author.Needs.{needs}
 use lib.IntN.{pos}
-use lib.ListN.{length, getD}
+use lib.ListN.{getD}
 use Rattle.integers.specs.Order.{equal}
 use Rattle.integers.proofs.Order.{zero-bits, other-bits}
 use Rattle.integers.proofs.Bounds.{signed-fits}
@@ -17,11 +16,11 @@ use Rattle.geometry.specs.declared.sphere.Pencil.{Pencil}
 use Rattle.geometry.specs.declared.sphere.Sphere.{Sphere}
 use Rattle.geometry.specs.declared.sphere.Position.{Position}
 use Rattle.geometry.specs.declared.sphere.Position.the-variants.{Inside}
-use Rattle.geometry.specs.Spheres.{coplanar, liftOf, pencilOf, sphereOf, positionBy, LiftedBounds, PencilBounds, SphereBounds}
+use Rattle.geometry.specs.Spheres.{coplanar, liftOf, pencilOf, positionBy, LiftedBounds, PencilBounds, SphereBounds}
 use Rattle.geometry.proofs.Spheres.{lift-bounds, pencil-bounds, sphere-bounds}
 use Rattle.lists.specs.Lists.{both, either, some}
 use Rattle.faces.specs.Faces.{withFaces}
-use Rattle.faces.proofs.Fours.{left1, left2, left3, left4, into2, into3, into4, out1, out2, out3, out4}
+use Rattle.faces.proofs.Fours.{left1, left2, left3, left4, into2, into3, into4, out2, out3, out4}
 use Rattle.delaunay.specs.Candidates.{vertex, insideFour, counts, isCorner, isFifth}
 use Rattle.delaunay.specs.Search.{isOn, unlifted}
 use Rattle.delaunay.proofs.Marking.{hasFifth, Kept, kept-start, kept-turn, kept-then, kept-skip, kept-mark, twelve-here, twelve-due, all-marked}

@@ -1,6 +1,5 @@
 -- `delaunay_cases::polygon` is safe and ends. Assumes nothing.
 use Prim.Native.Nat.{_≤_, _-_}
-use native.Mathlib.Omega.{arith}
 use borrow.Author.Needs.{needs}
 use Rattle.delaunay_cases.proofs.polygon.Statement.{statement}
 use Rattle.delaunay_cases.proofs.polygon.Tie as tie

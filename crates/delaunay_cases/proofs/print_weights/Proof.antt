@@ -1,6 +1,5 @@
 -- `delaunay_cases::print_weights` is safe and ends. Assumes nothing.
 use Prim.Native.Nat.{_≤_, _-_}
-use native.Mathlib.Omega.{arith}
 use borrow.Author.Needs.{needs}
 use lib.ListN.{length}
 use Rattle.delaunay_cases.proofs.print_weights.Statement.{statement}

@@ -1,16 +1,14 @@
 -- `dihedrals::row` meets its contract. Assumes nothing.
-use mathlib.Core.Path.{_≡_, sym, _∙_, ap, subst}
-use mathlib.Core.List.{List, [], _∷_}
+use mathlib.Core.Path.{sym, _∙_, ap, subst}
+use mathlib.Core.List.{[], _∷_}
 use Prim.Native.Nat.{ℕ, _≤_}
 use native.Mathlib.Omega.{arith}
-use lib.IntN.{ℤ}
 use Rattle.integers.proofs.Bounds.{Holds, bits, returned, at-most-held}
 use Rattle.geometry.specs.Vectors.{dotOf}
-use Rattle.geometry.specs.Faces.{bendOf, bendBetween, bendWeightOf}
+use Rattle.geometry.specs.Faces.{bendOf, bendWeightOf}
 use Rattle.geometry.proofs.Vectors.{products-fit}
 use Rattle.geometry.proofs.Faces.{normals-dot, length-bound}
 use Rattle.geometry.proofs.Bends.{bend-bound}
-use borrow.Author.Needs.{needs}
 use Rattle.dihedrals.proofs.row.Statement.{statement}
 use Rattle.dihedrals.proofs.row.Tie as tie
 

@@ -1,5 +1,5 @@
 -- `dihedrals::write_rows` meets its contract, by what is left to write at each loop's head. Assumes nothing.
-use mathlib.Core.Path.{_≡_, refl, sym, _∙_, ap}
+use mathlib.Core.Path.{_≡_, sym, _∙_, ap}
 use mathlib.Core.Bool.{Bool, true, false}
 use mathlib.Core.List.{List, [], _∷_, _++_, map}
 use mathlib.Core.Logic.{⊎-elim}
@@ -20,7 +20,7 @@ use Rattle.blocks.specs.Blocks.{BlockStart}
 use Rattle.blocks.proofs.Starts.{start-order, start-at}
 use Rattle.hinges.specs.Hinges.{Sorted, endingIn}
 use Rattle.hinges.proofs.Blocks.{edge-block}
-use Rattle.dihedrals.specs.Weights.{faceNormal, lengthsOf, rowAt, rowsOn, rowsOf}
+use Rattle.dihedrals.specs.Weights.{faceNormal, rowAt, rowsOn, rowsOf}
 use Rattle.dihedrals.proofs.Faces.{Read, a<64, b<64, c<64, on-grid, normal-is, length-at, face-measured}
 use Rattle.dihedrals.proofs.Rows.{rowsAt, edge-rows, ending-step, ending-end}
 use Rattle.dihedrals.proofs.write_rows.Statement.{statement}

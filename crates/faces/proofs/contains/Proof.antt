@@ -1,6 +1,6 @@
 -- `faces::contains` meets its contract. Assumes nothing.
 use Prim.Native.Nat.{ℕ}
-use mathlib.Core.Path.{_≡_, _∙_, ap}
+use mathlib.Core.Path.{_∙_, ap}
 use lib.ListN.{getD}
 use Rattle.faces.specs.Faces.{hasVertex, has}
 use borrow.Author.Needs.{needs}

@@ -1,9 +1,4 @@
 -- `faces::insert_faces` meets its contract. Assumes nothing.
-use mathlib.Core.Path.{_≡_, sym, _∙_, ap}
-use mathlib.Core.List.{List}
-use Prim.Native.Nat.{ℕ}
-use lib.ListN.{set, getD}
-use Rattle.faces.specs.Faces.{withVertex, withTriple, pairAt}
 use borrow.Author.Needs.{needs}
 use Rattle.faces.proofs.insert_faces.Statement.{statement}
 use Rattle.faces.proofs.insert_faces.Tie as tie

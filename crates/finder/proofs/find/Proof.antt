@@ -1,5 +1,5 @@
 -- `finder::find` meets its contract. Assumes nothing.
-use mathlib.Core.Path.{_≡_, _∙_}
+use mathlib.Core.Path.{_∙_}
 use borrow.Author.Needs.{needs}
 use Rattle.finder.proofs.Answers.{beside-enough}
 use borrow.Author.Needs.{needs}

@@ -2,10 +2,10 @@
 use Rattle.blocks.proofs.Starts.{starts-up}
 use Rattle.minimum_weight.proofs.Picks.{block-start, block-next, block-end, pick-bounded}
 use Prim.Native.Nat.{_+_, _-_, _≤_}
-use mathlib.Core.Path.{_≡_, sym, _∙_}
+use mathlib.Core.Path.{_≡_}
 use native.Mathlib.Omega.{arith}
 use borrow.Author.Needs.{needs}
-use lib.ListN.{length, getD}
+use lib.ListN.{getD}
 use Rattle.triangulation.specs.Jobs.{rowWeight}
 use Rattle.minimum_weight.specs.Tables.{pickBelow, onEdge, pickUnder}
 use Rattle.minimum_weight.proofs.choice.best_in_block.Statement.{statement}

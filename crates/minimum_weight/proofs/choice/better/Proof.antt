@@ -1,5 +1,4 @@
 -- `minimum_weight::choice::better` meets its contract. Assumes nothing.
-use mathlib.Core.Path.{sym, _∙_}
 use native.Mathlib.Omega.{arith}
 use borrow.Author.Tests.{eq-eqb, ne-eqb}
 use Rattle.minimum_weight.proofs.Picks.{off-edge, no-lower, no-better, is-better}

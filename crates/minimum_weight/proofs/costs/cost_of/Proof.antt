@@ -1,5 +1,4 @@
 -- `minimum_weight::costs::cost_of` meets its contract. Assumes nothing.
-use mathlib.Core.Path.{sym, _∙_}
 use native.Mathlib.Omega.{arith}
 use Rattle.minimum_weight.proofs.Edges.{found-cost, root-cost}
 use Rattle.minimum_weight.proofs.Runs.{found-in-run}

@@ -1,5 +1,5 @@
 -- `reader::records::height_of` meets its contract. Assumes nothing.
-use mathlib.Core.Path.{sym, ap, _∙_}
+use mathlib.Core.Path.{sym, ap}
 use Rattle.reader.specs.Record.{heightOf}
 use borrow.Author.Needs.{needs}
 use Rattle.reader.proofs.records.height_of.Statement.{statement}
