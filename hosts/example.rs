@@ -2,35 +2,12 @@
 //! document 01. It prints what the bench program prints. Status 2, with one line on standard error,
 //! where the file cannot be read. The calls and tables are described in patch_box.h.
 
+mod patch_box;
+
+use patch_box::{patch_rim, PatchAnswer};
 use std::fmt::Write as _;
 use std::io::{Read, Write as _};
 use std::process::ExitCode;
-
-#[repr(C)]
-#[derive(Clone, Copy)]
-struct PatchAnswer {
-    number: u32,
-    triangles: usize,
-    total: u64,
-}
-
-#[link(name = "exports", kind = "static")]
-extern "C" {
-    fn patch_rim(
-        file: *const u8,
-        file_len: usize,
-        triangles: *mut u16,
-        triangles_len: usize,
-        candidates: *mut [u8; 3],
-        candidates_len: usize,
-        weights: *mut u32,
-        weights_len: usize,
-        rows: *mut [u32; 3],
-        rows_len: usize,
-        work: *mut u64,
-        work_len: usize,
-    ) -> PatchAnswer;
-}
 
 const MAX_FILE: u64 = 8 + 16 * 256;
 
@@ -130,9 +107,8 @@ fn run() -> Result<(), String> {
     let mut arguments = std::env::args_os().skip(1);
     let file = match (arguments.next(), arguments.next()) {
         (None, _) => file_p(),
-        (Some(name), None) => {
-            read_file(&name).map_err(|error| format!("{} cannot be read: {error}", name.to_string_lossy()))?
-        }
+        (Some(name), None) => read_file(&name)
+            .map_err(|error| format!("{} cannot be read: {error}", name.to_string_lossy()))?,
         _ => return Err(String::from("one rim file is expected: example [RIM-FILE]")),
     };
     let mut tables = Tables::new();

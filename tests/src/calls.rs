@@ -1,19 +1,6 @@
 //! The calls of the library, and the tables lent to them.
 
-/// A candidate (a, b, c).
-pub type Triangle = [u8; 3];
-
-/// A row (outer, inner, weight).
-pub type Row = [u32; 3];
-
-/// Number 0 with triangles is a patch, without triangles it is 'none'.
-#[repr(C)]
-#[derive(Clone, Copy, Debug, PartialEq, Eq)]
-pub struct PatchAnswer {
-    pub number: u32,
-    pub triangles: usize,
-    pub total: u64,
-}
+pub use crate::patch_box::{FindAnswer, PatchAnswer, ReadAnswer, Row, Triangle};
 
 impl PatchAnswer {
     pub const NONE: PatchAnswer = PatchAnswer { number: 0, triangles: 0, total: 0 };
@@ -21,21 +8,6 @@ impl PatchAnswer {
     pub fn refused(number: u32) -> PatchAnswer {
         PatchAnswer { number, ..PatchAnswer::NONE }
     }
-}
-
-#[repr(C)]
-#[derive(Clone, Copy, Debug, PartialEq, Eq)]
-pub struct ReadAnswer {
-    pub number: u32,
-    pub vertices: usize,
-}
-
-#[repr(C)]
-#[derive(Clone, Copy, Debug, PartialEq, Eq)]
-pub struct FindAnswer {
-    pub number: u32,
-    pub candidates: usize,
-    pub rows: usize,
 }
 
 /// A value that no call writes, different from place to place.

@@ -12,5 +12,7 @@ pub mod interval;
 pub mod jobs;
 pub mod law;
 pub mod library;
+#[path = "../../hosts/patch_box.rs"]
+pub mod patch_box;
 pub mod random;
 pub mod rims;

@@ -1,55 +1,12 @@
-//! The library itself, through its C boundary. A slice passes as a pointer and a length.
+//! The library itself, through its C boundary, as hosts in Rust declare it.
 
 use crate::calls::Calls;
 use crate::fast::Fast;
 
 #[cfg(feature = "library")]
 mod linked {
-    use crate::calls::{Calls, FindAnswer, PatchAnswer, ReadAnswer, Row, Tables, Triangle};
-
-    extern "C" {
-        fn patch_rim(
-            file: *const u8,
-            file_len: usize,
-            triangles: *mut u16,
-            triangles_len: usize,
-            candidates: *mut Triangle,
-            candidates_len: usize,
-            weights: *mut u32,
-            weights_len: usize,
-            rows: *mut Row,
-            rows_len: usize,
-            work: *mut u64,
-            work_len: usize,
-        ) -> PatchAnswer;
-
-        fn patch_job(
-            n: usize,
-            candidates: *const Triangle,
-            candidates_len: usize,
-            weights: *const u32,
-            weights_len: usize,
-            rows: *const Row,
-            rows_len: usize,
-            triangles: *mut u16,
-            triangles_len: usize,
-            work: *mut u64,
-            work_len: usize,
-        ) -> PatchAnswer;
-
-        fn read_rim(file: *const u8, file_len: usize) -> ReadAnswer;
-
-        fn find_candidates(
-            file: *const u8,
-            file_len: usize,
-            candidates: *mut Triangle,
-            candidates_len: usize,
-            weights: *mut u32,
-            weights_len: usize,
-            rows: *mut Row,
-            rows_len: usize,
-        ) -> FindAnswer;
-    }
+    use crate::calls::{Calls, FindAnswer, PatchAnswer, ReadAnswer, Tables};
+    use crate::patch_box::{find_candidates, patch_job, patch_rim, read_rim};
 
     pub struct Library;
 

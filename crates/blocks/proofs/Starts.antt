@@ -9,7 +9,7 @@ use borrow.Author.Tests.{ltb-true, ltb-false}
 use lib.Dec.{ltb}
 use lib.ListN.{length, getD}
 use Rattle.lists.proofs.Choice.{Truth, holds, fails, truth}
-use Rattle.blocks.specs.Blocks.{firstAt, ByFirst, BlockStart, Starts}
+use Rattle.blocks.specs.Blocks.{vertexA, ByFirst, BlockStart, Starts}
 
 module _ (cs : List (List ℕ)) where
   pub start-order : {j k x y : ℕ} → BlockStart cs j x → BlockStart cs k y → j ≤ k → x ≤ y
@@ -36,13 +36,13 @@ pub record Start (cs : List (List ℕ)) (k : ℕ) : Type 0 where
   pub is : BlockStart cs k at
 
 module _ (cs : List (List ℕ)) (s : ByFirst cs) (k : ℕ) where
-  start-from : (d low : ℕ) → length cs - low ≡ d → low ≤ length cs → ((i : ℕ) → i < low → firstAt cs i < k) → Start cs k
+  start-from : (d low : ℕ) → length cs - low ≡ d → low ≤ length cs → ((i : ℕ) → i < low → vertexA cs i < k) → Start cs k
   start-from zero low e h f = record { at = low; is = record { within = h; below = f; above = λ i m n. absurd (omega arith) } }
-  start-from (suc d) low e h f = go (λ g. start-from d (low + 1) (omega arith) (omega arith) g) (truth (ltb (firstAt cs low) k))
+  start-from (suc d) low e h f = go (λ g. start-from d (low + 1) (omega arith) (omega arith) g) (truth (ltb (vertexA cs low) k))
     where
-      go : (((i : ℕ) → i < low + 1 → firstAt cs i < k) → Start cs k) → Truth (ltb (firstAt cs low) k) → Start cs k
-      go next (holds t) = next (λ i m. ⊎-elim (λ q. rw q (ltb-true (firstAt cs low) k t)) (λ l. f i l) (eq-or-lt-of-le (let z : i ≤ low = omega arith in z)))
-      go next (fails t) = let l = ltb-false (firstAt cs low) k t in
+      go : (((i : ℕ) → i < low + 1 → vertexA cs i < k) → Start cs k) → Truth (ltb (vertexA cs low) k) → Start cs k
+      go next (holds t) = next (λ i m. ⊎-elim (λ q. rw q (ltb-true (vertexA cs low) k t)) (λ l. f i l) (eq-or-lt-of-le (let z : i ≤ low = omega arith in z)))
+      go next (fails t) = let l = ltb-false (vertexA cs low) k t in
           record { at = low; is = record { within = h; below = f; above = λ i m n. ⊎-elim (λ q. rw (← q) l) (λ q. omega (arith, l, s .up low i q n)) (eq-or-lt-of-le m) } }
 
   pub start-of : Start cs k

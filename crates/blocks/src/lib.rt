@@ -3,7 +3,7 @@ ghost use mathlib.Core.Path.{_≡_};
 ghost use lib.ListN.{length, getD};
 ghost use lib.Dec.{ltb};
 ghost use Rattle.lists.specs.Lists.{both};
-ghost use Rattle.blocks.specs.Blocks.{firstAt, ByFirst, Starts};
+ghost use Rattle.blocks.specs.Blocks.{vertexA, ByFirst, Starts};
 
 fn first_vertex(t: [u8; 3]) -> usize
     ensures { λ r. ⌜ r ≡ getD t 0 0 ⌝ }
@@ -13,7 +13,7 @@ fn first_vertex(t: [u8; 3]) -> usize
 
 // Candidate i is there, and its first vertex is below k.
 fn starts_below(candidates: &[[u8; 3]], i: usize, k: usize) -> bool
-    ensures { λ r. ⌜ r ≡ both (ltb i (length (now (candidates .entry)))) (ltb (firstAt (now (candidates .entry)) i) k) ⌝ }
+    ensures { λ r. ⌜ r ≡ both (ltb i (length (now (candidates .entry)))) (ltb (vertexA (now (candidates .entry)) i) k) ⌝ }
 {
     if candidates.len() <= i {
         return false;

@@ -4,7 +4,7 @@ use geometry::sphere::Lifted;
 use geometry::sphere::Position;
 use polygon::Polygon;
 ghost use mathlib.Core.Path.{_≡_};
-ghost use mathlib.Core.Bool.{false, not};
+ghost use mathlib.Core.Bool.{not};
 ghost use Prim.Native.Nat.{_<_};
 ghost use lib.ListN.{length};
 ghost use Rattle.lists.specs.Lists.{both, either};

@@ -1,6 +1,6 @@
 // A set of triangles (a, b, c) over at most 64 vertices: a mask of the vertices c for each pair (a, b).
 ghost use mathlib.Core.Path.{_≡_};
-ghost use Prim.Native.Nat.{_+_, _*_, _%_, _<_, _≤_};
+ghost use Prim.Native.Nat.{_<_, _≤_};
 ghost use lib.ListN.{length};
 ghost use Rattle.lists.specs.Lists.{filled};
 ghost use Rattle.faces.specs.Faces.{pairAt, withVertex, hasVertex, has, withFaces, triplesOf};

@@ -13,8 +13,8 @@ use borrow.Author.Tests.{leb-true, leb-false}
 use Rattle.triangulation.specs.Triangulations.{Job}
 use Rattle.triangulation.specs.Jobs.{jobOf}
 use Rattle.triangulation.specs.Recursion.{bestFrom, costOf}
-use Rattle.blocks.specs.Blocks.{Starts}
-use Rattle.minimum_weight.specs.Tables.{WellFormed, Ready, ReadyAt, Filled, vertexA, vertexB, vertexC}
+use Rattle.blocks.specs.Blocks.{vertexA, Starts}
+use Rattle.minimum_weight.specs.Tables.{WellFormed, Ready, ReadyAt, Filled, vertexB, vertexC}
 
 -- one of two orders
 order : (x y : ℕ) → (x ≤ y) ⊎ (y < x)

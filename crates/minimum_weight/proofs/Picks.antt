@@ -12,8 +12,8 @@ use lib.Dec.{ltb, eqb}
 use borrow.Author.Tests.{lt-ltb, le-ltb, ltb-true, eq-eqb, ne-eqb}
 use Rattle.lists.proofs.Choice.{yes, no}
 use Rattle.minimum_weight.specs.declared.choice.Pick.{Pick}
-use Rattle.blocks.specs.Blocks.{Starts}
-use Rattle.minimum_weight.specs.Tables.{betterOf, pickBelow, vertexA, vertexC, onEdge}
+use Rattle.blocks.specs.Blocks.{vertexA, Starts}
+use Rattle.minimum_weight.specs.Tables.{betterOf, pickBelow, vertexC, onEdge}
 use Rattle.minimum_weight.proofs.Bools.{and-yes, and-no, and-last, and-right}
 
 module _ (p : Pick) (u : ℕ) where

@@ -7,12 +7,10 @@ use mathlib.Core.List.{List, []}
 use lib.ListN.{getD, length, drop}
 use lib.Dec.{eqb, ltb, leb}
 use Rattle.minimum_weight.specs.declared.choice.Pick.{Pick}
+use Rattle.blocks.specs.Blocks.{vertexA, ByFirst}
 use Rattle.triangulation.specs.Triangulations.{Job, Valid}
 use Rattle.triangulation.specs.Jobs.{Bounded, rowWeight, jobOf}
 use Rattle.triangulation.specs.Recursion.{addRow, bestUnder, bestFrom, costOf}
-
-abbrev pub vertexA : List (List ℕ) → ℕ → ℕ
-vertexA candidates k = getD (getD candidates k []) 0 0
 
 abbrev pub vertexB : List (List ℕ) → ℕ → ℕ
 vertexB candidates k = getD (getD candidates k []) 1 0
@@ -22,7 +20,7 @@ vertexC candidates k = getD (getD candidates k []) 2 0
 
 -- candidates ascend by a, then b
 pub record Ascending (candidates : List (List ℕ)) : Type 0 where
-  pub a-up : (k l : ℕ) → k < l → l < length candidates → vertexA candidates k ≤ vertexA candidates l
+  pub by-first : ByFirst candidates
   pub b-up : (k l : ℕ) → k < l → l < length candidates → vertexA candidates k ≡ vertexA candidates l → vertexB candidates k ≤ vertexB candidates l
 
 -- a row is before (o, i)

@@ -10,8 +10,8 @@ ghost use Prim.Native.Nat.{_+_, _<_, _≤_};
 ghost use lib.ListN.{length, getD};
 ghost use Rattle.triangulation.specs.Jobs.{jobOf};
 ghost use Rattle.triangulation.specs.Recursion.{costOf, bestFrom};
-ghost use Rattle.blocks.specs.Blocks.{Starts};
-ghost use Rattle.minimum_weight.specs.Tables.{WellFormed, Cost, Run, joinCost, vertexA, vertexB, vertexC, ReadyAt, Filled};
+ghost use Rattle.blocks.specs.Blocks.{vertexA, Starts};
+ghost use Rattle.minimum_weight.specs.Tables.{WellFormed, Cost, Run, joinCost, vertexB, vertexC, ReadyAt, Filled};
 
 // The total of a triangle of weight w over parts of totals left and right.
 fn join_cost(w: u32, left: u64, right: u64) -> u64

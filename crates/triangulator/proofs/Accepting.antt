@@ -49,7 +49,7 @@ module _ (n : ℕ) (candidates : List (List ℕ)) (weights : List ℕ) (rows : L
       record {
         valid = record { n3 = low; ab = λ k h. c .ordered k h .a-b; bc = λ k h. c .ordered k h .b-c; cn = λ k h. c .ordered k h .c-n };
         bounded = record { n64 = high; light = λ k h. w .own k h; row-light = λ o i. row-le rows 2000000000 o i (λ k h. w .of-row k h) };
-        ascending = record { a-up = λ k l h m. a-up (c .ascending k l h m); b-up = λ k l h m. b-up (c .ascending k l h m) };
+        ascending = record { by-first = record { up = λ k l h m. a-up (c .ascending k l h m) }; b-up = λ k l h m. b-up (c .ascending k l h m) };
         weights-there = ok .weight-places;
         few = omega (arith, candidates-bounded n candidates c high);
         rows-ascend = record { up = λ k l h m. row-up (r .ascending k l h m) };
