@@ -11,7 +11,8 @@ use Rattle.geometry.specs.declared.sphere.Pencil.{Pencil}
 use Rattle.geometry.specs.declared.sphere.Sphere.{Sphere}
 use Rattle.geometry.specs.declared.sphere.Position.{Position}
 use Rattle.geometry.specs.declared.sphere.Position.the-variants.{Inside}
-use Rattle.geometry.specs.Spheres.{coplanar, sphereOf, positionBy}
+use Rattle.geometry.specs.Spheres.{coplanar}
+use Rattle.geometry.specs.Lifting.{sphereOf, positionBy}
 use Rattle.geometry.specs.Facets.{separatesBy}
 use Rattle.lists.specs.Lists.{both, either}
 use Rattle.faces.specs.Faces.{withFaces}

@@ -8,7 +8,7 @@ use lib.Seq.{getD-set-same, getD-set-other}
 use Rattle.grid.specs.declared.GridPoint.{GridPoint}
 use Rattle.polygon.specs.Polygon.{vertexAt}
 use Rattle.geometry.specs.declared.sphere.Lifted.{Lifted}
-use Rattle.geometry.specs.Spheres.{liftOf}
+use Rattle.geometry.specs.Lifting.{liftOf}
 use Rattle.delaunay.specs.Search.{unlifted}
 
 pub record LiftedTo (base : GridPoint) (vertices : List GridPoint) (v : ℕ) (lifted : List Lifted) : Type 0 where

@@ -9,7 +9,7 @@ use Rattle.polygon.specs.declared.Polygon.{Polygon}
 use Rattle.geometry.specs.declared.sphere.Lifted.{Lifted}
 use Rattle.geometry.specs.declared.sphere.Position.{Position}
 use Rattle.geometry.specs.declared.sphere.Position.the-variants.{Inside, On, Outside}
-use Rattle.geometry.specs.Spheres.{liftOf}
+use Rattle.geometry.specs.Lifting.{liftOf}
 use Rattle.lists.specs.Lists.{either}
 use Rattle.faces.specs.Faces.{has, emptySet}
 use Rattle.delaunay.specs.Candidates.{vertex, isCandidate, cospherical}

@@ -9,7 +9,7 @@ ghost use mathlib.Core.Path.{_≡_};
 ghost use mathlib.Core.Bool.{not, true};
 ghost use Prim.Native.Nat.{_≤_, _<_};
 ghost use lib.ListN.{length};
-ghost use Rattle.geometry.specs.Spheres.{LiftedBounds, PencilBounds};
+ghost use Rattle.geometry.specs.Bounds.{LiftedBounds, PencilBounds};
 ghost use Rattle.geometry.specs.Facets.{refutedBy};
 ghost use Rattle.lists.specs.Lists.{both, either};
 ghost use Rattle.polygon.specs.Polygon.{Valid};

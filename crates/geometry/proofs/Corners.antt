@@ -12,7 +12,8 @@ use Rattle.integers.proofs.Laws.{sub-zero}
 use Rattle.integers.proofs.Order.{equal-is}
 use Rattle.integers.proofs.Ring.{E, var, con, _:-_, _:*_, ring}
 use Rattle.geometry.specs.Vectors.{differenceOf, dotOf, crossOf, squareOf, scaledBy, plus, minus, opposite}
-use Rattle.geometry.specs.Spheres.{orientOf, centreOf, distanceOf, onSphere, positionOf}
+use Rattle.geometry.specs.Spheres.{orientOf, centreOf, distanceOf, onSphere}
+use Rattle.geometry.specs.Lifting.{positionOf}
 use Rattle.geometry.proofs.Terms.{VectorE, vec, dotE, scaledE, plusE, minusE, oppositeE, orientE, centreE, distanceE, ofVectors, ofPoints}
 use Rattle.geometry.proofs.Spheres.{distances-power}
 
