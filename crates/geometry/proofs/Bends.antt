@@ -56,7 +56,7 @@ module _ (m k : ℕ) (above : 0 < m * k) where
       ap (λ (z : ℤ). natAbs (pos 1000 -ℤ z)) (held-high ((1000 * x) / (m * k)) (le-div-iff-mul-le above .1 (omega arith)))
 
   -- -d is
-  pub bend-most : (x : ℕ) → m * k ≤ x → bendOf (negℤ (pos x)) m k ≡ maxBend
+  pub bend-most : (x : ℕ) → m * k ≤ x → bendOf (negℤ (pos x)) m k ≡ 2000
   unfolding bendOf ratioOf
   bend-most zero h = absurd (omega arith)
   bend-most (suc a) h =
@@ -68,7 +68,7 @@ pub bend-perpendicular : (m k : ℕ) → bendOf (pos 0) m k ≡ 1000
 unfolding bendOf ratioOf
 bend-perpendicular m k = ap (λ (y : ℕ). natAbs (pos 1000 -ℤ clamped (negsuc 999) (pos 1000) (pos y))) (zero-div (m * k))
 
--- ---- "Bend of equal normals 0, of perpendicular 1000, of opposite 2000."
+-- ---- the bends of rule 6.5
 
 pub equal-normals : {n : Vector} → Within maxNormal n → 0 < lengthOf n → bendBetween n n ≡ 0
 equal-normals {n} h l =
@@ -89,7 +89,7 @@ module _ (n : Vector) where
   unfolding lengthOf
   opposite-length = ap (λ (z : ℤ). floorRoot (natAbs z)) opposite-square
 
-  pub opposite-normals : Within maxNormal n → 0 < lengthOf n → bendBetween n (opposite n) ≡ maxBend
+  pub opposite-normals : Within maxNormal n → 0 < lengthOf n → bendBetween n (opposite n) ≡ 2000
   opposite-normals h l =
       (λ i. bendOf (dot i) (lengthOf n) (opposite-length i))
       ∙ bend-most (lengthOf n) (lengthOf n) (product-above-0 (lengthOf n) (lengthOf n) l l) (natAbs (squareOf n)) (length-squared h)
@@ -97,7 +97,7 @@ module _ (n : Vector) where
       dot : dotOf n (opposite n) ≡ negℤ (pos (natAbs (squareOf n)))
       dot = opposite-dot ∙ +ℤ-idl (negℤ (squareOf n)) ∙ ap negℤ (square-size n)
 
--- "d = −1 with both m equal to 100: 1001."
+-- a dot product of -1 with both lengths 100
 pub nearly-perpendicular : bendOf (negsuc 0) 100 100 ≡ 1001
 unfolding bendOf ratioOf
 nearly-perpendicular = refl
