@@ -24,13 +24,11 @@ fn lift_vertices(p: Polygon, a: usize) -> [Lifted; terms::MAX_VERTICES]
     ensures { λ r. ⌜ Lifts p a r ⌝ }
 {
     let n = p.n;
-    let vertices = p.vertices;
-    let base = vertices[a];
+    let base = p.vertices[a];
     let own = sphere::lift(base, base);
     let mut lifted = [own; terms::MAX_VERTICES];
     for v in 0..n {
-        let q = vertices[v];
-        lifted[v] = sphere::lift(base, q);
+        lifted[v] = sphere::lift(base, p.vertices[v]);
     }
     lifted
 }
