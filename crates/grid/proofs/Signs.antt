@@ -26,9 +26,6 @@ no-nan-left x h = go (isNan x) refl
     go true e = absurd (subst T (sym nan-differs ∙ ap (λ (y : Float). ne y y) (sym (nan-is x e)) ∙ h) tt)
     go false e = tt
 
-pub small : {n m : ℕ} → n ≡ m → m ≤ 1001 → n < 2 ^ 63
-small {n} {m} e h = omega arith
-
 mag-neg : (n : ℕ) → n < 2 ^ 63 → mag (negℤ (pos n)) < 2 ^ 63
 mag-neg zero h = h
 mag-neg (suc n) h = omega arith
