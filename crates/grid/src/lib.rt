@@ -98,8 +98,8 @@ fn rounded(pattern: u32) -> u32
     closest(0x80_0000 + pattern % 0x80_0000, 1 << shift)
 }
 
-// The grid number of a value in millimetres. v * 8.0 is exact, or overflows to an infinity: its pattern is above that of 1000.0
-// (0x447a_0000) exactly where 8v is out of range, before any rounding. Only v itself can be not finite.
+// The grid number of a value in millimetres (rules 1.9 and 1.10). v * 8.0 is exact, or overflows to an infinity: its pattern is above
+// that of 1000.0 (0x447a_0000) exactly where 8v is out of range. Whether a value is finite is asked of v, so an overflow is out of range.
 pub fn grid_number(v: f32) -> GridNumber
     ensures { λ r. ⌜ r ≡ gridNumberOf v ⌝ }
 {
