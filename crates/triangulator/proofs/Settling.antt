@@ -1,18 +1,21 @@
 -- What a call answers and leaves, from what the dynamic programme returns and leaves.
 use Prim.Native.Nat.{ℕ, zero, suc, _-_, _^_, _≤_, _<_}
 use mathlib.Core.Path.{_≡_, refl, sym, ap, ap₂, _∙_}
+use mathlib.Core.Bool.{cond}
 use mathlib.Core.Logic.{_⊎_, inl, inr}
 use mathlib.Core.List.{List, [], _∷_}
 use native.Mathlib.Omega.{arith}
-use lib.ListN.{length, drop, replicate, length-append}
+use lib.ListN.{length, take, drop, replicate, length-append}
+use lib.Dec.{leb}
 use lib.Seq.{take-at}
 use borrow.Author.Tests.{le-leb}
 use Rattle.lists.specs.Lists.{filled}
 use Rattle.lists.proofs.Choice.{yes}
 use Rattle.triangulation.specs.Triangulations.{Answer, answerOf}
 use Rattle.triangulation.specs.Recursion.{costOf, restOf}
+use Rattle.triangulator.specs.declared.Outcome.{Outcome}
 use Rattle.triangulator.specs.declared.Outcome.the-variants.{Patch, None, Refused}
-use Rattle.triangulator.specs.Call.{values, valuesOf, answerValues, dueValues, result, settled, partOf}
+use Rattle.triangulator.specs.Call.{trianglesOf, values, valuesOf, answerValues, dueValues, result, settled, partOf}
 
 module _ (n count : ℕ) (t w : List ℕ) {t′ w′ : List ℕ} where
   pub settle-none : (k : List ℕ) → 2 ^ 63 ≤ costOf k → (k ≡ []) ⊎ (costOf k < 2 ^ 63) → t′ ≡ filled (restOf k) t → w′ ≡ filled (replicate count 0) w
@@ -41,3 +44,7 @@ pub part-patch : (l t : List ℕ) (total : ℕ) → partOf (Patch (length l) tot
 part-patch l t total =
     let h : length l ≤ length (filled l t) = omega (arith, length-append l (drop (length l) t)) in
     yes _ _ (le-leb _ _ h) ∙ take-at l (drop (length l) t) (length l) refl
+
+-- and nothing where no triangle is counted
+pub part-empty : (o : Outcome) (t : List ℕ) → trianglesOf o ≡ 0 → partOf o t ≡ []
+part-empty o t e = ap (λ k. cond (leb k (length t)) (take k t) []) e ∙ yes [] [] (le-leb 0 (length t) (omega arith))
