@@ -1,4 +1,4 @@
--- Document 01's direct jobs at the edges (starred), by what the definitions compute: the number of each, 0 where it is accepted.
+-- Direct jobs at the edges of the rules, by what the definitions compute: the number of each, 0 where it is accepted.
 use mathlib.Core.Path.{_≡_, refl}
 use mathlib.Core.List.{List, [], _∷_}
 use Prim.Native.Nat.{ℕ, _-_}
