@@ -29,8 +29,8 @@ edges =
     ∷ numberOf 3 (triple 0 1 3 ∷ []) []
     ∷ numberOf 4 triples (triple 1 3 1 ∷ triple 1 3 1 ∷ [])
     ∷ numberOf 4 triples (triple 1 4 1 ∷ [])
-    ∷ jobCode 3 (triple 0 1 2 ∷ []) (maxWeight ∷ maxWeight + 1 ∷ []) [] 1 1
-    ∷ jobCode 3 (triple 0 1 2 ∷ []) (maxWeight + 1 ∷ []) [] 1 1
+    ∷ jobCode 3 (triple 0 1 2 ∷ []) (maxWeight ∷ (maxWeight + 1) ∷ []) [] 1 1
+    ∷ jobCode 3 (triple 0 1 2 ∷ []) ((maxWeight + 1) ∷ []) [] 1 1
     ∷ numberOf 4 triples (triple 1 3 (maxWeight + 1) ∷ [])
     ∷ []
 
