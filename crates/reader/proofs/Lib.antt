@@ -5,3 +5,4 @@ pub mod Walking
 pub mod Answers
 pub mod Positions
 pub mod Demand1
+pub mod HalfSteps

@@ -3,4 +3,5 @@ pub mod Record
 pub mod Chain
 pub mod Reading
 pub mod Due
+pub mod Rounded
 pub mod Steps
