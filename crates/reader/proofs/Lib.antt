@@ -3,5 +3,7 @@ pub mod Vertices
 pub mod Lengths
 pub mod Walking
 pub mod Answers
-pub mod Positions
-pub mod Demand1
+pub mod Order
+pub mod Floats
+pub mod Heights
+pub mod RecordNumbers
