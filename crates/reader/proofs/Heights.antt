@@ -29,8 +29,8 @@ module _ (s : List ℕ) where
   height-of-last (suc i) j l =
       ⊎-elim
       (λ h.
-        height-past i (λ k. l .none-between i h (omega arith) k)
-        ∙ height-of-last i j (record { before = h; is-point = l .is-point; none-between = λ m a b. l .none-between m a (omega arith) }))
+      height-past i (λ k. l .none-between i h (omega arith) k)
+      ∙ height-of-last i j (record { before = h; is-point = l .is-point; none-between = λ m a b. l .none-between m a (omega arith) }))
       (λ e. ap (λ m. heightBefore s (suc m)) (sym e) ∙ height-here j (l .is-point))
       (below-or-same j i (omega (arith, l .before)))
 

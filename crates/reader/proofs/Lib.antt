@@ -7,3 +7,10 @@ pub mod Order
 pub mod Floats
 pub mod Heights
 pub mod RecordNumbers
+pub mod Positions
+pub mod Ends
+pub mod RimVertices
+pub mod FirstNumber
+pub mod Demand1
+pub mod Accepted
+pub mod Existing

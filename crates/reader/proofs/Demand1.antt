@@ -1,0 +1,63 @@
+-- Demand 1 for rim files, numbers 1 to 11 (rules 4.31, 4.33): a file is read exactly when no number is due, and the number that is given is exactly the first that is due. Assumes nothing.
+use mathlib.Core.Path.{_≡_, refl, sym, ap, _∙_, subst}
+use mathlib.Core.List.{List}
+use mathlib.Core.Logic.{_⊎_, inl, inr}
+use Prim.Native.Nat.{ℕ, zero, suc, _<_}
+use native.Mathlib.Omega.{arith}
+use Rattle.polygon.specs.Polygon.{emptyPolygon}
+use Rattle.reader.specs.Order.{First, NoneDue}
+use Rattle.reader.specs.Due.{DueAt}
+use Rattle.reader.specs.Reading.{numberDue, polygonOf, answer, readingOf, statusNumber}
+use Rattle.reader.specs.declared.Status.the-variants.{Complete}
+use Rattle.reader.proofs.Answers.{answer-number}
+use Rattle.reader.proofs.Order.{first-unique, none-first}
+use Rattle.reader.proofs.FirstNumber.{Read, number-first, no-number-read, read-none}
+
+module _ (s : List ℕ) where
+  -- the answer's number is that of the tests
+  pub number-is : statusNumber (readingOf s .status) ≡ numberDue s
+  number-is = answer-number (numberDue s) (polygonOf s)
+
+  complete-zero : (k : ℕ) → answer k (polygonOf s) .status ≡ Complete → k ≡ 0
+  complete-zero zero e = refl
+  complete-zero (suc k) e = absurd (let z : _≡_ {A = ℕ} 0 1 = cc in omega arith)
+
+  pub complete-read : readingOf s .status ≡ Complete → Read s
+  complete-read e = no-number-read s (complete-zero (numberDue s) e)
+
+  -- there is a first number due, or none is due
+  pub first-or-none : ((k : ℕ) × First (DueAt s) k) ⊎ NoneDue (DueAt s)
+  first-or-none = by (numberDue s) refl
+    where
+      by : (k : ℕ) → numberDue s ≡ k → ((k : ℕ) × First (DueAt s) k) ⊎ NoneDue (DueAt s)
+      by zero e = inr (read-none s (no-number-read s e))
+      by (suc k) e = inl (suc k, number-first s k e)
+
+  -- the file is read exactly when no number is due
+  pub read-when : NoneDue (DueAt s) → readingOf s .status ≡ Complete
+  read-when none = by (numberDue s) refl
+    where
+      by : (k : ℕ) → numberDue s ≡ k → answer (numberDue s) (polygonOf s) .status ≡ Complete
+      by zero e = ap (λ (k : ℕ). answer k (polygonOf s) .status) e
+      by (suc k) e = absurd (none-first none (number-first s k e))
+
+  pub read-only-when : readingOf s .status ≡ Complete → NoneDue (DueAt s)
+  read-only-when e = read-none s (complete-read e)
+
+  -- the number that is given is exactly the first that is due; the polygon is then the empty one
+  pub given-first : (k : ℕ) → statusNumber (readingOf s .status) ≡ suc k → First (DueAt s) (suc k)
+  given-first k e = number-first s k (sym number-is ∙ e)
+
+  pub first-given : (k : ℕ) → First (DueAt s) k → statusNumber (readingOf s .status) ≡ k
+  first-given k f = by (numberDue s) refl
+    where
+      by : (j : ℕ) → numberDue s ≡ j → statusNumber (readingOf s .status) ≡ k
+      by zero e = absurd (none-first (read-none s (no-number-read s e)) f)
+      by (suc j) e = number-is ∙ e ∙ first-unique (number-first s j e) f
+
+  pub refused-empty : (k : ℕ) → First (DueAt s) k → readingOf s .polygon ≡ emptyPolygon
+  refused-empty k f = by (numberDue s) refl
+    where
+      by : (j : ℕ) → numberDue s ≡ j → answer (numberDue s) (polygonOf s) .polygon ≡ emptyPolygon
+      by zero e = absurd (none-first (read-none s (no-number-read s e)) f)
+      by (suc j) e = ap (λ (i : ℕ). answer i (polygonOf s) .polygon) e
