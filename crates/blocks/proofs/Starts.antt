@@ -9,7 +9,9 @@ use borrow.Author.Tests.{ltb-true, ltb-false}
 use lib.Dec.{ltb}
 use lib.ListN.{length, getD}
 use Rattle.lists.proofs.Choice.{Truth, holds, fails, truth}
-use Rattle.blocks.specs.Blocks.{vertexA, ByFirst, BlockStart, Starts}
+use Rattle.terms.specs.Limits.{maxVertices}
+use Rattle.terms.specs.Entries.{entryAt, vertexA}
+use Rattle.blocks.specs.Blocks.{ByFirst, BlockStart, Starts}
 
 module _ (cs : List (List ℕ)) where
   pub start-order : {j k x y : ℕ} → BlockStart cs j x → BlockStart cs k y → j ≤ k → x ≤ y
@@ -27,7 +29,7 @@ module _ (cs : List (List ℕ)) where
   start-at {x = x} e s = subst (λ (k : ℕ). BlockStart cs k x) e s
 
   -- a block does not end before it starts
-  pub starts-up : (starts : List ℕ) (k : ℕ) → Starts cs starts → k < 64 → getD starts k 0 ≤ getD starts (k + 1) 0
+  pub starts-up : (starts : List ℕ) (k : ℕ) → Starts cs starts → k < maxVertices → getD starts k 0 ≤ getD starts (k + 1) 0
   starts-up starts k s h = start-order (s .at k (omega arith)) (s .at (k + 1) (omega arith)) (omega arith)
 
 -- there is a block's start
@@ -36,13 +38,13 @@ pub record Start (cs : List (List ℕ)) (k : ℕ) : Type 0 where
   pub is : BlockStart cs k at
 
 module _ (cs : List (List ℕ)) (s : ByFirst cs) (k : ℕ) where
-  start-from : (d low : ℕ) → length cs - low ≡ d → low ≤ length cs → ((i : ℕ) → i < low → vertexA cs i < k) → Start cs k
+  start-from : (d low : ℕ) → length cs - low ≡ d → low ≤ length cs → ((i : ℕ) → i < low → vertexA (entryAt cs i) < k) → Start cs k
   start-from zero low e h f = record { at = low; is = record { within = h; below = f; above = λ i m n. absurd (omega arith) } }
-  start-from (suc d) low e h f = go (λ g. start-from d (low + 1) (omega arith) (omega arith) g) (truth (ltb (vertexA cs low) k))
+  start-from (suc d) low e h f = go (λ g. start-from d (low + 1) (omega arith) (omega arith) g) (truth (ltb (vertexA (entryAt cs low)) k))
     where
-      go : (((i : ℕ) → i < low + 1 → vertexA cs i < k) → Start cs k) → Truth (ltb (vertexA cs low) k) → Start cs k
-      go next (holds t) = next (λ i m. ⊎-elim (λ q. rw q (ltb-true (vertexA cs low) k t)) (λ l. f i l) (eq-or-lt-of-le (let z : i ≤ low = omega arith in z)))
-      go next (fails t) = let l = ltb-false (vertexA cs low) k t in
+      go : (((i : ℕ) → i < low + 1 → vertexA (entryAt cs i) < k) → Start cs k) → Truth (ltb (vertexA (entryAt cs low)) k) → Start cs k
+      go next (holds t) = next (λ i m. ⊎-elim (λ q. rw q (ltb-true (vertexA (entryAt cs low)) k t)) (λ l. f i l) (eq-or-lt-of-le (let z : i ≤ low = omega arith in z)))
+      go next (fails t) = let l = ltb-false (vertexA (entryAt cs low)) k t in
           record { at = low; is = record { within = h; below = f; above = λ i m n. ⊎-elim (λ q. rw (← q) l) (λ q. omega (arith, l, s .up low i q n)) (eq-or-lt-of-le m) } }
 
   pub start-of : Start cs k

@@ -1,22 +1,24 @@
 -- Blocks: candidates of one first vertex stand together. Definitions only.
-use mathlib.Core.List.{List, []}
-use Prim.Native.Nat.{ℕ, _≤_, _<_}
+use mathlib.Core.List.{List}
+use Prim.Native.Nat.{ℕ, suc, _≤_, _<_}
 use lib.ListN.{length, getD}
+use Rattle.terms.specs.Limits.{maxVertices}
+use Rattle.terms.specs.Entries.{entryAt, vertexA}
 
--- candidate i's first vertex
-abbrev pub vertexA : List (List ℕ) → ℕ → ℕ
-vertexA candidates i = getD (getD candidates i []) 0 0
+-- a start for each vertex, and the end of the last block
+abbrev pub startCount : ℕ
+startCount = suc maxVertices
 
 -- candidates ascend by their first vertex
 pub record ByFirst (candidates : List (List ℕ)) : Type 0 where
-  pub up : (i j : ℕ) → i < j → j < length candidates → vertexA candidates i ≤ vertexA candidates j
+  pub up : (i j : ℕ) → i < j → j < length candidates → vertexA (entryAt candidates i) ≤ vertexA (entryAt candidates j)
 
 -- r candidates have a first vertex below k, and these come first
 pub record BlockStart (candidates : List (List ℕ)) (k r : ℕ) : Type 0 where
   pub within : r ≤ length candidates
-  pub below : (i : ℕ) → i < r → vertexA candidates i < k
-  pub above : (i : ℕ) → r ≤ i → i < length candidates → k ≤ vertexA candidates i
+  pub below : (i : ℕ) → i < r → vertexA (entryAt candidates i) < k
+  pub above : (i : ℕ) → r ≤ i → i < length candidates → k ≤ vertexA (entryAt candidates i)
 
 -- place k holds how many candidates have a first vertex below k
 pub record Starts (candidates : List (List ℕ)) (starts : List ℕ) : Type 0 where
-  pub at : (k : ℕ) → k < 65 → BlockStart candidates k (getD starts k 0)
+  pub at : (k : ℕ) → k < startCount → BlockStart candidates k (getD starts k 0)

@@ -13,7 +13,8 @@ use Rattle.geometry.specs.Vectors.{Within}
 use Rattle.geometry.specs.Faces.{normalOf, lengthOf}
 use Rattle.geometry.proofs.Vectors.{within-as}
 use Rattle.geometry.proofs.Faces.{normal-within, length-bound}
-use Rattle.jobs.specs.Job.{entryAt, vertexA, vertexB, vertexC}
+use Rattle.terms.specs.Limits.{maxVertices}
+use Rattle.terms.specs.Entries.{entryAt, vertexA, vertexB, vertexC}
 use Rattle.dihedrals.specs.Weights.{faceNormal, faceWeight, lengthsOf, weightsOf}
 use Rattle.dihedrals.specs.Lists.{Corners, Solid, Measured}
 
@@ -29,13 +30,13 @@ pub record Read (p : Polygon) (t : List ℕ) (a b c : ℕ) : Type 0 where
   pub c-is : c ≡ vertexC t
 
 module _ {p : Polygon} {t : List ℕ} {a b c : ℕ} (r : Read p t a b c) where
-  pub a<64 : a < 64
+  pub a<64 : a < maxVertices
   a<64 = omega (arith, r .a-is, r .corners .a<n, r .valid .most)
 
-  pub b<64 : b < 64
+  pub b<64 : b < maxVertices
   b<64 = omega (arith, r .b-is, r .corners .b<n, r .valid .most)
 
-  pub c<64 : c < 64
+  pub c<64 : c < maxVertices
   c<64 = omega (arith, r .c-is, r .corners .c<n, r .valid .most)
 
   pub on-grid : (PointOnGrid (vertexAt (p .vertices) a)) × (PointOnGrid (vertexAt (p .vertices) b)) × (PointOnGrid (vertexAt (p .vertices) c))

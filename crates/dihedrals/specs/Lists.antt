@@ -8,7 +8,7 @@ use Rattle.polygon.specs.Polygon.{Valid}
 use Rattle.geometry.specs.declared.Vector.{Vector}
 use Rattle.geometry.specs.Vectors.{Within}
 use Rattle.geometry.specs.Faces.{lengthOf}
-use Rattle.jobs.specs.Job.{entryAt, vertexA, vertexB, vertexC}
+use Rattle.terms.specs.Entries.{entryAt, vertexA, vertexB, vertexC}
 use Rattle.hinges.specs.Hinges.{Sorted}
 use Rattle.dihedrals.specs.Weights.{faceNormal}
 

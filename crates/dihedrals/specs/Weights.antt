@@ -6,7 +6,8 @@ use Rattle.polygon.specs.declared.Polygon.{Polygon}
 use Rattle.polygon.specs.Polygon.{vertexAt}
 use Rattle.geometry.specs.declared.Vector.{Vector}
 use Rattle.geometry.specs.Faces.{normalOf, lengthOf, areaWeightOf, bendBetween, bendWeightOf}
-use Rattle.jobs.specs.Job.{entryAt, vertexA, vertexB, vertexC, hangs}
+use Rattle.terms.specs.Entries.{entryAt, vertexA, vertexB, vertexC}
+use Rattle.jobs.specs.Job.{hangs}
 use Rattle.lists.specs.Lists.{over, when}
 
 -- "The normal of (a, b, c)": of candidate t

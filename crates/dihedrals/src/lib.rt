@@ -6,6 +6,7 @@ ghost use mathlib.Core.Path.{_≡_};
 ghost use mathlib.Core.List.{[], _∷_, map};
 ghost use Prim.Native.Nat.{_<_, _≤_};
 ghost use lib.ListN.{length, take};
+ghost use Rattle.terms.specs.Limits.{maxTriples, maxAreaFactor, maxBendFactor};
 ghost use Rattle.lists.specs.Lists.{filled};
 ghost use Rattle.geometry.specs.Faces.{areaWeightOf, bendBetween, bendWeightOf};
 ghost use Rattle.blocks.specs.Blocks.{Starts};
@@ -36,7 +37,7 @@ pub fn write_lengths(p: Polygon, candidates: &[[u8; 3]], out: &mut [u32])
 
 // From the lengths in the first count places to the candidates' weights.
 pub fn scale_lengths(factor: u32, weights: &mut [u32], count: usize)
-    requires { ⌜ (factor ≤ 16) × (count ≤ length (now weights)) × (Lengths count (now weights)) ⌝ }
+    requires { ⌜ (factor ≤ maxAreaFactor) × (count ≤ length (now weights)) × (Lengths count (now weights)) ⌝ }
     ensures { λ _. ⌜ now (weights .exit) ≡ filled (map (areaWeightOf factor) (take count (now (weights .entry)))) (now (weights .entry)) ⌝ }
 {
     for i in 0..count {
@@ -47,7 +48,7 @@ pub fn scale_lengths(factor: u32, weights: &mut [u32], count: usize)
 
 // The row of outer o and inner i, by their normals and the lengths of these.
 fn row(factor: u32, o: usize, outer: Vector, m: u32, i: usize, inner: Vector, k: u32) -> [u32; 3]
-    requires { ⌜ (factor ≤ 65535) × (o < 41664) × (Measured outer m) × (i < 41664) × (Measured inner k) ⌝ }
+    requires { ⌜ (factor ≤ maxBendFactor) × (o < maxTriples) × (Measured outer m) × (i < maxTriples) × (Measured inner k) ⌝ }
     ensures { λ r. ⌜ r ≡ o ∷ i ∷ bendWeightOf factor (bendBetween inner outer) ∷ [] ⌝ }
 {
     let d = geometry::dot(inner, outer);
@@ -60,7 +61,7 @@ fn row(factor: u32, o: usize, outer: Vector, m: u32, i: usize, inner: Vector, k:
 pub fn write_rows(
     p: Polygon,
     candidates: &[[u8; 3]],
-    starts: &[usize; 65],
+    starts: &[usize; blocks::STARTS],
     lengths: &[u32],
     out: &mut [[u32; 3]],
 )

@@ -12,7 +12,9 @@ use Rattle.geometry.specs.Vectors.{dotOf}
 use Rattle.geometry.specs.Faces.{lengthOf}
 use Rattle.geometry.proofs.Faces.{length-bound, area-weight-bound, bend-weight-bound}
 use Rattle.geometry.proofs.Bends.{bend-bound}
-use Rattle.jobs.specs.Job.{entryAt, vertexA, vertexB, vertexC, outer, inner, rowWeight, hangs}
+use Rattle.terms.specs.Limits.{maxWeight}
+use Rattle.terms.specs.Entries.{entryAt, vertexA, vertexB, vertexC, outer, inner, rowWeight}
+use Rattle.jobs.specs.Job.{hangs}
 use Rattle.jobs.proofs.Order.{RowBefore, by-outer, by-inner, Hangs, hangs-true, true-hangs}
 use Rattle.jobs.proofs.Lists as lists
 use Rattle.lists.specs.Lists.{when}
@@ -92,7 +94,7 @@ module _ (p : Polygon) (v : Valid p) where
 
   pub weights-allowed : lists.Weights (candidatesOf p) (weightsOf p (candidatesOf p)) (rowsOf p (candidatesOf p))
   weights-allowed = record {
-    own = λ i h. subst (λ (w : ℕ). w ≤ 2000000000) (sym (weight-at p (candidatesOf p) i h)) (le-trans (area-weight-bound (v .area-factor) (length-bound (face-within v (candidates-solid p v .corners i h)))) (lit≤ tt));
+    own = λ i h. subst (λ (w : ℕ). w ≤ maxWeight) (sym (weight-at p (candidatesOf p) i h)) (le-trans (area-weight-bound (v .area-factor) (length-bound (face-within v (candidates-solid p v .corners i h)))) (lit≤ tt));
     of-row = λ k h. let f = row-hinge p (candidatesOf p) (entryAt (rowsOf p (candidatesOf p)) k) (entry-member (rowsOf p (candidatesOf p)) [] k h) in
-        subst (λ (w : ℕ). w ≤ 2000000000) (sym (ap rowWeight (f .is))) (le-trans (bend-weight-bound (v .bend-factor) (bend-bound (dotOf (faceNormal p (entryAt (candidatesOf p) (f .i))) (faceNormal p (entryAt (candidatesOf p) (f .o)))) (lengthOf (faceNormal p (entryAt (candidatesOf p) (f .i)))) (lengthOf (faceNormal p (entryAt (candidatesOf p) (f .o)))))) (lit≤ tt));
+        subst (λ (w : ℕ). w ≤ maxWeight) (sym (ap rowWeight (f .is))) (le-trans (bend-weight-bound (v .bend-factor) (bend-bound (dotOf (faceNormal p (entryAt (candidatesOf p) (f .i))) (faceNormal p (entryAt (candidatesOf p) (f .o)))) (lengthOf (faceNormal p (entryAt (candidatesOf p) (f .i)))) (lengthOf (faceNormal p (entryAt (candidatesOf p) (f .o)))))) (lit≤ tt));
   }

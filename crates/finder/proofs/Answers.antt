@@ -7,6 +7,7 @@ use native.Mathlib.Omega.{arith}
 use borrow.Author.Tests.{eq-eqb, le-ltb, eqb-true}
 use lib.Dec.{eqb}
 use lib.ListN.{length}
+use Rattle.terms.specs.Limits.{maxTriples}
 use Rattle.polygon.specs.declared.Polygon.{Polygon}
 use Rattle.polygon.specs.Polygon.{codeOf}
 use Rattle.polygon.proofs.Validity.{code-valid}
@@ -43,13 +44,13 @@ module _ (p : Polygon) (trianglePlaces workPlaces : ℕ) (candidates : List (Lis
   refused-code k e f = ap (λ (n : ℕ). finding (Refused n) candidates weights rows) e ∙ sym (no _ _ f)
 
 -- two tables of enough places beside the finder's change nothing
-pub beside-enough : (p : Polygon) (candidates : List (List ℕ)) (weights : List ℕ) (rows : List (List ℕ)) → findBesideCall p (p .n) 41664 candidates weights rows ≡ findCall p candidates weights rows
+pub beside-enough : (p : Polygon) (candidates : List (List ℕ)) (weights : List ℕ) (rows : List (List ℕ)) → findBesideCall p (p .n) maxTriples candidates weights rows ≡ findCall p candidates weights rows
 unfolding findOr13
 beside-enough p candidates weights rows = go (truth (eqb (codeOf p) 0))
   where
-    go : Truth (eqb (codeOf p) 0) → findBesideCall p (p .n) 41664 candidates weights rows ≡ findCall p candidates weights rows
+    go : Truth (eqb (codeOf p) 0) → findBesideCall p (p .n) maxTriples candidates weights rows ≡ findCall p candidates weights rows
     go (fails e) = no _ _ e ∙ sym (no _ _ e)
     go (holds e) =
         let v = code-valid p (eqb-true (codeOf p) 0 e) in
-        let enough : shortBeside p (p .n) 41664 ≡ false = no _ _ (le-ltb (p .n) (p .n - 2) (omega arith)) ∙ le-ltb 41664 (length (candidatesOf p)) (triples-bound (p .n) (isCandidate p) (v .most)) in
+        let enough : shortBeside p (p .n) maxTriples ≡ false = no _ _ (le-ltb (p .n) (p .n - 2) (omega arith)) ∙ le-ltb maxTriples (length (candidatesOf p)) (triples-bound (p .n) (isCandidate p) (v .most)) in
         ap (λ (t : Bool). findOr13 (either t (shortTables p candidates weights rows)) p candidates weights rows) enough

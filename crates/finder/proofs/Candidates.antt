@@ -12,7 +12,7 @@ use Rattle.polygon.specs.Polygon.{Valid}
 use Rattle.geometry.specs.Faces.{normalOf, lengthOf}
 use Rattle.geometry.specs.Spheres.{coplanar}
 use Rattle.geometry.proofs.Faces.{face-length-pqr, face-length-pqs, face-length-prs, face-length-qrs}
-use Rattle.jobs.specs.Job.{entryAt, vertexA, vertexB, vertexC}
+use Rattle.terms.specs.Entries.{entryAt, vertexA, vertexB, vertexC}
 use Rattle.jobs.proofs.Order.{Before, by-a, by-b, by-c}
 use Rattle.lists.specs.Lists.{both, either, every, over, when}
 use Rattle.lists.proofs.Choice.{both-left, both-right, either-cases}

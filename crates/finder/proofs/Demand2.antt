@@ -10,7 +10,7 @@ use lib.ListN.{length, length-map}
 use Rattle.polygon.specs.declared.Polygon.{Polygon}
 use Rattle.polygon.specs.Polygon.{Valid}
 use Rattle.geometry.specs.Spheres.{coplanar}
-use Rattle.jobs.specs.Job.{entryAt, outer, inner, rowWeight}
+use Rattle.terms.specs.Entries.{entryAt, outer, inner, rowWeight}
 use Rattle.jobs.proofs.Order.{true-before, hangs-true, true-hangs, row-before-same}
 use Rattle.lists.specs.Lists.{both, either, every}
 use Rattle.lists.proofs.Choice.{true-not-false, both-left, both-right, both-true, either-left, either-right, either-cases}

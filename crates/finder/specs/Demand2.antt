@@ -7,7 +7,9 @@ use lib.ListN.{length, getD}
 use Rattle.polygon.specs.declared.Polygon.{Polygon}
 use Rattle.geometry.specs.Faces.{lengthOf, bendBetween}
 use Rattle.geometry.specs.Spheres.{coplanar, strictlyInside}
-use Rattle.jobs.specs.Job.{entryAt, outer, inner, rowWeight, before, hangs}
+use Rattle.terms.specs.Limits.{maxWeight}
+use Rattle.terms.specs.Entries.{entryAt, outer, inner, rowWeight}
+use Rattle.jobs.specs.Job.{before, hangs}
 use Rattle.faces.specs.Faces.{triple}
 use Rattle.delaunay.specs.Candidates.{vertex}
 use Rattle.dihedrals.specs.Weights.{faceNormal}
@@ -53,8 +55,8 @@ pub record Demand2 (p : Polygon) (candidates : List (List ℕ)) (weights : List 
   pub row : (o i : ℕ) → o < length candidates → i < length candidates → hangs (entryAt candidates i) (entryAt candidates o) ≡ true → (k : ℕ) × IsRow rows k o i
   pub one-row : (o i j k : ℕ) → IsRow rows j o i → IsRow rows k o i → j ≡ k
   -- no weight is over what 17 allows
-  pub light : (i : ℕ) → i < length candidates → getD weights i 0 ≤ 2000000000
-  pub row-light : (k : ℕ) → k < length rows → rowWeight (entryAt rows k) ≤ 2000000000
+  pub light : (i : ℕ) → i < length candidates → getD weights i 0 ≤ maxWeight
+  pub row-light : (k : ℕ) → k < length rows → rowWeight (entryAt rows k) ≤ maxWeight
 
 -- "A rim in one plane": every four of its vertices is
 pub record Flat (p : Polygon) : Type 0 where

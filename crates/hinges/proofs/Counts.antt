@@ -17,7 +17,9 @@ use Rattle.lists.proofs.Flattening.{over-entries, flat-sum}
 use Rattle.faces.specs.Faces.{triple, triplesOf}
 use Rattle.faces.proofs.Sets.{triples-bound}
 use Rattle.faces.proofs.Triples.{left1, left3, next3, flat-triples, left-lengths}
-use Rattle.jobs.specs.Job.{entryAt, vertexA, vertexC, sameEdge, hangs}
+use Rattle.terms.specs.Limits.{maxVertices, maxTriples}
+use Rattle.terms.specs.Entries.{entryAt, vertexA, vertexC}
+use Rattle.jobs.specs.Job.{sameEdge, hangs}
 use Rattle.hinges.specs.Hinges.{innersOn, innersOf, beneath}
 
 -- a candidate s that hangs on t; one whose edge from first to last vertex is (i, j)
@@ -98,10 +100,10 @@ module _ (n : ℕ) (P : ℕ → ℕ → ℕ → Bool) where
   next-hung a b c h e = next3 n (hung P) a b c h ∙ ap (λ (t : Bool). cond t (beneath P a b ++ beneath P b c) [] ++ left3 n (hung P) a b (c + 1)) (sym e)
 
   -- how many there can be
-  pub pairs-bound : n ≤ 64 → length (left1 n (hung P) 0) ≤ 1735888896
+  pub pairs-bound : n ≤ maxVertices → length (left1 n (hung P) 0) ≤ 1735888896
   pairs-bound h =
       let cs = triplesOf n P in
-      let few : length cs ≤ 41664 = triples-bound n P h in
-      let on : (o : ℕ) → length (innersOn cs o) ≤ 41664 = λ o. le-trans (up-bound _ 1 0 (length cs - 0) (λ i. when-bound (hangs (entryAt cs i) (entryAt cs o)) i)) (omega arith) in
-      let b : length (innersOf cs) ≤ (length cs - 0) * 41664 = up-bound _ 41664 0 (length cs - 0) on in
+      let few : length cs ≤ maxTriples = triples-bound n P h in
+      let on : (o : ℕ) → length (innersOn cs o) ≤ maxTriples = λ o. le-trans (up-bound _ 1 0 (length cs - 0) (λ i. when-bound (hangs (entryAt cs i) (entryAt cs o)) i)) (omega arith) in
+      let b : length (innersOf cs) ≤ (length cs - 0) * maxTriples = up-bound _ maxTriples 0 (length cs - 0) on in
       omega (arith, pairs-count)

@@ -4,7 +4,9 @@ use mathlib.Core.List.{List}
 use Prim.Native.Nat.{ℕ, _+_, _≤_, _<_}
 use lib.Dec.{eqb}
 use lib.ListN.{length, getD}
-use Rattle.jobs.specs.Job.{entryAt, vertexA, vertexB, vertexC, sameEdge, hangs}
+use Rattle.terms.specs.Limits.{maxVertices, maxTriples}
+use Rattle.terms.specs.Entries.{entryAt, vertexA, vertexB, vertexC}
+use Rattle.jobs.specs.Job.{sameEdge, hangs}
 use Rattle.lists.specs.Lists.{over, when}
 use Rattle.blocks.specs.Blocks.{ByFirst}
 
@@ -28,10 +30,10 @@ endingIn candidates lo hi c = over lo hi (λ i. when (eqb (vertexC (entryAt cand
 abbrev pub beneath : (ℕ → ℕ → ℕ → Bool) → ℕ → ℕ → List ℕ
 beneath P i j = over (i + 1) j (λ x. when (P i x j) x)
 
--- triples a < b < c of at most 64 vertices, ascending by their first vertex
+-- triples a < b < c of at most maxVertices vertices, ascending by their first vertex
 pub record Sorted (candidates : List (List ℕ)) : Type 0 where
-  pub few : length candidates ≤ 41664
+  pub few : length candidates ≤ maxTriples
   pub a<b : (i : ℕ) → i < length candidates → vertexA (entryAt candidates i) < vertexB (entryAt candidates i)
   pub b<c : (i : ℕ) → i < length candidates → vertexB (entryAt candidates i) < vertexC (entryAt candidates i)
-  pub c<64 : (i : ℕ) → i < length candidates → vertexC (entryAt candidates i) < 64
+  pub c<64 : (i : ℕ) → i < length candidates → vertexC (entryAt candidates i) < maxVertices
   pub by-first : ByFirst candidates

@@ -2,12 +2,13 @@
 ghost use mathlib.Core.Path.{_≡_};
 ghost use Prim.Native.Nat.{_<_, _≤_};
 ghost use lib.ListN.{length};
+ghost use Rattle.terms.specs.Limits.{maxVertices};
 ghost use Rattle.faces.specs.Faces.{has, triplesOf};
 ghost use Rattle.hinges.specs.Hinges.{innersOf, beneath};
 
 // How many triangles of the set have (i, j) as the edge from their first to their last vertex.
 fn count_beneath(masks: &[u64; 4096], i: usize, j: usize) -> usize
-    requires { ⌜ (i < 64) × (j < 64) ⌝ }
+    requires { ⌜ (i < maxVertices) × (j < maxVertices) ⌝ }
     ensures { λ r. ⌜ r ≡ length (beneath (has (now (masks .entry))) i j) ⌝ }
 {
     let mut count = 0;
@@ -21,7 +22,7 @@ fn count_beneath(masks: &[u64; 4096], i: usize, j: usize) -> usize
 
 // How many hanging pairs the triangles of the set on the first n vertices make: on (a, b, c) hang those beneath (a, b) and beneath (b, c).
 pub fn count_rows(masks: &[u64; 4096], n: usize) -> usize
-    requires { ⌜ n ≤ 64 ⌝ }
+    requires { ⌜ n ≤ maxVertices ⌝ }
     ensures { λ r. ⌜ r ≡ length (innersOf (triplesOf n (has (now (masks .entry))))) ⌝ }
 {
     let mut count = 0;

@@ -10,7 +10,9 @@ use lib.Dec.{leb, ltb}
 use borrow.Author.Tests.{ltb-true, ltb-false, leb-true, leb-false, le-leb, lt-leb}
 use Rattle.lists.specs.Lists.{both}
 use Rattle.lists.proofs.Choice.{true-not-false, Truth, truth, holds, fails, yes, no, both-left, both-right, both-true, not-false-true, not-true-false}
-use Rattle.jobs.specs.Job.{minVertices, maxVertices, entryAt, outer, inner, countFits, enough, unless, candidatesFit, rowsFit, weightsFit, rowWeightsFit, listsCode, jobCode}
+use Rattle.terms.specs.Limits.{minVertices, maxVertices}
+use Rattle.terms.specs.Entries.{entryAt, outer, inner}
+use Rattle.jobs.specs.Job.{countFits, enough, unless, candidatesFit, rowsFit, weightsFit, rowWeightsFit, listsCode, jobCode}
 use Rattle.jobs.proofs.First.{unless-zero, unless-same}
 use Rattle.jobs.proofs.Order.{Before, before-itself, row-before-same}
 use Rattle.jobs.proofs.Lists.{Candidates, Rows, Weights, candidates-true, true-candidates, rows-true, true-rows, weights-true, true-weights}

@@ -3,11 +3,9 @@ use mathlib.Core.Path.{_≡_, refl}
 use mathlib.Core.List.{List, [], _∷_}
 use Prim.Native.Nat.{ℕ, _-_}
 use lib.ListN.{replicate, length}
+use Rattle.terms.specs.Entries.{triple}
 use Rattle.lists.specs.Lists.{everyFrom}
 use Rattle.jobs.specs.Job.{ascends, before, candidateFits, hangs, namesPair, rowBefore, rowFits, listsCode, jobCode}
-
-abbrev pub triple : ℕ → ℕ → ℕ → List ℕ
-triple x y z = x ∷ y ∷ z ∷ []
 
 -- "P's triples"
 abbrev pub triplesOfP : List (List ℕ)

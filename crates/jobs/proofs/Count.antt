@@ -5,7 +5,8 @@ use Prim.Native.Nat.{ℕ, zero, suc, _+_, _-_, _≤_, _<_}
 use native.Mathlib.Omega.{arith}
 use native.Mathlib.Nat.{le-trans}
 use lib.ListN.{length}
-use Rattle.jobs.specs.Job.{entryAt, vertexA, vertexB, vertexC}
+use Rattle.terms.specs.Limits.{maxVertices, maxTriples}
+use Rattle.terms.specs.Entries.{entryAt, vertexA, vertexB, vertexC}
 use Rattle.jobs.proofs.Order.{Before, by-a, by-b, by-c}
 use Rattle.jobs.proofs.Lists.{Ordered, Candidates}
 
@@ -85,6 +86,6 @@ module _ (n : ℕ) where
         go (suc m) e = omega (arith, left-below m (omega arith))
 
     -- where 15 is not due for an n of at most 64, candidate numbers fit 16 bits
-    pub candidates-bounded : n ≤ 64 → length candidates ≤ 41664
+    pub candidates-bounded : n ≤ maxVertices → length candidates ≤ maxTriples
     unfolding choose2 choose3
-    candidates-bounded h = le-trans at-most-choose3 (choose3-up n 64 h)
+    candidates-bounded h = le-trans at-most-choose3 (choose3-up n maxVertices h)

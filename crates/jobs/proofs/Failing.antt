@@ -10,7 +10,9 @@ use lib.Dec.{eqb, leb}
 use borrow.Author.Tests.{leb-false}
 use Rattle.lists.specs.Lists.{every, everyFrom, both, either}
 use Rattle.lists.proofs.Choice.{Truth, truth, holds, fails, yes, true-not-false, either-right}
-use Rattle.jobs.specs.Job.{maxWeight, entryAt, outer, inner, vertexA, vertexB, vertexC, rowWeight, ascends, before, candidateFits, candidatesFit, namesPair, rowBefore, rowFits, rowsFit, weightsFit, rowWeightsFit}
+use Rattle.terms.specs.Limits.{maxWeight}
+use Rattle.terms.specs.Entries.{entryAt, outer, inner, vertexA, vertexB, vertexC, rowWeight}
+use Rattle.jobs.specs.Job.{ascends, before, candidateFits, candidatesFit, namesPair, rowBefore, rowFits, rowsFit, weightsFit, rowWeightsFit}
 use Rattle.jobs.proofs.Order.{Before, RowBefore, true-before, true-row-before}
 use Rattle.jobs.proofs.Lists.{Ordered, Named, Candidates, Rows, Weights, true-ascends, true-names}
 

@@ -11,7 +11,9 @@ use borrow.Author.Tests.{ltb-true, lt-ltb, leb-true, le-leb, eqb-true}
 use Rattle.lists.specs.Lists.{both, either}
 use Rattle.lists.proofs.Choice.{both-left, both-right, both-true, either-right, either-cases}
 use Rattle.lists.proofs.Ranges.{every-at, every-all}
-use Rattle.jobs.specs.Job.{maxWeight, entryAt, vertexA, vertexB, vertexC, outer, inner, rowWeight, ascends, before, candidateFits, candidatesFit, hangs, namesPair, rowBefore, rowFits, rowsFit, weightsFit, rowWeightsFit}
+use Rattle.terms.specs.Limits.{maxWeight}
+use Rattle.terms.specs.Entries.{entryAt, vertexA, vertexB, vertexC, outer, inner, rowWeight}
+use Rattle.jobs.specs.Job.{ascends, before, candidateFits, candidatesFit, hangs, namesPair, rowBefore, rowFits, rowsFit, weightsFit, rowWeightsFit}
 use Rattle.jobs.proofs.Order.{Before, RowBefore, Hangs, before-true, true-before, before-trans, row-before-true, true-row-before, row-before-trans, hangs-true, true-hangs, in-order}
 
 -- a < b < c < n

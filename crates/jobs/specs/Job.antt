@@ -1,46 +1,13 @@
 -- The tests of a direct job: document 01, "Tilings" and "Who causes which number". Definitions only.
 -- A job is n, its candidates [a, b, c], a table of weights that begins with theirs, and its rows [outer, inner, weight].
 use mathlib.Core.Bool.{Bool, cond}
-use mathlib.Core.List.{List, []}
+use mathlib.Core.List.{List}
 use Prim.Native.Nat.{ℕ, _-_}
 use lib.ListN.{length, getD}
 use lib.Dec.{eqb, ltb, leb}
 use Rattle.lists.specs.Lists.{every, both, either}
-
--- "n isn't 3 to 64"
-abbrev pub minVertices : ℕ
-minVertices = 3
-
-abbrev pub maxVertices : ℕ
-maxVertices = 64
-
--- "the weight of a candidate or of a row is over 2,000,000,000"
-abbrev pub maxWeight : ℕ
-maxWeight = 2000000000
-
--- entry i of a list of candidates or rows
-abbrev pub entryAt : List (List ℕ) → ℕ → List ℕ
-entryAt l i = getD l i []
-
--- "as (a, b, c)"
-abbrev pub vertexA : List ℕ → ℕ
-vertexA t = getD t 0 0
-
-abbrev pub vertexB : List ℕ → ℕ
-vertexB t = getD t 1 0
-
-abbrev pub vertexC : List ℕ → ℕ
-vertexC t = getD t 2 0
-
--- "Rows (outer, inner, weight)"
-abbrev pub outer : List ℕ → ℕ
-outer r = getD r 0 0
-
-abbrev pub inner : List ℕ → ℕ
-inner r = getD r 1 0
-
-abbrev pub rowWeight : List ℕ → ℕ
-rowWeight r = getD r 2 0
+use Rattle.terms.specs.Limits.{minVertices, maxVertices, maxWeight}
+use Rattle.terms.specs.Entries.{entryAt, vertexA, vertexB, vertexC, outer, inner, rowWeight}
 
 -- 14: "n isn't 3 to 64"
 abbrev pub countFits : ℕ → Bool

@@ -6,19 +6,14 @@ mod weights;
 ghost use mathlib.Core.Path.{_≡_};
 ghost use Rattle.jobs.specs.Job.{countCode, listsCode, jobCode};
 
-// The fewest and the most vertices of a direct job.
-pub const MIN_VERTICES: usize = 3;
-
-pub const MAX_VERTICES: usize = 64;
-
 // 14, or 0 where it is not due.
 pub fn count_code(n: usize) -> u32
     ensures { λ r. ⌜ r ≡ countCode n ⌝ }
 {
-    if n < MIN_VERTICES {
+    if n < terms::MIN_VERTICES {
         return codes::VERTEX_COUNT;
     }
-    if MAX_VERTICES < n {
+    if terms::MAX_VERTICES < n {
         return codes::VERTEX_COUNT;
     }
     0

@@ -4,15 +4,13 @@ ghost use Prim.Native.Nat.{_≤_};
 ghost use lib.ListN.{length};
 ghost use Rattle.jobs.specs.Job.{weightsFit, rowWeightsFit};
 
-const MAX_WEIGHT: u32 = 2_000_000_000;
-
 // The first `count` places hold the weights of the candidates.
 pub fn weights_fit(weights: &[u32], count: usize) -> bool
     requires { ⌜ count ≤ length (now weights) ⌝ }
     ensures { λ r. ⌜ r ≡ weightsFit (now (weights .entry)) count ⌝ }
 {
     for i in 0..count {
-        if MAX_WEIGHT < weights[i] {
+        if terms::MAX_WEIGHT < weights[i] {
             return false;
         }
     }
@@ -24,7 +22,7 @@ pub fn row_weights_fit(rows: &[[u32; 3]]) -> bool
 {
     for i in 0..rows.len() {
         let row = rows[i];
-        if MAX_WEIGHT < row[2] {
+        if terms::MAX_WEIGHT < row[2] {
             return false;
         }
     }

@@ -9,6 +9,7 @@ use native.Mathlib.Nat.{eq-or-lt-of-le}
 use lib.ListN.{getD}
 use lib.Dec.{eqb, ltb}
 use borrow.Author.Tests.{eqb-true, eqb-false, ltb-true, ltb-false, lt-leb}
+use Rattle.terms.specs.Limits.{maxWeight}
 use Rattle.triangulation.specs.Triangulations.{Job, Valid, keep, upFrom, least, noLater, longEdge}
 use Rattle.triangulation.specs.Jobs.{Bounded, jobOf}
 use Rattle.triangulation.specs.Recursion.{addRow, join, bestUnder, bestFrom, costOf}
@@ -30,7 +31,7 @@ module _ (on : ℕ → Bool) (rk : ℕ → List ℕ) (r : ℕ → ℕ) where
     some : (x : ℕ) (l : List ℕ) → p .at < k → on (p .at) ≡ true → rk (p .at) ≡ x ∷ p .at ∷ l → p .cost ≡ x + r (p .at) → p .cost < 2 ^ 63
         → ((u : ℕ) → u < k → on u ≡ true → (y : ℕ) (m : List ℕ) → rk u ≡ y ∷ u ∷ m → (p .cost < y + r u) ⊎ ((p .cost ≡ y + r u) × (p .at ≤ u))) → Picked k p
 
-  module _ (d : ℕ → ℕ) (light : (u : ℕ) → r u ≤ 2000000000) where
+  module _ (d : ℕ → ℕ) (light : (u : ℕ) → r u ≤ maxWeight) where
     below-suc : (P : ℕ → Type 0) (k : ℕ) → ((u : ℕ) → u < k → P u) → P k → (u : ℕ) → u < suc k → P u
     below-suc P k h z u l = go (eqb u k) refl
       where

@@ -8,6 +8,7 @@ use native.Mathlib.Numerals.{add-one}
 use native.Mathlib.Nat.{eq-or-lt-of-le, le-refl}
 use lib.ListN.{length, getD, set, length-set, replicate, length-replicate}
 use lib.Seq.{getD-set-same, getD-set-other}
+use Rattle.terms.specs.Limits.{maxVertices}
 use Rattle.lists.specs.Lists.{filled}
 use Rattle.lists.proofs.Writing as W
 use Rattle.lists.proofs.Writing.{Writing}
@@ -69,7 +70,7 @@ module _ (job : Job) where
     pub writing : Writing total (pending stack height) before 0 out count
     pub whole : (k : ℕ) → k < height → Whole (at stack k)
     pub room : extent stack height ≤ 63
-    pub size : length stack ≡ 64
+    pub size : length stack ≡ maxVertices
 
 module _ (job : Job) (good : Valid job) (bound : Bounded job) where
   edge-some : (t i j : ℕ) → i < j → j < job .n → bestUnder job (job .n) t i j ≢ [] → costOf (bestUnder job (job .n) t i j) < 2 ^ 63
@@ -184,12 +185,12 @@ module _ (job : Job) (good : Valid job) (bound : Bounded job) where
               (eq-or-lt-of-le (let y : i ≤ suc k = omega arith in y))
 
   -- the loop's start, its turns and its end
-  pub emit-start : (p : Part) (before : List ℕ) → Whole job p → p .last ≤ 63 → length (listOf job p) ≤ length before → Emitting job (listOf job p) before (replicate 64 p) 1 0 before
+  pub emit-start : (p : Part) (before : List ℕ) → Whole job p → p .last < maxVertices → length (listOf job p) ≤ length before → Emitting job (listOf job p) before (replicate maxVertices p) 1 0 before
   emit-start p before w h r = record {
     writing = W.turn (sym (append-nil (listOf job p))) (W.start (listOf job p) before r);
-    whole = λ k l. subst (λ i. Whole job (at (replicate 64 p) i)) (let z : 0 ≡ k = omega arith in z) w;
+    whole = λ k l. subst (λ i. Whole job (at (replicate maxVertices p) i)) (let z : 0 ≡ k = omega arith in z) w;
     room = omega arith;
-    size = length-replicate 64 p;
+    size = length-replicate maxVertices p;
   }
 
   module _ {total before : List ℕ} (stack : List Part) (height count : ℕ) (out : List ℕ) (h : 0 < height) (e : Emitting job total before stack height count out) where

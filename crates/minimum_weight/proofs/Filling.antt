@@ -13,8 +13,10 @@ use borrow.Author.Tests.{leb-true, leb-false}
 use Rattle.triangulation.specs.Triangulations.{Job}
 use Rattle.triangulation.specs.Jobs.{jobOf}
 use Rattle.triangulation.specs.Recursion.{bestFrom, costOf}
-use Rattle.blocks.specs.Blocks.{vertexA, Starts}
-use Rattle.minimum_weight.specs.Tables.{WellFormed, Ready, ReadyAt, Filled, vertexB, vertexC}
+use Rattle.blocks.specs.Blocks.{Starts}
+use Rattle.terms.specs.Limits.{maxVertices}
+use Rattle.terms.specs.Entries.{entryAt, vertexA, vertexB, vertexC}
+use Rattle.minimum_weight.specs.Tables.{WellFormed, Ready, ReadyAt, Filled}
 
 -- one of two orders
 order : (x y : ℕ) → (x ≤ y) ⊎ (y < x)
@@ -59,15 +61,15 @@ module _ (n : ℕ) (candidates : List (List ℕ)) (weights : List ℕ) (rows : L
   abbrev jobHere : Job
   jobHere = jobOf n candidates weights rows
 
-  module _ (before work : List ℕ) (v t : ℕ) (hv : v < 64) (f : Filling jobHere before (getD starts v 0) (getD starts (v + 1) 0) t work) (h : t < getD starts (v + 1) 0) where
+  module _ (before work : List ℕ) (v t : ℕ) (hv : v < maxVertices) (f : Filling jobHere before (getD starts v 0) (getD starts (v + 1) 0) t work) (h : t < getD starts (v + 1) 0) where
     t-there : t < length candidates
     t-there = omega (arith, blocks .at (v + 1) (omega arith) .within)
 
-    first : v ≤ vertexA candidates t
+    first : v ≤ vertexA (entryAt candidates t)
     first = blocks .at v (omega arith) .above t (f .start) t-there
 
     -- (a, x, b) stands before (a, b, c) in its block
-    pub left-ready : ReadyAt jobHere work (vertexA candidates t) (vertexB candidates t)
+    pub left-ready : ReadyAt jobHere work (vertexA (entryAt candidates t)) (vertexB (entryAt candidates t))
     left-ready u l ea ec = f .ready u l (inr (low, high))
       where
         low : getD starts v 0 ≤ u
@@ -76,20 +78,20 @@ module _ (n : ℕ) (candidates : List (List ℕ)) (weights : List ℕ) (rows : L
         high : u < t
         high = ⊎-elim
             (λ (k : t ≤ u). absurd (⊎-elim
-            (λ q. omega (arith, ok .valid .bc u l, ap (vertexB candidates) q))
+            (λ q. omega (arith, ok .valid .bc u l, ap (λ k. vertexB (entryAt candidates k)) q))
             (λ q. omega (arith, ok .valid .bc u l, ok .ascending .b-up t u q l (sym ea)))
             (eq-or-lt-of-le k)))
             (λ k. k) (order t u)
 
     -- (b, x, c) stands in a later block
-    pub right-ready : ReadyAt jobHere work (vertexB candidates t) (vertexC candidates t)
+    pub right-ready : ReadyAt jobHere work (vertexB (entryAt candidates t)) (vertexC (entryAt candidates t))
     right-ready u l ea ec = f .ready u l (inl (⊎-elim (λ k. k)
         (λ (k : u < getD starts (v + 1) 0). absurd (omega (arith, first, ok .valid .ab t t-there, blocks .at (v + 1) (omega arith) .below u k)))
         (order (getD starts (v + 1) 0) u)))
 
   -- before the last block, and after the first
   pub fill-start : (work : List ℕ) → Filled jobHere work (getD starts n 0) work
-  fill-start work = record { long = refl; kept = refl; ready = λ u l k. absurd (omega (arith, blocks .at n (omega (arith, ok .bounded .n64)) .above u k l, ok .valid .ab u l, ok .valid .bc u l, ok .valid .cn u l)) }
+  fill-start work = record { long = refl; kept = refl; ready = λ u l k. absurd (omega (arith, blocks .at n (omega (arith, ok .bounded .few)) .above u k l, ok .valid .ab u l, ok .valid .bc u l, ok .valid .cn u l)) }
 
   pub fill-end : {before work : List ℕ} {v : ℕ} → v ≤ 0 → Filled jobHere before (getD starts v 0) work → Filled jobHere before 0 work
   fill-end {v = v} h f = record { long = f .long; kept = f .kept; ready = λ u l k. f .ready u l (⊎-elim (λ m. m) (λ (m : u < getD starts v 0). absurd (omega (arith, blocks .at v (omega arith) .below u m))) (order (getD starts v 0) u)) }

@@ -12,8 +12,10 @@ use lib.Dec.{ltb, eqb}
 use borrow.Author.Tests.{lt-ltb, le-ltb, ltb-true, eq-eqb, ne-eqb}
 use Rattle.lists.proofs.Choice.{yes, no}
 use Rattle.minimum_weight.specs.declared.choice.Pick.{Pick}
-use Rattle.blocks.specs.Blocks.{vertexA, Starts}
-use Rattle.minimum_weight.specs.Tables.{betterOf, pickBelow, vertexC, onEdge}
+use Rattle.blocks.specs.Blocks.{Starts}
+use Rattle.terms.specs.Limits.{maxVertices}
+use Rattle.terms.specs.Entries.{entryAt, vertexA, vertexC}
+use Rattle.minimum_weight.specs.Tables.{betterOf, pickBelow, onEdge}
 use Rattle.minimum_weight.proofs.Bools.{and-yes, and-no, and-last, and-right}
 
 module _ (p : Pick) (u : ℕ) where
@@ -58,21 +60,21 @@ pick-skip on d w x (suc y) h f = ⊎-elim (λ e. ap (pickBelow on d w) (sym e))
     (λ (l : x < suc y). sym (off-edge (pickBelow on d w y) y (on y) (d y) (w y) (f y (omega arith) (omega arith))) ∙ pick-skip on d w x y (omega arith) (λ u a b. f u a (omega arith)))
     (eq-or-lt-of-le h)
 
-module _ (candidates : List (List ℕ)) (starts : List ℕ) (i j : ℕ) (d w : ℕ → ℕ) (b : Starts candidates starts) (h : i < 64) where
+module _ (candidates : List (List ℕ)) (starts : List ℕ) (i j : ℕ) (d w : ℕ → ℕ) (b : Starts candidates starts) (h : i < maxVertices) where
   abbrev pickOf : ℕ → Pick
   pickOf = pickBelow (onEdge candidates i j) d w
 
   -- only candidates of the block of i are on an edge (i, j)
   pub block-start : record { cost = 2 ^ 63; at = 0 } ≡ pickOf (getD starts i 0)
   block-start = sym (pick-skip (onEdge candidates i j) d w 0 (getD starts i 0) (omega arith)
-      (λ u x y. and-no (eqb (vertexC candidates u) j) (ne-eqb (vertexA candidates u) i (λ e. omega (arith, b .at i (omega arith) .below u y)))))
+      (λ u x y. and-no (eqb (vertexC (entryAt candidates u)) j) (ne-eqb (vertexA (entryAt candidates u)) i (λ e. omega (arith, b .at i (omega arith) .below u y)))))
 
-  pub block-next : (p : Pick) (u : ℕ) {q : Pick} → getD starts i 0 ≤ u → u < getD starts (i + 1) 0 → p ≡ pickOf u → q ≡ betterOf p u (eqb (vertexC candidates u) j) (d u) (w u) → q ≡ pickOf (u + 1)
+  pub block-next : (p : Pick) (u : ℕ) {q : Pick} → getD starts i 0 ≤ u → u < getD starts (i + 1) 0 → p ≡ pickOf u → q ≡ betterOf p u (eqb (vertexC (entryAt candidates u)) j) (d u) (w u) → q ≡ pickOf (u + 1)
   block-next p u l m e f =
-      let a : vertexA candidates u ≡ i = le-antisymm (omega (arith, b .at (i + 1) (omega arith) .below u m)) (b .at i (omega arith) .above u l (omega (arith, b .at (i + 1) (omega arith) .within))) in
-      f ∙ ap (λ x. betterOf x u (eqb (vertexC candidates u) j) (d u) (w u)) e
-      ∙ ap (λ on. betterOf (pickOf u) u on (d u) (w u)) (sym (and-yes (eqb (vertexC candidates u) j) (eq-eqb (vertexA candidates u) i a))) ∙ ap pickOf (sym (add-one u))
+      let a : vertexA (entryAt candidates u) ≡ i = le-antisymm (omega (arith, b .at (i + 1) (omega arith) .below u m)) (b .at i (omega arith) .above u l (omega (arith, b .at (i + 1) (omega arith) .within))) in
+      f ∙ ap (λ x. betterOf x u (eqb (vertexC (entryAt candidates u)) j) (d u) (w u)) e
+      ∙ ap (λ on. betterOf (pickOf u) u on (d u) (w u)) (sym (and-yes (eqb (vertexC (entryAt candidates u)) j) (eq-eqb (vertexA (entryAt candidates u)) i a))) ∙ ap pickOf (sym (add-one u))
 
   pub block-end : (p : Pick) (u : ℕ) → u ≤ getD starts (i + 1) 0 → getD starts (i + 1) 0 ≤ u → p ≡ pickOf u → p ≡ pickOf (length candidates)
   block-end p u l m e = e ∙ sym (pick-skip (onEdge candidates i j) d w u (length candidates) (omega (arith, b .at (i + 1) (omega arith) .within))
-      (λ v x y. and-no (eqb (vertexC candidates v) j) (ne-eqb (vertexA candidates v) i (λ z. omega (arith, b .at (i + 1) (omega arith) .above v (omega arith) y)))))
+      (λ v x y. and-no (eqb (vertexC (entryAt candidates v)) j) (ne-eqb (vertexA (entryAt candidates v)) i (λ z. omega (arith, b .at (i + 1) (omega arith) .above v (omega arith) y)))))

@@ -10,8 +10,9 @@ use lib.ListN.{length, drop, getD, length-drop}
 use lib.Seq.{drop-cons, drop-length, getD-drop}
 use lib.Dec.{eqb, ltb}
 use borrow.Author.Tests.{eqb-true, eqb-false, eq-eqb, ltb-true, ltb-false, lt-ltb}
+use Rattle.terms.specs.Entries.{entryAt, outer, inner, rowWeight}
 use Rattle.lists.proofs.Choice.{no, not-true-false, true-not-false}
-use Rattle.triangulation.specs.Jobs.{rowWeight}
+use Rattle.triangulation.specs.Jobs.{pairWeight}
 use Rattle.minimum_weight.specs.Tables.{RowsAscend, Cut, rowIsBefore, rowOrZero}
 
 -- (x, y) is before (o, i), or is not
@@ -49,32 +50,32 @@ names-false x y o i h = go (eqb x o) (eqb y i) refl refl
 
 module _ (o i : ℕ) where
   -- rows that are not (o, i) are passed over
-  pub skip : (rows : List (List ℕ)) (low : ℕ) → ((k : ℕ) → k < low → (eqb (getD (getD rows k []) 0 0) o && eqb (getD (getD rows k []) 1 0) i) ≡ false)
-      → rowWeight rows o i ≡ rowWeight (drop low rows) o i
+  pub skip : (rows : List (List ℕ)) (low : ℕ) → ((k : ℕ) → k < low → (eqb (outer (entryAt rows k)) o && eqb (inner (entryAt rows k)) i) ≡ false)
+      → pairWeight rows o i ≡ pairWeight (drop low rows) o i
   skip rows zero h = refl
   skip [] (suc low) h = refl
   skip (r ∷ rows) (suc low) h = no _ _ (h 0 (omega arith)) ∙ skip rows low (λ k l. h (suc k) (omega arith))
 
-  pub none : (rows : List (List ℕ)) → ((k : ℕ) → k < length rows → (eqb (getD (getD rows k []) 0 0) o && eqb (getD (getD rows k []) 1 0) i) ≡ false) → rowWeight rows o i ≡ 0
-  none rows h = skip rows (length rows) h ∙ ap (λ r. rowWeight r o i) (drop-length rows)
+  pub none : (rows : List (List ℕ)) → ((k : ℕ) → k < length rows → (eqb (outer (entryAt rows k)) o && eqb (inner (entryAt rows k)) i) ≡ false) → pairWeight rows o i ≡ 0
+  none rows h = skip rows (length rows) h ∙ ap (λ r. pairWeight r o i) (drop-length rows)
 
   module _ (rows : List (List ℕ)) where
-    outer : ℕ → ℕ
-    outer k = getD (getD rows k []) 0 0
+    outerAt : ℕ → ℕ
+    outerAt k = outer (entryAt rows k)
 
-    inner : ℕ → ℕ
-    inner k = getD (getD rows k []) 1 0
+    innerAt : ℕ → ℕ
+    innerAt k = inner (entryAt rows k)
 
     pub cut-start : Cut rows o i 0 (length rows)
     cut-start = record { order = omega arith; within = omega arith; left = λ k h. absurd (omega arith); right = λ k h l. absurd (omega arith) }
 
     module _ (sorted : RowsAscend rows) where
-      before-trans : (k l : ℕ) → k < l → l < length rows → rowIsBefore (getD rows l []) o i ≡ true → rowIsBefore (getD rows k []) o i ≡ true
-      unfolding outer inner
-      before-trans k l h m e = is-before (outer k) (inner k) o i
-          (go (before-true (outer k) (inner k) (outer l) (inner l) (sorted .up k l h m)) (before-true (outer l) (inner l) o i e))
+      before-trans : (k l : ℕ) → k < l → l < length rows → rowIsBefore (getD rows l []) o i ≡ true → rowIsBefore (entryAt rows k) o i ≡ true
+      unfolding outerAt innerAt
+      before-trans k l h m e = is-before (outerAt k) (innerAt k) o i
+          (go (before-true (outerAt k) (innerAt k) (outerAt l) (innerAt l) (sorted .up k l h m)) (before-true (outerAt l) (innerAt l) o i e))
         where
-          go : (outer k < outer l) ⊎ ((outer k ≡ outer l) × (inner k < inner l)) → (outer l < o) ⊎ ((outer l ≡ o) × (inner l < i)) → (outer k < o) ⊎ ((outer k ≡ o) × (inner k < i))
+          go : (outerAt k < outerAt l) ⊎ ((outerAt k ≡ outerAt l) × (innerAt k < innerAt l)) → (outerAt l < o) ⊎ ((outerAt l ≡ o) × (innerAt l < i)) → (outerAt k < o) ⊎ ((outerAt k ≡ o) × (innerAt k < i))
           go (inl a) (inl b) = inl (omega arith)
           go (inl a) (inr b) = inl (omega arith)
           go (inr a) (inl b) = inl (omega arith)
@@ -96,21 +97,21 @@ module _ (o i : ℕ) where
         right = λ k m n. ⊎-elim (λ q. rw (← q) e) (λ q. not-true-false _ (λ t. true-not-false (before-trans middle k q n t) e)) (eq-or-lt-of-le m);
       }
 
-      before-names : (k : ℕ) → rowIsBefore (getD rows k []) o i ≡ true → (eqb (outer k) o && eqb (inner k) i) ≡ false
-      unfolding outer inner
-      before-names k e = names-false (outer k) (inner k) o i (λ p q. ⊎-elim (λ h. omega arith) (λ h. omega arith) (before-true (outer k) (inner k) o i e))
+      before-names : (k : ℕ) → rowIsBefore (entryAt rows k) o i ≡ true → (eqb (outerAt k) o && eqb (innerAt k) i) ≡ false
+      unfolding outerAt innerAt
+      before-names k e = names-false (outerAt k) (innerAt k) o i (λ p q. ⊎-elim (λ h. omega arith) (λ h. omega arith) (before-true (outerAt k) (innerAt k) o i e))
 
-      pub cut-end : {low high : ℕ} → Cut rows o i low high → high ≤ low → low < length rows → rowOrZero (getD rows low []) o i ≡ rowWeight rows o i
-      unfolding outer inner
+      pub cut-end : {low high : ℕ} → Cut rows o i low high → high ≤ low → low < length rows → rowOrZero (entryAt rows low) o i ≡ pairWeight rows o i
+      unfolding outerAt innerAt
       cut-end {low} {high} c h l = sym (
           skip rows low (λ k m. before-names k (c .left k m))
-          ∙ ap (λ r. rowWeight r o i) (drop-cons rows low [] l)
-          ∙ ap (cond (eqb (outer low) o && eqb (inner low) i) (getD (getD rows low []) 2 0)) (none (drop (suc low) rows) after))
+          ∙ ap (λ r. pairWeight r o i) (drop-cons rows low [] l)
+          ∙ ap (cond (eqb (outerAt low) o && eqb (innerAt low) i) (rowWeight (entryAt rows low))) (none (drop (suc low) rows) after))
         where
-          later : (k : ℕ) → low < k → k < length rows → (eqb (outer k) o && eqb (inner k) i) ≡ false
-          later k a b = names-false (outer k) (inner k) o i (λ p q. go p q (before-true (outer low) (inner low) (outer k) (inner k) (sorted .up low k a b)) (before-false (outer low) (inner low) o i (c .right low h l)))
+          later : (k : ℕ) → low < k → k < length rows → (eqb (outerAt k) o && eqb (innerAt k) i) ≡ false
+          later k a b = names-false (outerAt k) (innerAt k) o i (λ p q. go p q (before-true (outerAt low) (innerAt low) (outerAt k) (innerAt k) (sorted .up low k a b)) (before-false (outerAt low) (innerAt low) o i (c .right low h l)))
             where
-              go : outer k ≡ o → inner k ≡ i → (outer low < outer k) ⊎ ((outer low ≡ outer k) × (inner low < inner k)) → (o < outer low) ⊎ ((outer low ≡ o) × (i ≤ inner low)) → ⊥
+              go : outerAt k ≡ o → innerAt k ≡ i → (outerAt low < outerAt k) ⊎ ((outerAt low ≡ outerAt k) × (innerAt low < innerAt k)) → (o < outerAt low) ⊎ ((outerAt low ≡ o) × (i ≤ innerAt low)) → ⊥
               go p q (inl u) (inl v) = omega arith
               go p q (inl u) (inr v) = omega arith
               go p q (inr u) (inl v) = omega arith
@@ -123,6 +124,6 @@ module _ (o i : ℕ) where
       pub cut-meet : {low high : ℕ} → Cut rows o i low high → high ≤ low → Cut rows o i low low
       cut-meet c h = record { order = omega arith; within = omega (arith, c .order, c .within); left = c .left; right = λ k m n. c .right k (omega arith) n }
 
-      pub cut-out : {low high : ℕ} → Cut rows o i low high → length rows ≤ low → 0 ≡ rowWeight rows o i
-      unfolding outer inner
+      pub cut-out : {low high : ℕ} → Cut rows o i low high → length rows ≤ low → 0 ≡ pairWeight rows o i
+      unfolding outerAt innerAt
       cut-out c h = sym (none rows (λ k m. before-names k (c .left k (omega arith))))

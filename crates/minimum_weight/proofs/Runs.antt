@@ -8,33 +8,34 @@ use native.Mathlib.Omega.{arith}
 use lib.ListN.{length, take, drop, getD, length-drop}
 use lib.Seq.{getD-take, getD-drop, length-take-le}
 use lib.Dec.{eqb}
-use Rattle.triangulation.specs.Jobs.{rowWeight, jobOf}
+use Rattle.terms.specs.Entries.{entryAt, outer, inner, rowWeight}
+use Rattle.triangulation.specs.Jobs.{pairWeight, jobOf}
 use Rattle.minimum_weight.specs.Tables.{RowsAscend, Cut, Run, WellFormed, ReadyAt, Found, rowIsBefore, pickAtEdge, pickUnder, pickBelow, onEdge}
 use Rattle.minimum_weight.specs.declared.choice.Pick.{Pick}
 use Rattle.minimum_weight.proofs.Edges.{found-edge}
 use Rattle.minimum_weight.proofs.RowSearch.{before-true, before-false, is-before, names-false, skip, none}
 
 -- the rows of later outers do not matter
-front : (o i m : ℕ) (rows : List (List ℕ)) → ((k : ℕ) → m ≤ k → k < length rows → (eqb (getD (getD rows k []) 0 0) o && eqb (getD (getD rows k []) 1 0) i) ≡ false)
-    → rowWeight (take m rows) o i ≡ rowWeight rows o i
+front : (o i m : ℕ) (rows : List (List ℕ)) → ((k : ℕ) → m ≤ k → k < length rows → (eqb (outer (entryAt rows k)) o && eqb (inner (entryAt rows k)) i) ≡ false)
+    → pairWeight (take m rows) o i ≡ pairWeight rows o i
 front o i zero rows h = sym (none o i rows (λ k l. h k (omega arith) l))
 front o i (suc m) [] h = refl
-front o i (suc m) (r ∷ rows) h = ap (cond (eqb (getD r 0 0) o && eqb (getD r 1 0) i) (getD r 2 0)) (front o i m rows (λ k a b. h (suc k) (omega arith) (omega arith)))
+front o i (suc m) (r ∷ rows) h = ap (cond (eqb (outer r) o && eqb (inner r) i) (rowWeight r)) (front o i m rows (λ k a b. h (suc k) (omega arith) (omega arith)))
 
 module _ (rows : List (List ℕ)) (t k : ℕ) where
   -- a row is before (t, 0) where its outer is below t
-  below : rowIsBefore (getD rows k []) t 0 ≡ true → getD (getD rows k []) 0 0 < t
-  below e = ⊎-elim (λ h. h) (λ h. absurd (omega arith)) (before-true (getD (getD rows k []) 0 0) (getD (getD rows k []) 1 0) t 0 e)
+  below : rowIsBefore (getD rows k []) t 0 ≡ true → outer (entryAt rows k) < t
+  below e = ⊎-elim (λ h. h) (λ h. absurd (omega arith)) (before-true (outer (entryAt rows k)) (inner (entryAt rows k)) t 0 e)
 
-  above : rowIsBefore (getD rows k []) t 0 ≡ false → t ≤ getD (getD rows k []) 0 0
-  above e = ⊎-elim (λ h. omega arith) (λ h. omega arith) (before-false (getD (getD rows k []) 0 0) (getD (getD rows k []) 1 0) t 0 e)
+  above : rowIsBefore (getD rows k []) t 0 ≡ false → t ≤ outer (entryAt rows k)
+  above e = ⊎-elim (λ h. omega arith) (λ h. omega arith) (before-false (outer (entryAt rows k)) (inner (entryAt rows k)) t 0 e)
 
 -- the rows that are before (t, 0) are before (t + 1, 0)
 pub run-start : {rows : List (List ℕ)} {t start : ℕ} → Cut rows t 0 start start → Cut rows (t + 1) 0 start (length rows)
 run-start {rows} {t} c = record {
   order = c .within;
   within = omega arith;
-  left = λ k h. is-before (getD (getD rows k []) 0 0) (getD (getD rows k []) 1 0) (t + 1) 0 (inl (let l = below rows t k (c .left k h) in omega arith));
+  left = λ k h. is-before (outer (entryAt rows k)) (inner (entryAt rows k)) (t + 1) 0 (inl (let l = below rows t k (c .left k h) in omega arith));
   right = λ k h l. absurd (omega arith);
 }
 
@@ -57,12 +58,12 @@ module _ {rows : List (List ℕ)} {t first last : ℕ} (sorted : RowsAscend rows
     same = λ u. front t u (last - first) (drop first rows) (λ k h l. after u k h (omega (arith, length-drop first rows))) ∙ sym (skip t u rows first (λ k h. names-false _ _ t u (λ p q. let l = below rows t k (a .left k h) in omega arith)));
   }
     where
-      after : (u k : ℕ) → last - first ≤ k → k < length rows - first → (eqb (getD (getD (drop first rows) k []) 0 0) t && eqb (getD (getD (drop first rows) k []) 1 0) u) ≡ false
+      after : (u k : ℕ) → last - first ≤ k → k < length rows - first → (eqb (outer (entryAt (drop first rows) k)) t && eqb (inner (entryAt (drop first rows) k)) u) ≡ false
       after u k h l = rw (getD-drop first rows k []) (names-false _ _ t u (λ p q. let g = above rows (t + 1) (first + k) (b .right (first + k) (omega arith) (omega arith)) in omega arith))
 
 -- what is picked depends on a run alone
 module _ {rows run : List (List ℕ)} {t : ℕ} (r : Run rows t run) (candidates : List (List ℕ)) (work : List ℕ) (i j : ℕ) where
-  pick-same : (k : ℕ) → pickBelow (onEdge candidates i j) (λ k. getD work k 0) (rowWeight run t) k ≡ pickBelow (onEdge candidates i j) (λ k. getD work k 0) (rowWeight rows t) k
+  pick-same : (k : ℕ) → pickBelow (onEdge candidates i j) (λ k. getD work k 0) (pairWeight run t) k ≡ pickBelow (onEdge candidates i j) (λ k. getD work k 0) (pairWeight rows t) k
   pick-same zero = refl
   pick-same (suc k) = rw (pick-same k, r .same k) refl
 

@@ -7,45 +7,40 @@ use mathlib.Core.List.{List, []}
 use lib.ListN.{getD, length, drop}
 use lib.Dec.{eqb, ltb, leb}
 use Rattle.minimum_weight.specs.declared.choice.Pick.{Pick}
-use Rattle.blocks.specs.Blocks.{vertexA, ByFirst}
+use Rattle.terms.specs.Entries.{entryAt, vertexA, vertexB, vertexC, outer, inner, rowWeight}
+use Rattle.blocks.specs.Blocks.{ByFirst}
 use Rattle.triangulation.specs.Triangulations.{Job, Valid}
-use Rattle.triangulation.specs.Jobs.{Bounded, rowWeight, jobOf}
+use Rattle.triangulation.specs.Jobs.{Bounded, pairWeight, jobOf}
 use Rattle.triangulation.specs.Recursion.{addRow, bestUnder, bestFrom, costOf}
-
-abbrev pub vertexB : List (List ℕ) → ℕ → ℕ
-vertexB candidates k = getD (getD candidates k []) 1 0
-
-abbrev pub vertexC : List (List ℕ) → ℕ → ℕ
-vertexC candidates k = getD (getD candidates k []) 2 0
 
 -- candidates ascend by a, then b
 pub record Ascending (candidates : List (List ℕ)) : Type 0 where
   pub by-first : ByFirst candidates
-  pub b-up : (k l : ℕ) → k < l → l < length candidates → vertexA candidates k ≡ vertexA candidates l → vertexB candidates k ≤ vertexB candidates l
+  pub b-up : (k l : ℕ) → k < l → l < length candidates → vertexA (entryAt candidates k) ≡ vertexA (entryAt candidates l) → vertexB (entryAt candidates k) ≤ vertexB (entryAt candidates l)
 
 -- a row is before (o, i)
 abbrev pub rowIsBefore : List ℕ → ℕ → ℕ → Bool
-rowIsBefore r o i = ltb (getD r 0 0) o || eqb (getD r 0 0) o && ltb (getD r 1 0) i
+rowIsBefore r o i = ltb (outer r) o || eqb (outer r) o && ltb (inner r) i
 
 -- a row's weight where it is the row (o, i), else 0
 abbrev pub rowOrZero : List ℕ → ℕ → ℕ → ℕ
-rowOrZero r o i = cond (eqb (getD r 0 0) o && eqb (getD r 1 0) i) (getD r 2 0) 0
+rowOrZero r o i = cond (eqb (outer r) o && eqb (inner r) i) (rowWeight r) 0
 
 -- rows ascend by outer, then inner
 pub record RowsAscend (rows : List (List ℕ)) : Type 0 where
-  pub up : (k l : ℕ) → k < l → l < length rows → rowIsBefore (getD rows k []) (getD (getD rows l []) 0 0) (getD (getD rows l []) 1 0) ≡ true
+  pub up : (k l : ℕ) → k < l → l < length rows → rowIsBefore (entryAt rows k) (outer (entryAt rows l)) (inner (entryAt rows l)) ≡ true
 
 -- the rows before `low` are before (o, i), those from `high` on are not
 pub record Cut (rows : List (List ℕ)) (o i low high : ℕ) : Type 0 where
   pub order : low ≤ high
   pub within : high ≤ length rows
-  pub left : (k : ℕ) → k < low → rowIsBefore (getD rows k []) o i ≡ true
-  pub right : (k : ℕ) → high ≤ k → k < length rows → rowIsBefore (getD rows k []) o i ≡ false
+  pub left : (k : ℕ) → k < low → rowIsBefore (entryAt rows k) o i ≡ true
+  pub right : (k : ℕ) → high ≤ k → k < length rows → rowIsBefore (entryAt rows k) o i ≡ false
 
 -- `run` has the rows of outer t
 pub record Run (rows : List (List ℕ)) (t : ℕ) (run : List (List ℕ)) : Type 0 where
   pub ascends : RowsAscend run
-  pub same : (u : ℕ) → rowWeight run t u ≡ rowWeight rows t u
+  pub same : (u : ℕ) → pairWeight run t u ≡ pairWeight rows t u
 
 -- p, or candidate u where it is on the edge and its total with the row's weight is lower: d is its own total, w the row's weight
 unfoldable pub betterOf : Pick → ℕ → Bool → ℕ → ℕ → Pick
@@ -58,11 +53,11 @@ pickBelow on d w (suc k) = betterOf (pickBelow on d w k) k (on k) (d k) (w k)
 
 -- (i, j) is candidate k's edge (a, c)
 abbrev pub onEdge : List (List ℕ) → ℕ → ℕ → ℕ → Bool
-onEdge candidates i j k = eqb (vertexA candidates k) i && eqb (vertexC candidates k) j
+onEdge candidates i j k = eqb (vertexA (entryAt candidates k)) i && eqb (vertexC (entryAt candidates k)) j
 
 -- the best candidate (i, x, j) under t
 unfoldable pub pickUnder : List (List ℕ) → List ℕ → List (List ℕ) → ℕ → ℕ → ℕ → Pick
-pickUnder candidates work rows t i j = pickBelow (onEdge candidates i j) (λ k. getD work k 0) (rowWeight rows t) (length candidates)
+pickUnder candidates work rows t i j = pickBelow (onEdge candidates i j) (λ k. getD work k 0) (pairWeight rows t) (length candidates)
 
 -- the same of any edge of t: nothing beneath a rim edge (i, i + 1)
 abbrev pub pickAtEdge : List (List ℕ) → List ℕ → List (List ℕ) → ℕ → ℕ → ℕ → Pick
@@ -85,7 +80,7 @@ pub record WellFormed (n : ℕ) (candidates : List (List ℕ)) (weights : List �
   pub few : length candidates ≤ 65536
   pub rows-ascend : RowsAscend rows
   -- no row has the first number after the candidates for its outer
-  pub no-row : (u : ℕ) → rowWeight rows (length candidates) u ≡ 0
+  pub no-row : (u : ℕ) → pairWeight rows (length candidates) u ≡ 0
 
 -- candidate u's place of the work table has the least total of a part that starts with u
 abbrev pub Ready : Job → List ℕ → ℕ → Type 0

@@ -5,9 +5,11 @@ ghost use mathlib.Core.Path.{_≡_};
 ghost use Prim.Native.Nat.{_^_, _<_, _≤_};
 ghost use lib.ListN.{length, getD};
 ghost use lib.Dec.{eqb};
-ghost use Rattle.triangulation.specs.Jobs.{rowWeight};
+ghost use Rattle.triangulation.specs.Jobs.{pairWeight};
 ghost use Rattle.blocks.specs.Blocks.{Starts};
-ghost use Rattle.minimum_weight.specs.Tables.{RowsAscend, vertexC, betterOf, pickUnder, pickAtEdge};
+ghost use Rattle.terms.specs.Limits.{maxVertices};
+ghost use Rattle.terms.specs.Entries.{entryAt, vertexC};
+ghost use Rattle.minimum_weight.specs.Tables.{RowsAscend, betterOf, pickUnder, pickAtEdge};
 
 // A total and the candidate that starts it.
 pub struct Pick {
@@ -27,7 +29,7 @@ fn better(
     u: usize,
 ) -> Pick
     requires { ⌜ (u < length (now candidates)) × (length (now candidates) ≤ length (now work)) × RowsAscend (now rows) × (p .cost ≤ 2 ^ 63) ⌝ }
-    ensures { λ r. ⌜ r ≡ betterOf p u (eqb (vertexC (now (candidates .entry)) u) j) (getD (now (work .entry)) u 0) (rowWeight (now (rows .entry)) t u) ⌝ }
+    ensures { λ r. ⌜ r ≡ betterOf p u (eqb (vertexC (entryAt (now (candidates .entry)) u)) j) (getD (now (work .entry)) u 0) (pairWeight (now (rows .entry)) t u) ⌝ }
 {
     let triangle = candidates[u];
     if triangle[2] != j {
@@ -47,7 +49,7 @@ fn better(
 
 // The best candidate (i, x, j) under t, the first of equal ones: all of them stand in the block of i.
 fn best_in_block(
-    starts: &[usize; 65],
+    starts: &[usize; blocks::STARTS],
     candidates: &[[u8; 3]],
     work: &[u64],
     rows: &[[u32; 3]],
@@ -55,7 +57,7 @@ fn best_in_block(
     i: u8,
     j: u8,
 ) -> Pick
-    requires { ⌜ Starts (now candidates) (now starts) × RowsAscend (now rows) × (length (now candidates) ≤ length (now work)) × (i < 64) ⌝ }
+    requires { ⌜ Starts (now candidates) (now starts) × RowsAscend (now rows) × (length (now candidates) ≤ length (now work)) × (i < maxVertices) ⌝ }
     ensures { λ r. ⌜ r ≡ pickUnder (now (candidates .entry)) (now (work .entry)) (now (rows .entry)) t i j ⌝ }
 {
     let block = i as usize;
@@ -71,7 +73,7 @@ fn best_in_block(
 
 // The best beneath the edge (i, j) of t: nothing beneath a rim edge (i, i + 1).
 pub fn best_under(
-    starts: &[usize; 65],
+    starts: &[usize; blocks::STARTS],
     candidates: &[[u8; 3]],
     work: &[u64],
     rows: &[[u32; 3]],
@@ -79,7 +81,7 @@ pub fn best_under(
     i: u8,
     j: u8,
 ) -> Pick
-    requires { ⌜ Starts (now candidates) (now starts) × RowsAscend (now rows) × (length (now candidates) ≤ length (now work)) × (i < j) × (j < 64) ⌝ }
+    requires { ⌜ Starts (now candidates) (now starts) × RowsAscend (now rows) × (length (now candidates) ≤ length (now work)) × (i < j) × (j < maxVertices) ⌝ }
     ensures { λ r. ⌜ r ≡ pickAtEdge (now (candidates .entry)) (now (work .entry)) (now (rows .entry)) t i j ⌝ }
 {
     if j - i == 1 {

@@ -10,8 +10,10 @@ ghost use Prim.Native.Nat.{_+_, _<_, _≤_};
 ghost use lib.ListN.{length, getD};
 ghost use Rattle.triangulation.specs.Jobs.{jobOf};
 ghost use Rattle.triangulation.specs.Recursion.{costOf, bestFrom};
-ghost use Rattle.blocks.specs.Blocks.{vertexA, Starts};
-ghost use Rattle.minimum_weight.specs.Tables.{WellFormed, Cost, Run, joinCost, vertexB, vertexC, ReadyAt, Filled};
+ghost use Rattle.blocks.specs.Blocks.{Starts};
+ghost use Rattle.terms.specs.Limits.{maxVertices};
+ghost use Rattle.terms.specs.Entries.{entryAt, vertexA, vertexB, vertexC};
+ghost use Rattle.minimum_weight.specs.Tables.{WellFormed, Cost, Run, joinCost, ReadyAt, Filled};
 
 // The total of a triangle of weight w over parts of totals left and right.
 fn join_cost(w: u32, left: u64, right: u64) -> u64
@@ -30,7 +32,7 @@ fn join_cost(w: u32, left: u64, right: u64) -> u64
 // The least total of a part that starts with candidate t, by the rows of outer t. (n and rows are for the contract alone.)
 fn cost_of(
     n: usize,
-    starts: &[usize; 65],
+    starts: &[usize; blocks::STARTS],
     candidates: &[[u8; 3]],
     weights: &[u32],
     rows: &[[u32; 3]],
@@ -39,7 +41,7 @@ fn cost_of(
     t: usize,
 ) -> u64
     requires { ⌜ WellFormed n (now candidates) (now weights) (now rows) × Starts (now candidates) (now starts) × (length (now candidates) ≤ length (now work)) × (t < length (now candidates)) × Run (now rows) t (now run) ⌝ }
-    requires { ⌜ ReadyAt (jobOf n (now candidates) (now weights) (now rows)) (now work) (vertexA (now candidates) t) (vertexB (now candidates) t) × ReadyAt (jobOf n (now candidates) (now weights) (now rows)) (now work) (vertexB (now candidates) t) (vertexC (now candidates) t) ⌝ }
+    requires { ⌜ ReadyAt (jobOf n (now candidates) (now weights) (now rows)) (now work) (vertexA (entryAt (now candidates) t)) (vertexB (entryAt (now candidates) t)) × ReadyAt (jobOf n (now candidates) (now weights) (now rows)) (now work) (vertexB (entryAt (now candidates) t)) (vertexC (entryAt (now candidates) t)) ⌝ }
     ensures { λ r. ⌜ r ≡ costOf (bestFrom (jobOf n (now (candidates .entry)) (now (weights .entry)) (now (rows .entry))) n t) ⌝ }
 {
     let triangle = candidates[t];
@@ -54,14 +56,14 @@ fn cost_of(
 // Fills the places of the candidates whose first vertex is v, where those of later ones are filled.
 fn fill_block(
     n: usize,
-    starts: &[usize; 65],
+    starts: &[usize; blocks::STARTS],
     candidates: &[[u8; 3]],
     weights: &[u32],
     rows: &[[u32; 3]],
     work: &mut [u64],
     v: usize,
 )
-    requires { ⌜ WellFormed n (now candidates) (now weights) (now rows) × Starts (now candidates) (now starts) × (length (now candidates) ≤ length (now work)) × (v < 64) ⌝ }
+    requires { ⌜ WellFormed n (now candidates) (now weights) (now rows) × Starts (now candidates) (now starts) × (length (now candidates) ≤ length (now work)) × (v < maxVertices) ⌝ }
     requires { ⌜ Filled (jobOf n (now candidates) (now weights) (now rows)) (now work) (getD (now starts) (v + 1) 0) (now work) ⌝ }
     ensures { λ _. ⌜ Filled (jobOf n (now (candidates .entry)) (now (weights .entry)) (now (rows .entry))) (now (work .entry)) (getD (now (starts .entry)) v 0) (now (work .exit)) ⌝ }
 {
@@ -81,7 +83,7 @@ fn fill_block(
 // Fills the place of every candidate.
 pub fn fill(
     n: usize,
-    starts: &[usize; 65],
+    starts: &[usize; blocks::STARTS],
     candidates: &[[u8; 3]],
     weights: &[u32],
     rows: &[[u32; 3]],

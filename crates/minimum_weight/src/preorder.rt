@@ -19,7 +19,7 @@ pub struct Part {
 // Writes the triangles of the whole polygon's best triangulation, where there is one. (weights is for the contract alone.)
 pub fn write_preorder(
     n: usize,
-    starts: &[usize; 65],
+    starts: &[usize; blocks::STARTS],
     candidates: &[[u8; 3]],
     weights: &[u32],
     rows: &[[u32; 3]],
@@ -36,7 +36,7 @@ pub fn write_preorder(
         first: 0,
         last,
     };
-    let mut stack = [whole; 64];
+    let mut stack = [whole; terms::MAX_VERTICES];
     let mut height: usize = 1;
     let mut count: usize = 0;
     while 0 < height {

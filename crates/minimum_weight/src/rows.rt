@@ -1,7 +1,7 @@
 // Rows found by bisection: they ascend by outer, then inner.
 ghost use mathlib.Core.Path.{_≡_};
 ghost use Prim.Native.Nat.{_+_, _<_, _≤_};
-ghost use Rattle.triangulation.specs.Jobs.{rowWeight};
+ghost use Rattle.triangulation.specs.Jobs.{pairWeight};
 ghost use Rattle.minimum_weight.specs.Tables.{RowsAscend, rowIsBefore, rowOrZero, Cut};
 
 // The row is before (outer, inner).
@@ -71,7 +71,7 @@ pub fn run_end(rows: &[[u32; 3]], start: usize, outer: usize) -> usize
 // The weight of the row (outer, inner), or 0 where there is none.
 pub fn row_weight(rows: &[[u32; 3]], outer: usize, inner: usize) -> u32
     requires { ⌜ RowsAscend (now rows) ⌝ }
-    ensures { λ r. ⌜ r ≡ rowWeight (now (rows .entry)) outer inner ⌝ }
+    ensures { λ r. ⌜ r ≡ pairWeight (now (rows .entry)) outer inner ⌝ }
 {
     let at = lower_bound(rows, outer, inner);
     if at < rows.len() {

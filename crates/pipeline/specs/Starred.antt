@@ -3,6 +3,7 @@ use mathlib.Core.List.{List, [], _∷_, _++_}
 use Prim.Native.Nat.{ℕ}
 use lib.IntN.{pos, negsuc}
 use lib.ListN.{replicate}
+use Rattle.terms.specs.Entries.{triple}
 use Rattle.lists.specs.Lists.{filled}
 use Rattle.grid.specs.Point.{point}
 use Rattle.polygon.specs.Polygon.{maxVertices, origin}
@@ -32,9 +33,6 @@ numbers (t ∷ l) = t ++ numbers l
 abbrev pub answerNumbers : Answer → List ℕ
 answerNumbers none = []
 answerNumbers (patch total l) = total ∷ l
-
-abbrev pub triple : ℕ → ℕ → ℕ → List ℕ
-triple a b c = a ∷ b ∷ c ∷ []
 
 -- rim file P: first 1, R 4, both factors 1; a chain 1, 2, 3, 4 of kind 1: (0, 0, 0), (1, 0, 0), (1, 1, 0.75), (0, 1, 0)
 abbrev pub fileP : List ℕ

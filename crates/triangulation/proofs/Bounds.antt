@@ -5,6 +5,7 @@ use mathlib.Core.Logic.{_⊎_, inl, inr}
 use mathlib.Core.List.{List, [], _∷_, _++_}
 use native.Mathlib.Omega.{arith}
 use lib.ListN.{length, length-append}
+use Rattle.terms.specs.Limits.{maxWeight}
 use Rattle.triangulation.specs.Triangulations.{Job, Valid}
 use Rattle.triangulation.specs.Jobs.{Bounded}
 use Rattle.triangulation.specs.Recursion.{bestUnder, bestFrom, costOf}
@@ -14,10 +15,10 @@ use Rattle.triangulation.proofs.Recursion.{Best, Root, none, some, edge
 -- a candidate's key: none, or its total, itself and the rest
 pub data Shape (u : ℕ) (k : List ℕ) : Type 0 where
   nil : k ≡ [] → Shape u k
-  cons : (x : ℕ) (l : List ℕ) → k ≡ x ∷ u ∷ l → x + 2000000000 ≤ 256000000000 → Shape u k
+  cons : (x : ℕ) (l : List ℕ) → k ≡ x ∷ u ∷ l → x + maxWeight ≤ 256000000000 → Shape u k
 
 module _ (job : Job) (good : Valid job) (bound : Bounded job) where
-  hinge-light : (t : ℕ) (l : List ℕ) → hingeWeight job t l ≤ 2000000000
+  hinge-light : (t : ℕ) (l : List ℕ) → hingeWeight job t l ≤ maxWeight
   hinge-light t [] = omega arith
   hinge-light t (u ∷ l) = bound .row-light t u
 
@@ -32,7 +33,7 @@ module _ (job : Job) (good : Valid job) (bound : Bounded job) where
       go : Root job u (bestFrom job (job .n) u) → Shape u (bestFrom job (job .n) u)
       go (none e k) = nil e
       go (some l r x y e wl wr k) = cons (job .weight u + (x + hingeWeight job u l) + (y + hingeWeight job u r)) (l ++ r) e
-          (omega (arith, part-light wl u, part-light wr u, part-length job wl, part-length job wr, bound .light u h, good .cn u h, bound .n64))
+          (omega (arith, part-light wl u, part-light wr u, part-length job wl, part-length job wr, bound .light u h, good .cn u h, bound .few))
 
   -- the same of an edge: the total with the row
   pub edge-light : (t i j : ℕ) → i < j → j < job .n → (bestUnder job (job .n) t i j ≡ []) ⊎ (costOf (bestUnder job (job .n) t i j) ≤ 256000000000)
@@ -40,4 +41,4 @@ module _ (job : Job) (good : Valid job) (bound : Bounded job) where
     where
       go : Best job t i j (bestUnder job (job .n) t i j) → (bestUnder job (job .n) t i j ≡ []) ⊎ (costOf (bestUnder job (job .n) t i j) ≤ 256000000000)
       go (none e z) = inl e
-      go (some l x e w z) = inr (omega (arith, ap costOf e, part-light w t, part-length job w, bound .n64))
+      go (some l x e w z) = inr (omega (arith, ap costOf e, part-light w t, part-length job w, bound .few))

@@ -1,6 +1,7 @@
 -- The starred direct jobs of document 01, "Rims at the edges", with their answers; and answers of wrong programs.
 use Prim.Native.Nat.{ℕ}
 use mathlib.Core.List.{List, [], _∷_}
+use Rattle.terms.specs.Entries.{triple}
 use Rattle.triangulation.specs.Triangulations.{Job, Answer, none, patch}
 use Rattle.triangulation.specs.Jobs.{jobOf}
 
@@ -23,9 +24,6 @@ pub record Case : Type 0 where
 
 abbrev pub case : Lists → Answer → Case
 case l x = record { direct = l; answer = x }
-
-abbrev pub triple : ℕ → ℕ → ℕ → List ℕ
-triple x y z = x ∷ y ∷ z ∷ []
 
 -- n = 4 with the four triples of rim file P
 abbrev pub quadrilateral : List ℕ → List (List ℕ) → Lists

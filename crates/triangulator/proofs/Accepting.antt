@@ -8,21 +8,23 @@ use native.Mathlib.Omega.{arith}
 use lib.ListN.{length, getD}
 use lib.Dec.{eqb}
 use Rattle.triangulation.specs.Triangulations.{best}
-use Rattle.triangulation.specs.Jobs.{jobOf, rowWeight}
+use Rattle.triangulation.specs.Jobs.{jobOf, pairWeight}
 use Rattle.triangulation.specs.Demand3.{Demand3}
 use Rattle.triangulation.proofs.Demand3.{demand3}
-use Rattle.jobs.specs.Job.{jobCode, vertexA, vertexB}
+use Rattle.terms.specs.Limits.{maxVertices, maxWeight}
+use Rattle.terms.specs.Entries.{entryAt, vertexA, vertexB, outer, inner, rowWeight}
+use Rattle.jobs.specs.Job.{jobCode}
 use Rattle.jobs.proofs.Order.{Before, by-a, by-b, by-c, RowBefore, by-outer, by-inner}
 use Rattle.jobs.proofs.Count.{candidates-bounded}
 use Rattle.jobs.proofs.Acceptance.{ListsAccepted, accepted}
 use Rattle.minimum_weight.specs.Tables.{WellFormed, rowIsBefore}
 use Rattle.minimum_weight.proofs.RowSearch.{is-before, names-false, none}
 
-row-le : (rows : List (List ℕ)) (b o i : ℕ) → ((k : ℕ) → k < length rows → getD (getD rows k []) 2 0 ≤ b) → rowWeight rows o i ≤ b
+row-le : (rows : List (List ℕ)) (b o i : ℕ) → ((k : ℕ) → k < length rows → rowWeight (entryAt rows k) ≤ b) → pairWeight rows o i ≤ b
 row-le [] b o i h = omega arith
-row-le (r ∷ rows) b o i h = go (eqb (getD r 0 0) o && eqb (getD r 1 0) i) (row-le rows b o i (λ k l. h (suc k) (omega arith)))
+row-le (r ∷ rows) b o i h = go (eqb (outer r) o && eqb (inner r) i) (row-le rows b o i (λ k l. h (suc k) (omega arith)))
   where
-    go : (t : Bool) → rowWeight rows o i ≤ b → cond t (getD r 2 0) (rowWeight rows o i) ≤ b
+    go : (t : Bool) → pairWeight rows o i ≤ b → cond t (rowWeight r) (pairWeight rows o i) ≤ b
     go true ih = h 0 (omega arith)
     go false ih = ih
 
@@ -36,19 +38,19 @@ b-up (by-a h) e = absurd (omega arith)
 b-up (by-b _ h) e = omega arith
 b-up (by-c _ f h) e = omega arith
 
-row-up : {r s : List ℕ} → RowBefore r s → rowIsBefore r (getD s 0 0) (getD s 1 0) ≡ true
-row-up {r} {s} (by-outer h) = is-before (getD r 0 0) (getD r 1 0) (getD s 0 0) (getD s 1 0) (inl h)
-row-up {r} {s} (by-inner e h) = is-before (getD r 0 0) (getD r 1 0) (getD s 0 0) (getD s 1 0) (inr (e, h))
+row-up : {r s : List ℕ} → RowBefore r s → rowIsBefore r (outer s) (inner s) ≡ true
+row-up {r} {s} (by-outer h) = is-before (outer r) (inner r) (outer s) (inner s) (inl h)
+row-up {r} {s} (by-inner e h) = is-before (outer r) (inner r) (outer s) (inner s) (inr (e, h))
 
 module _ (n : ℕ) (candidates : List (List ℕ)) (weights : List ℕ) (rows : List (List ℕ)) where
-  pub well-formed : 3 ≤ n → n ≤ 64 → ListsAccepted n candidates weights rows → WellFormed n candidates weights rows
+  pub well-formed : 3 ≤ n → n ≤ maxVertices → ListsAccepted n candidates weights rows → WellFormed n candidates weights rows
   well-formed low high ok =
       let c = ok .candidates-are in
       let r = ok .rows-are in
       let w = ok .weights-are in
       record {
         valid = record { n3 = low; ab = λ k h. c .ordered k h .a-b; bc = λ k h. c .ordered k h .b-c; cn = λ k h. c .ordered k h .c-n };
-        bounded = record { n64 = high; light = λ k h. w .own k h; row-light = λ o i. row-le rows 2000000000 o i (λ k h. w .of-row k h) };
+        bounded = record { few = high; light = λ k h. w .own k h; row-light = λ o i. row-le rows maxWeight o i (λ k h. w .of-row k h) };
         ascending = record { by-first = record { up = λ k l h m. a-up (c .ascending k l h m) }; b-up = λ k l h m. b-up (c .ascending k l h m) };
         weights-there = ok .weight-places;
         few = omega (arith, candidates-bounded n candidates c high);

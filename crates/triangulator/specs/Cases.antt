@@ -2,7 +2,8 @@
 use Prim.Native.Nat.{_+_, _-_}
 use mathlib.Core.List.{List, [], _∷_}
 use lib.ListN.{length, replicate}
-use Rattle.triangulation.specs.Cases.{Lists, triple, quadrilateral, ones, single, empty, fileP, tie, tieWithRow, holed}
+use Rattle.terms.specs.Entries.{triple}
+use Rattle.triangulation.specs.Cases.{Lists, quadrilateral, ones, single, empty, fileP, tie, tieWithRow, holed}
 use Rattle.triangulator.specs.declared.Outcome.the-variants.{Patch, None, Refused}
 use Rattle.triangulator.specs.Call.{Result, result, triangulated}
 

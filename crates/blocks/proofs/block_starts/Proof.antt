@@ -4,6 +4,7 @@ use mathlib.Core.Path.{sym, _∙_}
 use native.Mathlib.Omega.{arith}
 use borrow.Author.Needs.{needs}
 use lib.ListN.{length, length-replicate}
+use Rattle.blocks.specs.Blocks.{startCount}
 use Rattle.blocks.proofs.Placing.{Placed, there, placed-start, placed-pass, placed-set, placed-all}
 use Rattle.blocks.proofs.block_starts.Statement.{statement}
 use Rattle.blocks.proofs.block_starts.Tie as tie
@@ -12,10 +13,10 @@ abbrev Inv-loop : tie.InvT-loop
 Inv-loop candidates starts₀ k₀ i₀ starts k i = Placed candidates starts k i
 
 abbrev μ-loop : tie.MeasureT-loop
-μ-loop candidates starts₀ k₀ i₀ starts k i = (length candidates - i) + (65 - k)
+μ-loop candidates starts₀ k₀ i₀ starts k i = (length candidates - i) + (startCount - k)
 
 loop-holds : tie.Need-loop-holds Inv-loop μ-loop
-loop-holds c = placed-start _ _ (length-replicate {A = ℕ} 65 0)
+loop-holds c = placed-start _ _ (length-replicate {A = ℕ} startCount 0)
 
 starts-below-requires : tie.Need-starts-below-requires Inv-loop μ-loop
 starts-below-requires c κs = search needs

@@ -9,7 +9,7 @@ use Rattle.grid.specs.declared.GridPoint.{GridPoint}
 use Rattle.polygon.specs.declared.Polygon.{Polygon}
 use Rattle.geometry.specs.Faces.{lengthOf}
 use Rattle.geometry.proofs.Vectors.{within-as}
-use Rattle.jobs.specs.Job.{entryAt}
+use Rattle.terms.specs.Entries.{entryAt}
 use Rattle.lists.proofs.Writing.{Writing, start, turn, place, push, all, rest-step, rest-end}
 use Rattle.dihedrals.specs.Weights.{faceNormal, lengthsOf}
 use Rattle.dihedrals.proofs.Faces.{face-within, Read, a<64, b<64, c<64, on-grid, normal-is}

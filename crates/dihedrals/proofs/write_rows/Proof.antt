@@ -12,7 +12,8 @@ use lib.ListN.{length, getD, length-map}
 use Rattle.grid.specs.declared.GridPoint.{GridPoint}
 use Rattle.polygon.specs.declared.Polygon.{Polygon}
 use Rattle.geometry.specs.Faces.{lengthOf, bendBetween, bendWeightOf}
-use Rattle.jobs.specs.Job.{entryAt, vertexC}
+use Rattle.terms.specs.Limits.{maxVertices, maxTriples}
+use Rattle.terms.specs.Entries.{entryAt, vertexC}
 use Rattle.lists.specs.Lists.{over, when}
 use Rattle.lists.proofs.Ranges.{over-step, over-more, over-none, over-end}
 use Rattle.lists.proofs.Writing.{Writing, start, turn, enter, leave, place, push, moved, all}
@@ -30,7 +31,7 @@ use Rattle.dihedrals.proofs.write_rows.Tie as tie
 abbrev kept : ℕ → List GridPoint → Polygon
 kept factor vertices = record { n = 0; «area_factor» = 0; «bend_factor» = factor; vertices = vertices }
 
-edge-small : (cs : List (List ℕ)) → Sorted cs → (o e : ℕ) → o < length cs → e < 2 → getD (entryAt cs o) e 0 < 64
+edge-small : (cs : List (List ℕ)) → Sorted cs → (o e : ℕ) → o < length cs → e < 2 → getD (entryAt cs o) e 0 < maxVertices
 edge-small cs s o zero h k = omega (arith, s .a<b o h, s .b<c o h, s .c<64 o h)
 edge-small cs s o (suc zero) h k = omega (arith, s .b<c o h, s .c<64 o h)
 edge-small cs s o (suc (suc e)) h k = absurd (omega arith)
@@ -70,7 +71,7 @@ module _ (g : tie.In-loop Inv-loop3 μ-loop3 Inv-loop2 μ-loop2 Inv-loop μ-loop
   o-in : O < length cs
   o-in = g .loop-test .taken
 
-  few : length cs ≤ 41664
+  few : length cs ≤ maxTriples
   few = g .before .before .before .before .pre .0 .sorted .few
 
   lengths-there : length (g .before .before .before .before .args .lengths .now) ≡ length cs
@@ -166,7 +167,7 @@ module _ (m : tie.In-loop2 Inv-loop3 μ-loop3 Inv-loop2 μ-loop2 Inv-loop μ-loo
   abbrev E : ℕ
   E = m .before .loop2 .edge
 
-  first-small : getD (entryAt (cs outer-at) (O outer-at)) E 0 < 64
+  first-small : getD (entryAt (cs outer-at) (O outer-at)) E 0 < maxVertices
   first-small = edge-small (cs outer-at) (outer-at .before .before .before .before .pre .0 .sorted) (O outer-at) E (o-in outer-at) (m .loop2-test .taken)
 
   abbrev others : List (List ℕ)

@@ -7,7 +7,8 @@ use lib.Dec.{leb}
 use Rattle.lists.specs.Lists.{every}
 use Rattle.lists.proofs.Ranges.{every-on, every-stop, every-end}
 use lib.ListN.{length}
-use Rattle.jobs.specs.Job.{maxWeight, rowWeight, entryAt}
+use Rattle.terms.specs.Limits.{maxWeight}
+use Rattle.terms.specs.Entries.{rowWeight, entryAt}
 use Rattle.jobs.proofs.weights.row_weights_fit.Statement.{statement}
 use Rattle.jobs.proofs.weights.row_weights_fit.Tie as tie
 

@@ -7,7 +7,7 @@ use lib.Dec.{leb}
 use Rattle.lists.specs.Lists.{every}
 use Rattle.lists.proofs.Ranges.{every-on, every-stop, every-end}
 use lib.ListN.{getD}
-use Rattle.jobs.specs.Job.{maxWeight}
+use Rattle.terms.specs.Limits.{maxWeight}
 use Rattle.jobs.proofs.weights.weights_fit.Statement.{statement}
 use Rattle.jobs.proofs.weights.weights_fit.Tie as tie
 

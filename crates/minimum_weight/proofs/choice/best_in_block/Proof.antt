@@ -6,13 +6,13 @@ use mathlib.Core.Path.{_≡_}
 use native.Mathlib.Omega.{arith}
 use borrow.Author.Needs.{needs}
 use lib.ListN.{getD}
-use Rattle.triangulation.specs.Jobs.{rowWeight}
+use Rattle.triangulation.specs.Jobs.{pairWeight}
 use Rattle.minimum_weight.specs.Tables.{pickBelow, onEdge, pickUnder}
 use Rattle.minimum_weight.proofs.choice.best_in_block.Statement.{statement}
 use Rattle.minimum_weight.proofs.choice.best_in_block.Tie as tie
 
 abbrev Inv-loop : tie.InvT-loop
-Inv-loop starts candidates work rows t i j block end p₀ u₀ p u = (getD starts i 0 ≤ u) × (u ≤ getD starts (i + 1) 0) × (p ≡ pickBelow (onEdge candidates i j) (λ k. getD work k 0) (rowWeight rows t) u)
+Inv-loop starts candidates work rows t i j block end p₀ u₀ p u = (getD starts i 0 ≤ u) × (u ≤ getD starts (i + 1) 0) × (p ≡ pickBelow (onEdge candidates i j) (λ k. getD work k 0) (pairWeight rows t) u)
 
 abbrev μ-loop : tie.MeasureT-loop
 μ-loop starts candidates work rows t i j block end p₀ u₀ p u = end - u

@@ -22,10 +22,10 @@ array-read-c : tie.Need-array-read-c
 array-read-c c = search needs
 
 best-under-requires : tie.Need-best-under-requires
-best-under-requires c κs = let s = c .before .before .before in let ok = s .pre .0 .0 in let v = ok .valid in let h = s .pre .0 .3 in (s .pre .0 .1, s .pre .0 .4 .ascends, s .pre .0 .2, v .ab (s .args .t) h, omega (arith, v .bc (s .args .t) h, v .cn (s .args .t) h, ok .bounded .n64))
+best-under-requires c κs = let s = c .before .before .before in let ok = s .pre .0 .0 in let v = ok .valid in let h = s .pre .0 .3 in (s .pre .0 .1, s .pre .0 .4 .ascends, s .pre .0 .2, v .ab (s .args .t) h, omega (arith, v .bc (s .args .t) h, v .cn (s .args .t) h, ok .bounded .few))
 
 best-under-requires-2 : tie.Need-best-under-requires-2
-best-under-requires-2 c κs = let s = c .before .before .before .before in let ok = s .pre .0 .0 in let v = ok .valid in let h = s .pre .0 .3 in (s .pre .0 .1, s .pre .0 .4 .ascends, s .pre .0 .2, v .bc (s .args .t) h, omega (arith, v .cn (s .args .t) h, ok .bounded .n64))
+best-under-requires-2 c κs = let s = c .before .before .before .before in let ok = s .pre .0 .0 in let v = ok .valid in let h = s .pre .0 .3 in (s .pre .0 .1, s .pre .0 .4 .ascends, s .pre .0 .2, v .bc (s .args .t) h, omega (arith, v .cn (s .args .t) h, ok .bounded .few))
 
 mul-join-cost : tie.Need-mul-join-cost
 mul-join-cost c = search needs

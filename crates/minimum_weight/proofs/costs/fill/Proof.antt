@@ -22,7 +22,7 @@ sub-v : tie.Need-sub-v Inv-loop μ-loop
 sub-v c = search needs
 
 fill-block-requires : tie.Need-fill-block-requires Inv-loop μ-loop
-fill-block-requires c κs = let s = c .before .before .before .before .before in let ok = s .pre .0 in let b = s .pre .1 in let l = c .before .before .loop in ((ok, b, omega (arith, s .pre .2, l .inv .1 .long), omega (arith, l .inv .0, ok .bounded .n64)), filled-down _ (s .args .starts .now) (l .v) (c .before .loop-test .taken) (l .inv .1))
+fill-block-requires c κs = let s = c .before .before .before .before .before in let ok = s .pre .0 in let b = s .pre .1 in let l = c .before .before .loop in ((ok, b, omega (arith, s .pre .2, l .inv .1 .long), omega (arith, l .inv .0, ok .bounded .few)), filled-down _ (s .args .starts .now) (l .v) (c .before .loop-test .taken) (l .inv .1))
 
 loop-less : tie.Need-loop-less Inv-loop μ-loop
 loop-less c = search needs

@@ -37,10 +37,10 @@ sub-last : tie.Need-sub-last Inv-loop μ-loop
 sub-last c = let s = c .before .before .before in let ok = s .pre .0 .0 in let v = ok .valid in let b = ok .bounded in omega (arith, v .n3)
 
 cast-last : tie.Need-cast-last Inv-loop μ-loop
-cast-last c = let s = c .before .before .before in let ok = s .pre .0 .0 in let v = ok .valid in let b = ok .bounded in omega (arith, b .n64)
+cast-last c = let s = c .before .before .before in let ok = s .pre .0 .0 in let v = ok .valid in let b = ok .bounded in omega (arith, b .few)
 
 loop-holds : tie.Need-loop-holds Inv-loop μ-loop
-loop-holds c = let s = c .before .before .before in let ok = s .pre .0 .0 in let v = ok .valid in let b = ok .bounded in let w : Whole (job s) (record { outer = length (s .args .candidates .now); first = 0; last = s .args .n - 1 }) = record { order = omega (arith, v .n3); within = omega (arith, v .n3); some = s .pre .1 .1 } in emit-start _ v b _ (s .args .triangles .now) w (omega (arith, b .n64)) (omega (arith, list-length _ v b _ w, s .pre .0 .3))
+loop-holds c = let s = c .before .before .before in let ok = s .pre .0 .0 in let v = ok .valid in let b = ok .bounded in let w : Whole (job s) (record { outer = length (s .args .candidates .now); first = 0; last = s .args .n - 1 }) = record { order = omega (arith, v .n3); within = omega (arith, v .n3); some = s .pre .1 .1 } in emit-start _ v b _ (s .args .triangles .now) w (omega (arith, b .few)) (omega (arith, list-length _ v b _ w, s .pre .0 .3))
 
 sub-height : tie.Need-sub-height Inv-loop μ-loop
 sub-height c = search needs
@@ -55,7 +55,7 @@ sub-if1 : tie.Need-sub-if1 Inv-loop μ-loop
 sub-if1 c = let s = c .before .before .before .before .before .before in let ok = s .pre .0 .0 in let v = ok .valid in let b = ok .bounded in let l = c .before .before .loop in let w = top-whole _ v b (l .stack) (l .height) (l .count) (l .triangles) (c .before .loop-test .taken) (l .inv) in omega (arith, w .order)
 
 best-under-requires : tie.Need-best-under-requires Inv-loop μ-loop
-best-under-requires c κs = let s = c .before .before .before .before .before .before .before in let ok = s .pre .0 .0 in let v = ok .valid in let b = ok .bounded in let l = c .before .before .before .loop in let w = top-whole _ v b (l .stack) (l .height) (l .count) (l .triangles) (c .before .before .loop-test .taken) (l .inv) in (s .pre .0 .1, ok .rows-ascend, s .pre .0 .2, w .order, omega (arith, w .within, b .n64))
+best-under-requires c κs = let s = c .before .before .before .before .before .before .before in let ok = s .pre .0 .0 in let v = ok .valid in let b = ok .bounded in let l = c .before .before .before .loop in let w = top-whole _ v b (l .stack) (l .height) (l .count) (l .triangles) (c .before .before .loop-test .taken) (l .inv) in (s .pre .0 .1, ok .rows-ascend, s .pre .0 .2, w .order, omega (arith, w .within, b .few))
 
 mul-triangle : tie.Need-mul-triangle Inv-loop μ-loop
 mul-triangle c = let h : c .best-under .result .at < length (c .before .before .before .before .before .before .before .before .args .candidates .now) = beneath c .valid in search needs

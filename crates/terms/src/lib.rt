@@ -1,0 +1,14 @@
+// What every stage speaks of: the limits. The words of the lists are in specs/. No function.
+
+// Vertices of a rim and of a direct job.
+pub const MIN_VERTICES: usize = 3;
+
+pub const MAX_VERTICES: usize = 64;
+
+// Factors of a rim: the file's 16 bits hold every bend factor.
+pub const MAX_AREA_FACTOR: u32 = 16;
+
+pub const MAX_BEND_FACTOR: u32 = 65535;
+
+// A weight of a direct job.
+pub const MAX_WEIGHT: u32 = 2_000_000_000;
