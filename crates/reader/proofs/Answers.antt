@@ -8,7 +8,8 @@ use borrow.Author.Tests.{le-ltb, lt-ltb, le-leb, eqb-true, eqb-false}
 use lib.Dec.{ltb, leb, eqb}
 use Rattle.lists.proofs.Choice.{yes, no}
 use Rattle.grid.specs.declared.GridPoint.{GridPoint}
-use Rattle.polygon.specs.Polygon.{repeatedVertex, maxVertices}
+use Rattle.terms.specs.Limits.{maxVertices}
+use Rattle.polygon.specs.Polygon.{repeatedVertex}
 use Rattle.polygon.specs.declared.Polygon.{Polygon}
 use Rattle.reader.specs.File.{areaFactor, bendFactor, recordCount, lengthWrong}
 use Rattle.reader.specs.Chain.{metBefore, positionCode, codeFrom, endFrom, chainCode, vertexCount, verticesOf}

@@ -8,7 +8,7 @@ use native.Mathlib.Omega.{arith}
 use borrow.Author.Tests.{ltb-true, ltb-false, eqb-true, eqb-false}
 use lib.Dec.{ltb, eqb}
 use Rattle.lists.proofs.Choice.{yes, no, below-or-same}
-use Rattle.polygon.specs.Polygon.{maxVertices}
+use Rattle.terms.specs.Limits.{maxVertices}
 use Rattle.reader.specs.Chain.{vertexAt, numberOf, positionCode, codeFrom, endFrom, chainCode, vertexCount}
 use Rattle.reader.specs.Chain as chain
 use Rattle.reader.specs.Order.{position}

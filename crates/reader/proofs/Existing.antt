@@ -7,7 +7,7 @@ use native.Mathlib.Omega.{arith}
 use lib.ListN.{length, replicate}
 use Rattle.lists.proofs.Choice.{true-not-false}
 use Rattle.grid.specs.declared.GridPoint.{GridPoint}
-use Rattle.polygon.specs.Polygon.{maxVertices}
+use Rattle.terms.specs.Limits.{maxVertices}
 use Rattle.reader.specs.File.{recordCount, offset}
 use Rattle.reader.specs.Chain.{link}
 use Rattle.reader.specs.Order.{Place, position}

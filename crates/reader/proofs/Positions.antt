@@ -8,7 +8,7 @@ use native.Mathlib.Omega.{arith}
 use borrow.Author.Tests.{ltb-true, ltb-false, leb-true, leb-false, eqb-true, eq-eqb, lt-ltb, le-leb}
 use lib.Dec.{ltb, leb, eqb}
 use Rattle.lists.proofs.Choice.{yes, no, true-not-false, either-left, either-right, either-cases, below-or-same}
-use Rattle.polygon.specs.Polygon.{maxVertices}
+use Rattle.terms.specs.Limits.{maxVertices}
 use Rattle.reader.specs.File.{recordCount}
 use Rattle.reader.specs.Chain.{metBefore, vertexAt, numberOf, positionCode}
 use Rattle.reader.specs.Chain as chain

@@ -16,7 +16,8 @@ use Rattle.lists.proofs.Writing.{filled-at}
 use Rattle.grid.specs.declared.GridPoint.{GridPoint}
 use Rattle.grid.specs.Number.{finite, inRange, roundEighths}
 use Rattle.grid.specs.Point.{point}
-use Rattle.polygon.specs.Polygon.{maxVertices, origin, samePoint, repeatedVertex}
+use Rattle.terms.specs.Limits.{maxVertices}
+use Rattle.polygon.specs.Polygon.{origin, samePoint, repeatedVertex}
 use Rattle.polygon.specs.Polygon as polygon
 use Rattle.polygon.proofs.Points.{point-equal}
 use Rattle.polygon.proofs.Validity.{repeated-none}

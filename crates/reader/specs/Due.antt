@@ -10,7 +10,7 @@ use lib.ListN.{length}
 use Rattle.grid.specs.Number.{finite, inRange, roundEighths}
 use Rattle.grid.specs.Point.{point}
 use Rattle.grid.specs.declared.GridPoint.{GridPoint}
-use Rattle.polygon.specs.Polygon.{maxVertices}
+use Rattle.terms.specs.Limits.{minVertices, maxVertices, maxAreaFactor}
 use Rattle.reader.specs.File.{areaFactor, recordCount, lengthWrong, offset, kind, firstNumber, secondNumber, thirdNumber, tailZero}
 use Rattle.reader.specs.Chain.{link}
 use Rattle.reader.specs.Order.{Place, header, position, rim}
@@ -76,7 +76,7 @@ pub data HasVertex (s : List ℕ) : ℕ → GridPoint → Type 0 where
 -- constructor by constructor, rules 4.1 to 4.11; 4.8 has two
 pub data DueAt (s : List ℕ) : Place → ℕ → Type 0 where
   length-wrong : lengthWrong s ≡ true → DueAt s header 1
-  area-factor : 8 ≤ length s → 16 < areaFactor s → DueAt s header 2
+  area-factor : 8 ≤ length s → maxAreaFactor < areaFactor s → DueAt s header 2
   link-over : (i : ℕ) → HasRecords s i → recordCount s < link s i → DueAt s (position i) 3
   met-again : (i j : ℕ) → i < j → HasRecords s j → link s i ≡ link s j → DueAt s (position j) 4
   too-many : HasRecords s (suc maxVertices) → DueAt s (position maxVertices) 5
@@ -85,5 +85,5 @@ pub data DueAt (s : List ℕ) : Place → ℕ → Type 0 where
   not-finite : (i : ℕ) (v : Float) → HasRecords s (suc i) → List·Memᴰ v (floatsAt s i) → finite v ≡ false → DueAt s (position i) 8
   tail-not-zero : (i : ℕ) → HasRecords s (suc i) → kindAt s i ≡ 2 → tailZeroAt s i ≡ false → DueAt s (position i) 8
   out-of-range : (i : ℕ) (v : Float) → HasRecords s (suc i) → List·Memᴰ v (floatsAt s i) → inRange v ≡ false → DueAt s (position i) 9
-  too-few : (i : ℕ) → HasRecords s i → link s i ≡ 0 → i < 3 → DueAt s rim 10
+  too-few : (i : ℕ) → HasRecords s i → link s i ≡ 0 → i < minVertices → DueAt s rim 10
   vertex-repeated : (i j : ℕ) (p : GridPoint) → i < j → HasRecords s (suc j) → HasVertex s i p → HasVertex s j p → DueAt s rim 11
