@@ -1,5 +1,5 @@
 -- The rim file: its header and its records, as numbers. Document 01, "The rim file". Definitions only.
-use Prim.Native.Nat.{ℕ, _+_, _-_, _*_}
+use Prim.Native.Nat.{ℕ, suc, _+_, _-_, _*_}
 use mathlib.Core.Bool.{Bool, not}
 use mathlib.Core.List.{List}
 use lib.ListN.{length, getD}
@@ -30,6 +30,10 @@ bendFactor s = u16At s 6
 -- the most records of a file (rule 1.4)
 abbrev pub maxRecords : ℕ
 maxRecords = 256
+
+-- record numbers go from 0, which ends the chain, to that
+abbrev pub recordNumbers : ℕ
+recordNumbers = suc maxRecords
 
 -- number 1 is due (rule 4.1)
 unfoldable pub lengthWrong : List ℕ → Bool

@@ -32,7 +32,7 @@ pub fn length_wrong(s: &[u8]) -> bool
         return true;
     }
     let count = u16_at(s, 2) as usize;
-    if 256 < count {
+    if crate::MAX_RECORDS < count {
         return true;
     }
     s.len() != 8 + 16 * count
