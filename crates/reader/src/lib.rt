@@ -64,7 +64,7 @@ pub enum Status {
 }
 
 impl Status {
-    // Document 01's number, 0 where the file is read.
+    // The number of the case, 0 where the file is read.
     pub fn number(self) -> u32
         ensures { λ r. ⌜ r ≡ statusNumber self ⌝ }
     {
