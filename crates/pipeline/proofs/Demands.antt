@@ -12,7 +12,9 @@ use Rattle.polygon.specs.Polygon.{Valid, codeOf}
 use Rattle.polygon.proofs.Validity.{valid-code}
 use Rattle.reader.specs.Reading.{numberDue, polygonOf, answer, readingOf}
 use Rattle.reader.specs.declared.Status.the-variants.{Complete}
-use Rattle.reader.proofs.Demand1.{number-due, read-only-when, read-valid}
+use Rattle.reader.proofs.FirstNumber.{number-first}
+use Rattle.reader.proofs.Demand1.{read-only-when}
+use Rattle.reader.proofs.Accepted.{read-valid}
 use Rattle.delaunay.specs.Candidates.{candidatesOf, cospherical}
 use Rattle.triangulation.specs.Triangulations.{Answer, best}
 use Rattle.triangulation.specs.Demand3.{Demand3}
@@ -38,7 +40,7 @@ module _ (file : List ℕ) (bytes : Bytes file) (t : Tables) where
   read-complete e = ap (λ (k : ℕ). answer k (polygonOf file) .status) e
 
   valid-polygon : numberDue file ≡ 0 → Valid (polygonIn file)
-  valid-polygon e = read-valid file bytes (read-complete e)
+  valid-polygon e = read-valid file (read-complete e) bytes
 
   -- what the call is, case by case
   at-reader : (k : ℕ) → numberDue file ≡ suc k → call ≡ refused (suc k) t
@@ -84,7 +86,7 @@ module _ (file : List ℕ) (bytes : Bytes file) (t : Tables) where
 
   -- the first number due is due
   pub first-is-due : (k : ℕ) → FirstDue file t (suc k) → FileDue file t (suc k)
-  first-is-due _ (by-reader {k} e) = reading (number-due file k e)
+  first-is-due _ (by-reader {k} e) = reading (number-first file k e .is-due)
   first-is-due _ (then-twelve e a) = twelve a
   first-is-due _ (then-thirteen e a b) = thirteen b
 
@@ -117,7 +119,7 @@ module _ (file : List ℕ) (bytes : Bytes file) (t : Tables) where
   never-refused e a-none = let z : _≡_ {A = ℕ} 0 1 = cc in omega arith
 
   clear-none : Clear → (k : ℕ) → FileDue file t k → ⊥
-  clear-none c _ (reading {k} r) = read-only-when file (read-complete (c .read)) k r
+  clear-none c _ (reading {p} {k} r) = read-only-when file (read-complete (c .read)) .none p k r
   clear-none c _ (twelve a) = true-not-false a (c .no-12)
   clear-none c _ (thirteen b) = true-not-false b (c .no-13)
 

@@ -4,7 +4,8 @@ use mathlib.Core.Bool.{true, false}
 use mathlib.Core.List.{List}
 use Prim.Native.Nat.{ℕ, suc}
 use Rattle.polygon.specs.declared.Polygon.{Polygon}
-use Rattle.reader.specs.Due.{Due}
+use Rattle.reader.specs.Order.{Place}
+use Rattle.reader.specs.Due.{DueAt}
 use Rattle.reader.specs.Reading.{numberDue, readingOf}
 use Rattle.delaunay.specs.Candidates.{cospherical}
 use Rattle.pipeline.specs.Patching.{Tables, tablesShort}
@@ -15,7 +16,7 @@ polygonIn file = readingOf file .polygon
 
 -- "A rim .. is accepted when no number is due on it or on the tables lent with it": the numbers, each by itself
 pub data FileDue (file : List ℕ) (t : Tables) : ℕ → Type 0 where
-  reading : {k : ℕ} → Due file k → FileDue file t k
+  reading : {p : Place} {k : ℕ} → DueAt file p k → FileDue file t k
   twelve : cospherical (polygonIn file) ≡ true → FileDue file t 12
   thirteen : tablesShort (polygonIn file) t ≡ true → FileDue file t 13
 

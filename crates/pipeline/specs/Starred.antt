@@ -6,7 +6,8 @@ use lib.ListN.{replicate}
 use Rattle.terms.specs.Entries.{triple}
 use Rattle.lists.specs.Lists.{filled}
 use Rattle.grid.specs.Point.{point}
-use Rattle.polygon.specs.Polygon.{maxVertices, origin}
+use Rattle.terms.specs.Limits.{maxVertices}
+use Rattle.polygon.specs.Polygon.{origin}
 use Rattle.polygon.specs.declared.Polygon.{Polygon}
 use Rattle.geometry.specs.declared.Vector.{Vector}
 use Rattle.geometry.specs.Faces.{bendOf, bendBetween}
