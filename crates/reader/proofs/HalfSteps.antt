@@ -1,13 +1,11 @@
 -- In a file that is read, each coordinate of each vertex is the float it comes from, rounded to the nearest grid number (rules 1.6 to 1.10).
 -- Assumes nothing.
 use mathlib.Core.Path.{_≡_, refl, sym, ap, _∙_, subst}
-use mathlib.Core.Bool.{true, false}
 use mathlib.Core.List.{List, List·Memᴰ, List·Memᴰ·head, List·Memᴰ·tail}
 use mathlib.Core.Logic.{⊎-elim}
 use Prim.Native.Nat.{ℕ, _<_}
 use native.Mathlib.Omega.{arith}
 use borrow.Author.Tests.{eq-eqb, ne-eqb}
-use lib.Dec.{eqb}
 use lib.Ieee.{Float}
 use Rattle.lists.proofs.Choice.{yes, no, below-or-same}
 use Rattle.grid.specs.declared.GridPoint.{GridPoint}
