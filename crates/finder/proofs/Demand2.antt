@@ -10,13 +10,13 @@ use lib.ListN.{length, length-map}
 use Rattle.polygon.specs.declared.Polygon.{Polygon}
 use Rattle.polygon.specs.Polygon.{Valid}
 use Rattle.geometry.specs.Spheres.{coplanar}
-use Rattle.terms.specs.Entries.{entryAt, outer, inner, rowWeight}
+use Rattle.terms.specs.Entries.{triple, entryAt, outer, inner, rowWeight}
 use Rattle.jobs.proofs.Order.{true-before, hangs-true, true-hangs, row-before-same}
 use Rattle.lists.specs.Lists.{both, either, every}
 use Rattle.lists.proofs.Choice.{true-not-false, both-left, both-right, both-true, either-left, either-right, either-cases}
 use Rattle.lists.proofs.Ranges.{every-at, every-all}
 use Rattle.lists.proofs.Members.{entry-member, member-entry}
-use Rattle.faces.specs.Faces.{triple, sameTriple, isFace}
+use Rattle.faces.specs.Faces.{sameTriple, isFace}
 use Rattle.faces.proofs.Sets.{triple-same, same-triple}
 use Rattle.faces.proofs.Fours.{four-found, four-here}
 use Rattle.faces.proofs.Members.{triples-member, triples-put}

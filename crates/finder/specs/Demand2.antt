@@ -8,9 +8,8 @@ use Rattle.polygon.specs.declared.Polygon.{Polygon}
 use Rattle.geometry.specs.Faces.{lengthOf, bendBetween}
 use Rattle.geometry.specs.Spheres.{coplanar, strictlyInside}
 use Rattle.terms.specs.Limits.{maxWeight}
-use Rattle.terms.specs.Entries.{entryAt, outer, inner, rowWeight}
+use Rattle.terms.specs.Entries.{triple, entryAt, outer, inner, rowWeight}
 use Rattle.jobs.specs.Job.{before, hangs}
-use Rattle.faces.specs.Faces.{triple}
 use Rattle.delaunay.specs.Candidates.{vertex}
 use Rattle.dihedrals.specs.Weights.{faceNormal}
 
