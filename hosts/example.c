@@ -81,7 +81,7 @@ int main(int count, char **arguments)
         }
         file = bytes;
     }
-    PatchAnswer answer = patch_rim(file, length, triangles, PATCH_BOX_MAX_TRIANGLES, candidates, CANDIDATES, weights, CANDIDATES, rows, ROWS,
+    PatchAnswer answer = patch_box_rim(file, length, triangles, PATCH_BOX_MAX_TRIANGLES, candidates, CANDIDATES, weights, CANDIDATES, rows, ROWS,
                                    work, CANDIDATES);
     if (answer.number != 0)
         printf("refused %u\n", answer.number);

@@ -4,7 +4,7 @@
 
 mod patch_box;
 
-use patch_box::{patch_rim, PatchAnswer};
+use patch_box::{patch_box_rim, PatchAnswer};
 use std::fmt::Write as _;
 use std::io::{Read, Write as _};
 use std::process::ExitCode;
@@ -34,7 +34,7 @@ impl Tables {
     fn patch(&mut self, file: &[u8]) -> PatchAnswer {
         // Each pointer is a slice's own, with that slice's length, and lives through the call.
         unsafe {
-            patch_rim(
+            patch_box_rim(
                 file.as_ptr(),
                 file.len(),
                 self.triangles.as_mut_ptr(),

@@ -55,7 +55,7 @@ typedef struct {
 
 /* The one call: closes the rim of a rim file (bytes). After a patch or 'none' the candidate, weight and row tables hold the rim's lists in their
  * first places and the work table holds zero in one place per candidate; after a patch the triangle table holds its candidates in walk order. */
-PatchAnswer patch_rim(const uint8_t *file, size_t file_len,
+PatchAnswer patch_box_rim(const uint8_t *file, size_t file_len,
                       uint16_t *triangles, size_t triangles_len,
                       uint8_t (*candidates)[3], size_t candidates_len,
                       uint32_t *weights, size_t weights_len,
@@ -63,8 +63,8 @@ PatchAnswer patch_rim(const uint8_t *file, size_t file_len,
                       uint64_t *work, size_t work_len);
 
 /* The tiler alone, for a direct job: n vertices, and every place of the candidate and row tables belongs to its lists. The triangle table needs n - 2
- * places; the weight and work tables one per candidate. The triangle and work tables are filled as by patch_rim. */
-PatchAnswer patch_job(size_t n,
+ * places; the weight and work tables one per candidate. The triangle and work tables are filled as by patch_box_rim. */
+PatchAnswer patch_box_job(size_t n,
                       const uint8_t (*candidates)[3], size_t candidates_len,
                       const uint32_t *weights, size_t weights_len,
                       const uint32_t (*rows)[3], size_t rows_len,
@@ -72,10 +72,10 @@ PatchAnswer patch_job(size_t n,
                       uint64_t *work, size_t work_len);
 
 /* The reader alone: a number of 1 to 11, or how many vertices the rim has. */
-ReadAnswer read_rim(const uint8_t *file, size_t file_len);
+ReadAnswer patch_box_read(const uint8_t *file, size_t file_len);
 
 /* The reader, then the candidate finder: a number of 1 to 13, or the rim's lists in the first places of the three tables. */
-FindAnswer find_candidates(const uint8_t *file, size_t file_len,
+FindAnswer patch_box_find(const uint8_t *file, size_t file_len,
                            uint8_t (*candidates)[3], size_t candidates_len,
                            uint32_t *weights, size_t weights_len,
                            uint32_t (*rows)[3], size_t rows_len);

@@ -35,7 +35,7 @@ pub struct FindAnswer {
 }
 
 extern "C" {
-    pub fn patch_rim(
+    pub fn patch_box_rim(
         file: *const u8,
         file_len: usize,
         triangles: *mut u16,
@@ -50,7 +50,7 @@ extern "C" {
         work_len: usize,
     ) -> PatchAnswer;
 
-    pub fn patch_job(
+    pub fn patch_box_job(
         n: usize,
         candidates: *const Triangle,
         candidates_len: usize,
@@ -64,9 +64,9 @@ extern "C" {
         work_len: usize,
     ) -> PatchAnswer;
 
-    pub fn read_rim(file: *const u8, file_len: usize) -> ReadAnswer;
+    pub fn patch_box_read(file: *const u8, file_len: usize) -> ReadAnswer;
 
-    pub fn find_candidates(
+    pub fn patch_box_find(
         file: *const u8,
         file_len: usize,
         candidates: *mut Triangle,

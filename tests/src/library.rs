@@ -6,7 +6,7 @@ use crate::fast::Fast;
 #[cfg(feature = "library")]
 mod linked {
     use crate::calls::{Calls, FindAnswer, PatchAnswer, ReadAnswer, Tables};
-    use crate::patch_box::{find_candidates, patch_job, patch_rim, read_rim};
+    use crate::patch_box::{patch_box_find, patch_box_job, patch_box_read, patch_box_rim};
 
     pub struct Library;
 
@@ -23,7 +23,7 @@ mod linked {
             let rows = tables.rows.table();
             let work = tables.work.table();
             unsafe {
-                patch_rim(
+                patch_box_rim(
                     file.as_ptr(),
                     file.len(),
                     triangles.as_mut_ptr(),
@@ -47,7 +47,7 @@ mod linked {
             let rows = tables.rows.view();
             let work = tables.work.table();
             unsafe {
-                patch_job(
+                patch_box_job(
                     n,
                     candidates.as_ptr(),
                     candidates.len(),
@@ -64,7 +64,7 @@ mod linked {
         }
 
         fn read_rim(&self, file: &[u8]) -> ReadAnswer {
-            unsafe { read_rim(file.as_ptr(), file.len()) }
+            unsafe { patch_box_read(file.as_ptr(), file.len()) }
         }
 
         fn find_candidates(&self, file: &[u8], tables: &mut Tables) -> FindAnswer {
@@ -72,7 +72,7 @@ mod linked {
             let weights = tables.weights.table();
             let rows = tables.rows.table();
             unsafe {
-                find_candidates(
+                patch_box_find(
                     file.as_ptr(),
                     file.len(),
                     candidates.as_mut_ptr(),

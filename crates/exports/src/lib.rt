@@ -46,7 +46,7 @@ fn patch_answer(outcome: Outcome) -> PatchAnswer
 
 // The one call over the three stages.
 #[no_mangle]
-pub extern "C" fn patch_rim(
+pub extern "C" fn patch_box_rim(
     file: &[u8],
     triangles: &mut [u16],
     candidates: &mut [[u8; 3]],
@@ -62,7 +62,7 @@ pub extern "C" fn patch_rim(
 
 // The tiler alone, for a direct job.
 #[no_mangle]
-pub extern "C" fn patch_job(
+pub extern "C" fn patch_box_job(
     n: usize,
     candidates: &[[u8; 3]],
     weights: &[u32],
@@ -78,7 +78,7 @@ pub extern "C" fn patch_job(
 
 // The reader alone.
 #[no_mangle]
-pub extern "C" fn read_rim(file: &[u8]) -> ReadAnswer
+pub extern "C" fn patch_box_read(file: &[u8]) -> ReadAnswer
     ensures { λ r. ⌜ r ≡ readAnswerOf (readingOf (now (file .entry))) ⌝ }
 {
     let reading = reader::read_polygon(file);
@@ -109,7 +109,7 @@ fn find_in_file(
 
 // The candidates, weights and rows of a rim file.
 #[no_mangle]
-pub extern "C" fn find_candidates(
+pub extern "C" fn patch_box_find(
     file: &[u8],
     candidates: &mut [[u8; 3]],
     weights: &mut [u32],

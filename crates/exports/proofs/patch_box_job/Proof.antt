@@ -1,8 +1,8 @@
--- `exports::patch_job` meets its contract. Assumes nothing.
+-- `exports::patch_box_job` meets its contract. Assumes nothing.
 use Rattle.exports.proofs.Answers.{job-patched}
 use borrow.Author.Needs.{needs}
-use Rattle.exports.proofs.patch_job.Statement.{statement}
-use Rattle.exports.proofs.patch_job.Tie as tie
+use Rattle.exports.proofs.patch_box_job.Statement.{statement}
+use Rattle.exports.proofs.patch_box_job.Tie as tie
 
 triangulate-requires : tie.Need-triangulate-requires
 triangulate-requires c κs = search needs
@@ -19,7 +19,7 @@ same-length-2 c = search needs
 returns : tie.Need-returns
 returns c = job-patched (c .patch-answer .ensures) (c .before .before .before .before .before .triangulate .ensures)
 
-pub patch-job-spec : {M : Type 1} → statement M
-patch-job-spec =
+pub patch-box-job-spec : {M : Type 1} → statement M
+patch-box-job-spec =
     tie.close
     (tie.spec triangulate-requires patch-answer-requires same-length same-length-2 returns)
