@@ -14,7 +14,10 @@ use Rattle.triangulator.specs.Call.{Result, numberOf, trianglesOf, totalOf}
 use Rattle.pipeline.specs.Patching.{Tables, Patching}
 use Rattle.exports.specs.declared.PatchAnswer.{PatchAnswer}
 use Rattle.exports.specs.declared.ReadAnswer.{ReadAnswer}
+use Rattle.finder.specs.declared.Sizes.{Sizes}
+use Rattle.finder.specs.declared.Sizes.the-variants as sizes
 use Rattle.exports.specs.declared.FindAnswer.{FindAnswer}
+use Rattle.exports.specs.declared.SizesAnswer.{SizesAnswer}
 
 -- "this paper's number and values" of an outcome: its number, how many triangles, its total
 abbrev pub patchAnswerOf : Outcome → PatchAnswer
@@ -69,3 +72,9 @@ abbrev pub rimListsOf : Finding → RimLists
 rimListsOf f =
     rimLists (record { number = finder.numberOf (f .answer); candidates = candidateCountOf (f .answer); rows = rowCountOf (f .answer) })
     (f .candidates) (f .weights) (f .rows)
+
+-- the places of each table: one per candidate in three of them; zeros with a number (rule 5.6)
+abbrev pub sizesAnswerOf : Sizes → SizesAnswer
+sizesAnswerOf (sizes.Known places) =
+    record { number = 0; triangles = places .triangles; candidates = places .candidates; weights = places .candidates; rows = places .rows; work = places .candidates }
+sizesAnswerOf (sizes.Refused number) = record { number = number; triangles = 0; candidates = 0; weights = 0; rows = 0; work = 0 }

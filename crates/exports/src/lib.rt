@@ -1,6 +1,7 @@
 // The calls that hosts in C and Rust link. An enum cannot cross this boundary, so an answer is a struct of numbers: the number due, 0 where none is,
 // and the counts and the total, which are 0 in a refusal.
 use finder::Found;
+use finder::Sizes;
 use reader::Status;
 use triangulator::Outcome;
 ghost use mathlib.Core.Path.{_≡_};
@@ -8,7 +9,8 @@ ghost use Rattle.reader.specs.Reading.{readingOf};
 ghost use Rattle.finder.specs.Finding.{finding};
 ghost use Rattle.triangulator.specs.Call.{triangulated};
 ghost use Rattle.pipeline.specs.Patching.{tables, patchFile};
-ghost use Rattle.exports.specs.Answers.{patchAnswerOf, rimPatch, rimPatchOf, jobPatch, jobPatchOf, readAnswerOf, findFile, rimLists, rimListsOf};
+ghost use Rattle.pipeline.specs.Sizes.{sizesFile};
+ghost use Rattle.exports.specs.Answers.{patchAnswerOf, rimPatch, rimPatchOf, jobPatch, jobPatchOf, readAnswerOf, findFile, rimLists, rimListsOf, sizesAnswerOf};
 
 // A patch where the number is 0 and there are triangles, 'none' where both are 0.
 #[repr(C)]
@@ -29,6 +31,17 @@ pub struct FindAnswer {
     pub number: u32,
     pub candidates: usize,
     pub rows: usize,
+}
+
+// How many places each lent table needs.
+#[repr(C)]
+pub struct SizesAnswer {
+    pub number: u32,
+    pub triangles: usize,
+    pub candidates: usize,
+    pub weights: usize,
+    pub rows: usize,
+    pub work: usize,
 }
 
 fn patch_answer(outcome: Outcome) -> PatchAnswer
@@ -126,4 +139,39 @@ pub extern "C" fn patch_box_find(
         candidates: candidate_count,
         rows: row_count,
     }
+}
+
+fn sizes_answer(sizes: Sizes) -> SizesAnswer
+    ensures { λ r. ⌜ r ≡ sizesAnswerOf sizes ⌝ }
+{
+    match sizes {
+        Sizes::Known(places) => {
+            let candidates = places.candidates;
+            SizesAnswer {
+                number: 0,
+                triangles: places.triangles,
+                candidates,
+                weights: candidates,
+                rows: places.rows,
+                work: candidates,
+            }
+        }
+        Sizes::Refused(number) => SizesAnswer {
+            number,
+            triangles: 0,
+            candidates: 0,
+            weights: 0,
+            rows: 0,
+            work: 0,
+        },
+    }
+}
+
+// The places that the tables of `patch_box_rim` and `patch_box_find` need for a rim file.
+#[no_mangle]
+pub extern "C" fn patch_box_sizes(file: &[u8]) -> SizesAnswer
+    ensures { λ r. ⌜ r ≡ sizesAnswerOf (sizesFile (now (file .entry))) ⌝ }
+{
+    let sizes = pipeline::table_sizes(file);
+    sizes_answer(sizes)
 }

@@ -1,3 +1,4 @@
 pub mod Finding
+pub mod Sizes
 pub mod Filling
 pub mod Demand2

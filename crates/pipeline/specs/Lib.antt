@@ -1,3 +1,4 @@
 pub mod Patching
+pub mod Sizes
 pub mod Demands
 pub mod Starred

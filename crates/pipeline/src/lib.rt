@@ -1,5 +1,6 @@
 // The one call over the three stages: reader, candidate finder, tiler.
 use finder::Found;
+use finder::Sizes;
 use polygon::Polygon;
 use reader::Status;
 use triangulator::Outcome;
@@ -11,6 +12,7 @@ ghost use Rattle.triangulation.specs.Jobs.{jobOf};
 ghost use Rattle.minimum_weight.specs.Tables.{WellFormed};
 ghost use Rattle.triangulator.specs.Call.{result, settled};
 ghost use Rattle.pipeline.specs.Patching.{tables, patching, patchPolygon, patchFile};
+ghost use Rattle.pipeline.specs.Sizes.{sizesFile};
 
 // The best triangulation by the lists in the first places of the tables.
 fn triangulate_first(
@@ -85,5 +87,18 @@ pub fn patch_file(
     match status {
         Status::Refused(number) => Outcome::Refused(number),
         Status::Complete => patch_polygon(p, triangles, candidates, weights, rows, work),
+    }
+}
+
+// The places that the lent tables need for a rim file, or the number due on it: 1 to 12.
+pub fn table_sizes(file: &[u8]) -> Sizes
+    ensures { λ r. ⌜ r ≡ sizesFile (now (file .entry)) ⌝ }
+{
+    let reading = reader::read_polygon(file);
+    let status = reading.status;
+    let p = reading.polygon;
+    match status {
+        Status::Refused(number) => Sizes::Refused(number),
+        Status::Complete => finder::table_sizes(p),
     }
 }
