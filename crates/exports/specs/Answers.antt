@@ -73,7 +73,7 @@ rimListsOf f =
     rimLists (record { number = finder.numberOf (f .answer); candidates = candidateCountOf (f .answer); rows = rowCountOf (f .answer) })
     (f .candidates) (f .weights) (f .rows)
 
--- the places of each table: one per candidate in three of them; zeros with a number (rule 5.6)
+-- the places of each table: one per candidate in three of them; zeros with a number (rule 5.5)
 abbrev pub sizesAnswerOf : Sizes → SizesAnswer
 sizesAnswerOf (sizes.Known places) =
     record { number = 0; triangles = places .triangles; candidates = places .candidates; weights = places .candidates; rows = places .rows; work = places .candidates }

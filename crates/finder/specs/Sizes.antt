@@ -15,7 +15,7 @@ use Rattle.finder.specs.declared.Sizes.the-variants.{Known, Refused}
 abbrev pub placesOf : Polygon → Places
 placesOf p = record { triangles = p .n - 2; candidates = length (candidatesOf p); rows = length (rowsOf p (candidatesOf p)) }
 
--- the number due on the polygon (rule 4.34), then 12 (rule 4.12); else the places (rule 5.6)
+-- the number due on the polygon (rule 4.34), then 12 (rule 4.12); else the places (rule 5.5)
 unfoldable pub sizesOf : Polygon → Sizes
 sizesOf p =
     cond (eqb (codeOf p) 0)

@@ -88,11 +88,11 @@ fn count_places(n: usize, masks: &[u64; 4096]) -> Places
     ensures { λ r. ⌜ r ≡ placesFor n (triplesOf n (has (now (masks .entry)))) ⌝ }
 {
     let candidates = faces::count(masks, n);
-    let rows = hinges::count_rows(masks, n);
+    let pairs = hinges::count_rows(masks, n);
     Places {
         triangles: n - 2,
         candidates,
-        rows,
+        rows: pairs,
     }
 }
 

@@ -9,7 +9,7 @@ use Rattle.finder.specs.declared.Sizes.{Sizes}
 use Rattle.finder.specs.declared.Sizes.the-variants.{Refused}
 use Rattle.finder.specs.Sizes.{sizesOf}
 
--- 1 to 11 in the reader's order, then what its polygon needs, or 12 (rule 5.6)
+-- 1 to 11 in the reader's order, then what its polygon needs, or 12 (rule 5.5)
 abbrev pub sizesAfter : Status → Polygon → Sizes
 sizesAfter (status.Refused k) p = Refused k
 sizesAfter status.Complete p = sizesOf p
