@@ -21,6 +21,6 @@ maxAreaFactor = 16
 abbrev pub maxBendFactor : ℕ
 maxBendFactor = 65535
 
--- the largest weight of a candidate or of a row (rule 4.17)
+-- the largest weight (rule 4.17)
 abbrev pub maxWeight : ℕ
 maxWeight = 2000000000
