@@ -1,4 +1,4 @@
--- Demand 3 holds of the answer, and of no other; and a triangulation has n − 2 triangles.
+-- Demand 3 holds of the answer, and of no other; a tiling has n − 2 triangles, and its walk order names each once.
 use Prim.Native.Nat.{ℕ, zero, suc, _-_, _≤_, _<_}
 use mathlib.Core.Path.{_≡_, refl, sym, ap, ap₂, _∙_}
 use mathlib.Core.Bool.{Bool, true, false, false≢true}
@@ -10,10 +10,10 @@ use lib.ListN.{length}
 use lib.Dec.{eqb}
 use borrow.Author.Tests.{eqb-true, eqb-false}
 use Rattle.triangulation.specs.Triangulations.{Job, Valid, Answer, none, patch, answerOf, sum, upFrom, subsets, noLater, least, isTriangulation, triangulations, totalWeight, preorder, key, bestKey, best}
-use Rattle.triangulation.specs.Demand3.{Triangulates, Earlier, here, later, Optimal, Demand3}
-use Rattle.triangulation.proofs.Sums.{Mem, mem-keep, keep-mem}
+use Rattle.triangulation.specs.Demand3.{Triangulates, Earlier, here, later, Optimal, Demand3, NamesOnce, HandedBack}
+use Rattle.triangulation.proofs.Sums.{Mem, mem-keep, keep-mem, once-apart}
 use Rattle.triangulation.proofs.Parts.{part-length}
-use Rattle.triangulation.proofs.SetsToParts.{set-part, mem-preorder, preorder-mem, preorder-sum}
+use Rattle.triangulation.proofs.SetsToParts.{set-part, mem-preorder, preorder-mem, preorder-once, preorder-sum}
 use Rattle.triangulation.proofs.PartsToSets.{upFrom-mem}
 use Rattle.triangulation.proofs.Order.{NoLater, less, same, noLater-cases, least-le, least-mem}
 use Rattle.triangulation.proofs.Least.{Image, image, map-mem, subset-mem}
@@ -91,12 +91,22 @@ module _ (job : Job) (good : Valid job) where
   members : (s : List ℕ) → Triangulates job s → (k : ℕ) → Mem k s → k < job .size
   members s h k m = omega (arith, upFrom-mem 0 (job .size) k (subset-mem (upFrom 0 (job .size)) s (h .0) k m))
 
-  preorder-length : (s : List ℕ) → Triangulates job s → length (preorder job s) ≡ job .n - 2
+  pub preorder-length : (s : List ℕ) → Triangulates job s → length (preorder job s) ≡ job .n - 2
   preorder-length s h = omega (arith, part-length job (set-part job good s (members s h) (h .1)))
 
   -- a tiling has exactly n − 2 triangles
   pub triangle-count : (s : List ℕ) → Triangulates job s → length s ≡ job .n - 2
   triangle-count s h = sym (sum-ones s) ∙ preorder-sum job good s (members s h) (h .1) (λ k. 1) ∙ sum-ones (preorder job s) ∙ preorder-length s h
+
+  -- a tiling's walk order names each of its triangles once
+  pub names-once : (s : List ℕ) → Triangulates job s → NamesOnce (preorder job s) s
+  names-once s h =
+      let only : (k : ℕ) → Mem k (preorder job s) → Mem k s = preorder-mem job good s (members s h) (h .1) in
+      record {
+        all = mem-preorder job good s (members s h) (h .1);
+        only = only;
+        apart = once-apart (preorder job s) (λ k m. omega (arith, preorder-once job good s (members s h) (h .1) k (only k m)));
+      }
 
   -- tilings with one preorder are the same set
   preorder-injective : (s t : List ℕ) → Triangulates job s → Triangulates job t → preorder job s ≡ preorder job t → s ≡ t
@@ -174,6 +184,14 @@ module _ (job : Job) (good : Valid job) where
       go none e y f = e ∙ sym (demand3 .none-if (d .none-is e))
       go (patch x l) e none f = absurd (demand3 .none-is f (d .patch-is x l e .set) (d .patch-is x l e .tiles))
       go (patch x l) e (patch y k) f = e ∙ agree x y l k (d .patch-is x l e) (demand3 .patch-is y k f) ∙ sym f
+
+  -- a right patch is all that the caller is promised
+  pub handed-back : (total : ℕ) (part : List ℕ) → Optimal job total part → HandedBack job total part
+  handed-back total part o = record {
+    right = o;
+    count = ap length (o .walk) ∙ preorder-length (o .set) (o .tiles);
+    once = rw (o .walk) (names-once (o .set) (o .tiles));
+  }
 
   -- a patch has n − 2 triangles
   pub best-length : (total : ℕ) (triangles : List ℕ) → best job ≡ patch total triangles → length triangles ≡ job .n - 2

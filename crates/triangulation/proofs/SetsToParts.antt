@@ -230,20 +230,22 @@ module _ (job : Job) where
     pub mem-preorder : (k : ℕ) → Mem k s → Mem k (preorder job s)
     mem-preorder k m = all (preorder job s) (whole .cost) (whole .is) (whole .sub) (job .n) k m (omega arith)
 
+    -- each of them once
+    pub preorder-once : (k : ℕ) → Mem k s → count (λ x. eqb k x) (preorder job s) ≡ 1
+    unfolding countBetween
+    preorder-once k m =
+        le-antisymm
+        (omega (
+          arith,
+          between-le job good (whole .is) (job .a k) (job .c k),
+          count-mono (λ x. eqb k x) (longEdge job (job .a k) (job .c k)) (λ x e. longEdge-is job good s _ _ x (sym (ap (job .a) (eqb-true k x e))) (sym (ap (job .c) (eqb-true k x e)))) (preorder job s),
+        ))
+        (mem-count (λ x. eqb k x) (preorder job s) k (mem-preorder k m) (eq-eqb k k refl))
+
     pub preorder-sum : (f : ℕ → ℕ) → sum f s ≡ sum f (preorder job s)
     unfolding countBetween
-    preorder-sum f = sum-same f s (preorder job s) once-l once-s
+    preorder-sum f = sum-same f s (preorder job s) preorder-once once-s
       where
-        once-l : (k : ℕ) → Mem k s → count (λ x. eqb k x) (preorder job s) ≡ 1
-        once-l k m =
-            le-antisymm
-            (omega (
-              arith,
-              between-le job good (whole .is) (job .a k) (job .c k),
-              count-mono (λ x. eqb k x) (longEdge job (job .a k) (job .c k)) (λ x e. longEdge-is job good s _ _ x (sym (ap (job .a) (eqb-true k x e))) (sym (ap (job .c) (eqb-true k x e)))) (preorder job s),
-            ))
-            (mem-count (λ x. eqb k x) (preorder job s) k (mem-preorder k m) (eq-eqb k k refl))
-
         once-s : (x : ℕ) → Mem x (preorder job s) → count (λ k. eqb k x) s ≡ 1
         once-s x m =
             le-antisymm

@@ -1,5 +1,5 @@
 -- Sums and counts over lists.
-use Prim.Native.Nat.{ℕ, _+_, _≤_}
+use Prim.Native.Nat.{ℕ, zero, suc, _+_, _≤_, _<_}
 use mathlib.Core.Path.{_≡_, refl, sym, ap, _∙_}
 use mathlib.Core.Bool.{Bool, true, false, cond, false≢true}
 use mathlib.Core.Logic.{_⊎_, inl, inr, ⊎-elim}
@@ -7,7 +7,9 @@ use mathlib.Core.List.{List, [], _∷_, _++_, List·Memᴰ, List·Memᴰ·head, 
 use native.Mathlib.Nat.{add-zero}
 use native.Mathlib.Omega.{arith}
 use lib.Dec.{eqb}
-use borrow.Author.Tests.{eqb-true}
+use lib.ListN.{length, getD}
+use borrow.Author.Tests.{eqb-true, eq-eqb}
+use Rattle.lists.proofs.Members.{entry-member}
 use Rattle.triangulation.specs.Triangulations.{only, sum, keep}
 
 abbrev pub Mem : ℕ → List ℕ → Type 0
@@ -135,6 +137,15 @@ count-mono p q h (x ∷ xs) = go (p x) (q x) (h x) (count-mono p q h xs)
     go true false f ih = absurd (false≢true (f refl))
     go false true f ih = omega arith
     go false false f ih = omega arith
+
+-- where each element is there once at most, no two places hold the same
+pub once-apart : (l : List ℕ) → ((k : ℕ) → Mem k l → count (λ x. eqb k x) l ≤ 1) → (i j : ℕ) → i < j → j < length l → getD l i 0 ≡ getD l j 0 → ⊥
+once-apart [] h i j o p e = omega arith
+once-apart (x ∷ l) h i zero o p e = omega arith
+once-apart (x ∷ l) h zero (suc j) o p e =
+    let m : Mem x l = rw e (entry-member l 0 j (omega arith)) in
+    omega (arith, h x (List·Memᴰ·head refl), mem-count (λ y. eqb x y) l x m (eq-eqb x x refl), ap (λ b. only b 1) (eq-eqb x x refl))
+once-apart (x ∷ l) h (suc i) (suc j) o p e = once-apart l (λ k m. omega (arith, h k (List·Memᴰ·tail m))) i j (omega arith) (omega arith) e
 
 -- none passes, or one does
 pub data Any (p : ℕ → Bool) (s : List ℕ) : Type 0 where

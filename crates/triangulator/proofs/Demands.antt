@@ -7,15 +7,17 @@ use lib.ListN.{length}
 use borrow.Author.Tests.{eq-eqb, ne-eqb}
 use Rattle.lists.proofs.Choice.{yes, no}
 use Rattle.lists.proofs.Writing.{filled-take}
-use Rattle.triangulation.specs.Triangulations.{Answer, none, patch, best}
+use Rattle.triangulation.specs.Triangulations.{Job, Valid, Answer, none, patch, best}
 use Rattle.triangulation.specs.Jobs.{jobOf}
-use Rattle.triangulation.specs.Demand3.{Demand3}
+use Rattle.triangulation.specs.Demand3.{Optimal, Demand3}
+use Rattle.triangulation.proofs.Demand3.{demand3, handed-back}
 use Rattle.jobs.specs.Job.{jobCode}
 use Rattle.jobs.proofs.Acceptance.{FirstDue, Accepted, accepted-zero, first-due}
-use Rattle.triangulator.specs.declared.Outcome.the-variants.{Refused}
-use Rattle.triangulator.specs.Call.{Result, result, settled, triangulated, numberOf}
-use Rattle.triangulator.specs.Demands.{stated, Taken, a-patch, a-none}
-use Rattle.triangulator.proofs.Accepting.{accepted-demand3}
+use Rattle.triangulator.specs.declared.Outcome.the-variants.{None, Refused}
+use Rattle.triangulator.specs.Call.{Result, result, settled, triangulated, numberOf, partOf}
+use Rattle.triangulator.specs.Demands.{stated, Taken, a-patch, a-none, Handed, with-patch, with-none, with-refusal}
+use Rattle.triangulator.proofs.Accepting.{accepted-well-formed, accepted-demand3}
+use Rattle.triangulator.proofs.Settling.{part-patch, part-empty}
 
 -- the outcome and the table that an answer leaves state that answer
 pub settled-states : (a : Answer) (count : ℕ) (triangles work : List ℕ) → stated (settled a count triangles work .outcome) (settled a count triangles work .triangles) ≡ a
@@ -25,6 +27,20 @@ settled-states (patch total l) count triangles work = ap (patch total) (filled-t
 pub settled-taken : (a : Answer) (count : ℕ) (triangles work : List ℕ) → Taken (settled a count triangles work .outcome)
 settled-taken none count triangles work = a-none
 settled-taken (patch total l) count triangles work = a-patch
+
+-- the part handed back with that outcome and table is as promised
+pub settled-handed : (job : Job) → Valid job → (count : ℕ) (triangles work : List ℕ) →
+    Handed job (partOf (settled (best job) count triangles work .outcome) (settled (best job) count triangles work .triangles)) (settled (best job) count triangles work .outcome)
+settled-handed job good count triangles work = go (best job) (demand3 job good .patch-is)
+  where
+    go : (a : Answer) → ((total : ℕ) (l : List ℕ) → a ≡ patch total l → Optimal job total l) → Handed job (partOf (settled a count triangles work .outcome) (settled a count triangles work .triangles)) (settled a count triangles work .outcome)
+    go none h = with-none (part-empty None triangles refl)
+    go (patch total l) h =
+        let b = handed-back job good total l (h total l refl) in
+        with-patch {total = total} (b .count) (rw (part-patch l triangles total) b)
+
+pub refused-handed : (job : Job) (number : ℕ) (triangles : List ℕ) → Handed job (partOf (Refused number) triangles) (Refused number)
+refused-handed job number triangles = with-refusal (part-empty (Refused number) triangles refl)
 
 module _ (n : ℕ) (candidates : List (List ℕ)) (weights : List ℕ) (rows : List (List ℕ)) (triangles work : List ℕ) where
   call : Result
@@ -77,3 +93,14 @@ module _ (n : ℕ) (candidates : List (List ℕ)) (weights : List ℕ) (rows : L
       subst (λ (x : Answer). Demand3 (jobOf n candidates weights rows) x)
       (sym (ap (λ (r : Result). stated (r .outcome) (r .triangles)) (settled-call e) ∙ settled-states (best (jobOf n candidates weights rows)) (length candidates) triangles work))
       (accepted-demand3 n candidates weights rows (length triangles) (length work) e)
+
+  -- what the caller is handed back, after every call
+  pub job-handed : Handed (jobOf n candidates weights rows) (partOf (triangulated n candidates weights rows triangles work .outcome) (triangulated n candidates weights rows triangles work .triangles)) (triangulated n candidates weights rows triangles work .outcome)
+  unfolding call number
+  job-handed = by number refl
+    where
+      by : (k : ℕ) → number ≡ k → Handed (jobOf n candidates weights rows) (partOf (call .outcome) (call .triangles)) (call .outcome)
+      by zero e = subst (λ (r : Result). Handed (jobOf n candidates weights rows) (partOf (r .outcome) (r .triangles)) (r .outcome)) (sym (settled-call e))
+          (settled-handed (jobOf n candidates weights rows) (accepted-well-formed n candidates weights rows (length triangles) (length work) e .0 .valid) (length candidates) triangles work)
+      by (suc k) e = subst (λ (r : Result). Handed (jobOf n candidates weights rows) (partOf (r .outcome) (r .triangles)) (r .outcome)) (sym (refused-call k e))
+          (refused-handed (jobOf n candidates weights rows) (suc k) triangles)

@@ -1,5 +1,5 @@
--- What a call of the tiler answers, and what it leaves in every place of its tables.
-use Prim.Native.Nat.{ℕ}
+-- What a call of the tiler answers, and what it leaves in every place of its tables. Definitions only.
+use Prim.Native.Nat.{ℕ, zero, suc, _-_}
 use mathlib.Core.Bool.{cond}
 use mathlib.Core.List.{List, []}
 use lib.ListN.{length, take, replicate}
@@ -11,7 +11,7 @@ use Rattle.jobs.specs.Job.{jobCode}
 use Rattle.triangulator.specs.declared.Outcome.{Outcome}
 use Rattle.triangulator.specs.declared.Outcome.the-variants.{Patch, None, Refused}
 
--- the number, the triangle count and the total of each case: "Every number returns no triangles and total 0", and so does 'none'
+-- the number, the triangle count and the total of each case of an outcome (rule 5.2)
 abbrev pub numberOf : Outcome → ℕ
 numberOf (Patch count total) = 0
 numberOf None = 0
@@ -27,7 +27,28 @@ totalOf (Patch count total) = total
 totalOf None = 0
 totalOf (Refused number) = 0
 
--- "the filled part of the caller's triangle table": as many first places as the outcome says, none where the table is shorter
+-- the three together
+pub record Values : Type 0 where
+  pub number : ℕ
+  pub triangles : ℕ
+  pub total : ℕ
+
+abbrev pub values : ℕ → ℕ → ℕ → Values
+values k t x = record { number = k; triangles = t; total = x }
+
+abbrev pub valuesOf : Outcome → Values
+valuesOf o = values (numberOf o) (trianglesOf o) (totalOf o)
+
+-- what they are on n vertices: a patch gives 0, n - 2 and its total, 'none' three zeros, a number that is due itself and two zeros (rule 5.2)
+abbrev pub answerValues : ℕ → Answer → Values
+answerValues n none = values 0 0 0
+answerValues n (patch total l) = values 0 (n - 2) total
+
+abbrev pub dueValues : ℕ → ℕ → Answer → Values
+dueValues zero n answer = answerValues n answer
+dueValues (suc k) n answer = values (suc k) 0 0
+
+-- the part handed back: as many first places as the outcome says, none where the table is shorter (rule 3.8)
 abbrev pub partOf : Outcome → List ℕ → List ℕ
 partOf outcome table = cond (leb (trianglesOf outcome) (length table)) (take (trianglesOf outcome) table) []
 
@@ -40,17 +61,17 @@ pub record Result : Type 0 where
 abbrev pub result : Outcome → List ℕ → List ℕ → Result
 result o t w = record { outcome = o; triangles = t; work = w }
 
--- "After a patch or 'none' .. the work table holds zero in one place per candidate, and all further places are unchanged"; a patch is written in
--- walk order to the first places of the triangle table, and 'none' leaves it unchanged
+-- after a patch the first places of the triangle table hold it in walk order, after 'none' the table is as it was (rule 3.8); the work table holds
+-- 0 in a place for each candidate, and every further place keeps what it held (rule 3.9)
 abbrev pub settled : Answer → ℕ → List ℕ → List ℕ → Result
 settled none count triangles work = result None triangles (filled (replicate count 0) work)
 settled (patch total l) count triangles work = result (Patch (length l) total) (filled l triangles) (filled (replicate count 0) work)
 
--- a refusal "changes no table"; "'None' comes only after all of them"
+-- a refusal changes no table (rule 4.30), and comes before a patch and 'none' (rule 4.33)
 abbrev pub refusedOr : ℕ → List ℕ → List ℕ → Result → Result
 refusedOr number triangles work otherwise = cond (eqb number 0) otherwise (result (Refused number) triangles work)
 
--- a direct job
+-- the call for a direct job, by the first number due on it (rule 4.32)
 unfoldable pub triangulated : ℕ → List (List ℕ) → List ℕ → List (List ℕ) → List ℕ → List ℕ → Result
 triangulated n candidates weights rows triangles work =
     refusedOr (jobCode n candidates weights rows (length triangles) (length work)) triangles work

@@ -1,18 +1,26 @@
--- What an outcome and the triangle table state as an answer, for demand 3. Definitions only.
-use mathlib.Core.List.{List}
-use Prim.Native.Nat.{ℕ}
+-- What the caller has after a call, for demands 1 and 3. Definitions only.
+use mathlib.Core.Path.{_≡_}
+use mathlib.Core.List.{List, []}
+use Prim.Native.Nat.{ℕ, _-_}
 use lib.ListN.{take}
-use Rattle.triangulation.specs.Triangulations.{Answer, none, patch}
+use Rattle.triangulation.specs.Triangulations.{Job, Answer, none, patch}
+use Rattle.triangulation.specs.Demand3.{HandedBack}
 use Rattle.triangulator.specs.declared.Outcome.{Outcome}
 use Rattle.triangulator.specs.declared.Outcome.the-variants.{Patch, None, Refused}
 
--- a patch states its total and the candidate numbers in the first places of the triangle table
+-- a patch states its total and the candidate numbers in the first places of the triangle table (rule 3.8)
 abbrev pub stated : Outcome → List ℕ → Answer
 stated (Patch count total) table = patch total (take count table)
 stated None table = none
 stated (Refused number) table = none
 
--- the outcome is a patch or 'none'
+-- the outcome is a patch or 'none' (rule 4.33)
 pub data Taken : Outcome → Type 0 where
   a-patch : {count total : ℕ} → Taken (Patch count total)
   a-none : Taken None
+
+-- the part handed back with an outcome (rules 3.8, 4.30): after a patch its n - 2 triangles in walk order, each once; after anything else nothing
+pub data Handed (job : Job) (part : List ℕ) : Outcome → Type 0 where
+  with-patch : {count total : ℕ} → count ≡ job .n - 2 → HandedBack job total part → Handed job part (Patch count total)
+  with-none : part ≡ [] → Handed job part None
+  with-refusal : {number : ℕ} → part ≡ [] → Handed job part (Refused number)

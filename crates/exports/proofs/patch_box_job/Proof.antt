@@ -17,7 +17,7 @@ same-length-2 : tie.Need-same-length-2
 same-length-2 c = search needs
 
 returns : tie.Need-returns
-returns c = job-patched (c .patch-answer .ensures) (c .before .before .before .before .before .triangulate .ensures)
+returns c = job-patched (c .patch-answer .ensures) (c .before .before .before .before .before .triangulate .ensures .0)
 
 pub patch-box-job-spec : {M : Type 1} → statement M
 patch-box-job-spec =
