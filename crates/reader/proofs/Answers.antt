@@ -8,7 +8,8 @@ use borrow.Author.Tests.{le-ltb, lt-ltb, le-leb, eqb-true, eqb-false}
 use lib.Dec.{ltb, leb, eqb}
 use Rattle.lists.proofs.Choice.{yes, no}
 use Rattle.grid.specs.declared.GridPoint.{GridPoint}
-use Rattle.polygon.specs.Polygon.{repeatedVertex, maxVertices}
+use Rattle.terms.specs.Limits.{maxVertices}
+use Rattle.polygon.specs.Polygon.{repeatedVertex}
 use Rattle.polygon.specs.declared.Polygon.{Polygon}
 use Rattle.reader.specs.File.{areaFactor, bendFactor, recordCount, lengthWrong}
 use Rattle.reader.specs.Chain.{metBefore, positionCode, codeFrom, endFrom, chainCode, vertexCount, verticesOf}
@@ -30,7 +31,7 @@ unfolding endFrom
 end-step s i k = refl
 
 -- the position after the last that is allowed is refused with 3, 4 or 5
-past-limit : (s : List ℕ) (i : ℕ) → maxVertices ≤ i → positionCode s i ≡ 0 → ⊥
+pub past-limit : (s : List ℕ) (i : ℕ) → maxVertices ≤ i → positionCode s i ≡ 0 → ⊥
 unfolding positionCode
 past-limit s i h e = by (ltb (recordCount s) (chain.link s i)) (metBefore s i (chain.link s i)) refl refl
   where
@@ -151,7 +152,7 @@ answer-complete s {n} {area} {bend} {vertices} e a b c d = same ∙ sym (ap (λ 
     same : _≡_ {A = Reading} (record { status = Complete; polygon = record { n = n; «area_factor» = area; «bend_factor» = bend; vertices = vertices } }) (answer 0 (polygonOf s))
     same = λ i. record { status = Complete; polygon = record { n = a i; «area_factor» = b i; «bend_factor» = c i; vertices = d i } }
 
-answer-number : (k : ℕ) (p : Polygon) → statusNumber (answer k p .status) ≡ k
+pub answer-number : (k : ℕ) (p : Polygon) → statusNumber (answer k p .status) ≡ k
 answer-number zero p = refl
 answer-number (suc k) p = refl
 

@@ -6,7 +6,8 @@ use lib.ListN.{replicate}
 use lib.Dec.{ltb, leb, eqb}
 use Rattle.lists.specs.Lists.{either, over, filled}
 use Rattle.grid.specs.Number.{roundEighths}
-use Rattle.polygon.specs.Polygon.{maxVertices, origin}
+use Rattle.terms.specs.Limits.{maxVertices}
+use Rattle.polygon.specs.Polygon.{origin}
 use Rattle.grid.specs.declared.GridPoint.{GridPoint}
 use Rattle.reader.specs.File.{firstRecord, recordCount, offset, nextRecord, kind, thirdNumber}
 use Rattle.reader.specs.Record.{known, heightOf, recordAt, vertexOf}

@@ -27,9 +27,13 @@ areaFactor s = u16At s 4
 abbrev pub bendFactor : List ℕ → ℕ
 bendFactor s = u16At s 6
 
--- "1 length isn't 8 + 16R, or is under 8, or R is over 256"
+-- the most records of a file (rule 1.4)
+abbrev pub maxRecords : ℕ
+maxRecords = 256
+
+-- number 1 is due (rule 4.1)
 unfoldable pub lengthWrong : List ℕ → Bool
-lengthWrong s = either (ltb (length s) 8) (either (ltb 256 (recordCount s)) (not (eqb (length s) (8 + 16 * recordCount s))))
+lengthWrong s = either (ltb (length s) 8) (either (ltb maxRecords (recordCount s)) (not (eqb (length s) (8 + 16 * recordCount s))))
 
 -- "Then R records of 16 bytes, numbered from 1": where record k starts
 abbrev pub offset : ℕ → ℕ

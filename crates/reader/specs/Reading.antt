@@ -3,6 +3,7 @@ use Prim.Native.Nat.{ℕ, zero, suc}
 use mathlib.Core.Bool.{cond}
 use mathlib.Core.List.{List}
 use lib.Dec.{ltb}
+use Rattle.terms.specs.Limits.{minVertices, maxAreaFactor}
 use Rattle.polygon.specs.Polygon.{emptyPolygon, repeatedVertex}
 use Rattle.polygon.specs.declared.Polygon.{Polygon}
 use Rattle.reader.specs.File.{areaFactor, bendFactor, lengthWrong}
@@ -20,9 +21,9 @@ firstDue (suc j) k = suc j
 unfoldable pub numberDue : List ℕ → ℕ
 numberDue s =
     cond (lengthWrong s) 1
-    (cond (ltb 16 (areaFactor s)) 2
+    (cond (ltb maxAreaFactor (areaFactor s)) 2
     (firstDue (chainCode s)
-    (cond (ltb (vertexCount s) 3) 10
+    (cond (ltb (vertexCount s) minVertices) 10
     (cond (repeatedVertex (verticesOf s (vertexCount s)) (vertexCount s)) 11
     0))))
 

@@ -6,7 +6,8 @@ use lib.IntN.{ℤ, pos}
 use lib.ListN.{replicate}
 use Rattle.lists.specs.Lists.{both}
 use Rattle.grid.specs.Point.{point}
-use Rattle.polygon.specs.Polygon.{maxVertices, origin}
+use Rattle.terms.specs.Limits.{maxVertices}
+use Rattle.polygon.specs.Polygon.{origin}
 use Rattle.grid.specs.declared.GridNumber.{GridNumber}
 use Rattle.grid.specs.declared.GridNumber.the-variants.{Value, NotFinite, OutOfRange}
 use Rattle.reader.specs.Chain.{chainCode, vertexCount, verticesOf}

@@ -38,7 +38,7 @@ enum Vertex {
 struct Chain {
     pub code: u32,
     pub n: usize,
-    pub vertices: [GridPoint; polygon::MAX_VERTICES],
+    pub vertices: [GridPoint; terms::MAX_VERTICES],
 }
 
 pub enum Status {
@@ -81,7 +81,7 @@ pub fn read_polygon(file: &[u8]) -> Reading
         return refused(codes::LENGTH);
     }
     let area_factor = bytes::u16_at(file, 4);
-    if polygon::MAX_AREA_FACTOR < area_factor {
+    if terms::MAX_AREA_FACTOR < area_factor {
         return refused(codes::AREA_FACTOR);
     }
     let chain = walk::follow_chain(file);
@@ -90,7 +90,7 @@ pub fn read_polygon(file: &[u8]) -> Reading
         return refused(code);
     }
     let n = chain.n;
-    if n < polygon::MIN_VERTICES {
+    if n < terms::MIN_VERTICES {
         return refused(codes::TOO_FEW_VERTICES);
     }
     let vertices = chain.vertices;

@@ -13,7 +13,7 @@ use grid::GridPoint;
 fn stopped(code: u32) -> Chain
     ensures { λ r. ⌜ r ≡ stoppedAt code ⌝ }
 {
-    let vertices = [GridPoint { x: 0, y: 0, z: 0 }; polygon::MAX_VERTICES];
+    let vertices = [GridPoint { x: 0, y: 0, z: 0 }; terms::MAX_VERTICES];
     Chain {
         code,
         n: 0,
@@ -28,7 +28,7 @@ pub fn follow_chain(file: &[u8]) -> Chain
 {
     let count = bytes::u16_at(file, 2) as usize;
     let mut met = [false; 257];
-    let mut vertices = [GridPoint { x: 0, y: 0, z: 0 }; polygon::MAX_VERTICES];
+    let mut vertices = [GridPoint { x: 0, y: 0, z: 0 }; terms::MAX_VERTICES];
     let mut height = Height::Unknown;
     let mut n = 0;
     let mut link = bytes::u16_at(file, 0) as usize;
@@ -39,7 +39,7 @@ pub fn follow_chain(file: &[u8]) -> Chain
         if met[link] {
             return stopped(codes::RECORD_REPEATED);
         }
-        if n == polygon::MAX_VERTICES {
+        if n == terms::MAX_VERTICES {
             return stopped(codes::TOO_MANY_VERTICES);
         }
         let at = 16 * link - 8;
