@@ -8,12 +8,12 @@ use lib.ListN.{length}
 use Rattle.polygon.specs.declared.Polygon.{Polygon}
 use Rattle.lists.specs.Lists.{both, either, some}
 use Rattle.lists.proofs.Choice.{true-not-false}
-use Rattle.faces.specs.Faces.{isFace, has, withFaces, triplesOf}
+use Rattle.faces.specs.Faces.{isFace, has, emptySet, withFaces, triplesOf}
 use Rattle.lists.proofs.Bools.{either-no, either-swap, both-no, both-yes}
-use Rattle.faces.proofs.Fours.{left1, left4, next4, out1}
+use Rattle.faces.proofs.Fours.{left1, left3, left4, next4, leave4, out1}
 use Rattle.faces.proofs.Sets.{faces-in, faces-long, triples-same}
 use Rattle.delaunay.specs.Candidates.{counts, isFifth, isCandidate, candidatesOf, cospherical}
-use Rattle.delaunay.specs.Search.{Marked}
+use Rattle.delaunay.specs.Search.{Searched, Marked}
 
 -- a test of fours
 abbrev pub Test : Type 0
@@ -77,18 +77,33 @@ module _ {p : Polygon} where
     pub twelve-here : counts p a b c d ≡ true → some 0 (p .n) (isFifth p a b c d) ≡ true → left₀ (hasFifth p) ≡ true
     twelve-here e f = sym (k .twelve) ∙ next4 (p .n) (hasFifth p) a b c d d<n ∙ (λ i. either (both (e i) (f i)) (left4 (p .n) (hasFifth p) a b c (d + 1)))
 
+  -- three corners of which no four counts
+  pub kept-leave : {marks₀ marks : List ℕ} {left₀ : Test → Bool} (a b c d : ℕ) → Kept p marks₀ marks left₀ (λ P. left4 (p .n) P a b c d) → ((d : ℕ) → counts p a b c d ≡ false) → Kept p marks₀ marks left₀ (λ P. left3 (p .n) P a b (c + 1))
+  kept-leave {marks = marks} a b c d k none = record {
+    faces = λ x y z h i j. ap (λ (t : Bool). either (has marks x y z) t) (sym (leave4 (p .n) (gives p x y z) a b c d (λ d. both-no (isFace a b c d x y z) (none d)))) ∙ k .faces x y z h i j;
+    twelve = sym (leave4 (p .n) (hasFifth p) a b c d (λ d. ap (λ (t : Bool). both t (some 0 (p .n) (isFifth p a b c d))) (none d))) ∙ k .twelve;
+    long = k .long;
+  }
+
   -- 12 is due
-  pub twelve-due : {marks₀ marks : List ℕ} → left1 (p .n) (hasFifth p) 0 ≡ true → Marked p marks₀ true marks
+  pub twelve-due : {marks₀ marks : List ℕ} → left1 (p .n) (hasFifth p) 0 ≡ true → Searched p marks₀ true marks
   unfolding cospherical
   twelve-due e = record { twelve = sym e; faces = λ h. absurd (true-not-false refl h) }
 
   -- all fours are done
-  pub all-marked : {marks₀ marks : List ℕ} (a : ℕ) → p .n ≤ a → Kept p marks₀ marks (λ P. left1 (p .n) P 0) (λ P. left1 (p .n) P a) → Marked p marks₀ false marks
+  pub all-marked : {marks₀ marks : List ℕ} (a : ℕ) → p .n ≤ a + 3 → Kept p marks₀ marks (λ P. left1 (p .n) P 0) (λ P. left1 (p .n) P a) → Searched p marks₀ false marks
   unfolding cospherical isCandidate
   all-marked {marks₀} {marks} a h k = record {
     twelve = sym (out1 (p .n) (hasFifth p) a h) ∙ k .twelve;
     faces = λ e x y z hx hy hz. sym (ap (λ (t : Bool). either (has marks x y z) t) (out1 (p .n) (gives p x y z) a h) ∙ either-no (has marks x y z)) ∙ k .faces x y z hx hy hz;
   }
+
+  -- after the search: the set is emptied where 12 is due
+  pub marked-none : {marks₀ marks marks′ : List ℕ} {due : Bool} → Searched p marks₀ due marks → due ≡ true → marks′ ≡ emptySet → Marked p marks₀ true marks′
+  marked-none s e f = record { twelve = sym e ∙ s .twelve; faces = λ h. absurd (true-not-false refl h); empty = λ h. f }
+
+  pub marked-all : {marks₀ marks : List ℕ} {due : Bool} → Searched p marks₀ due marks → due ≡ false → Marked p marks₀ false marks
+  marked-all s e = record { twelve = sym e ∙ s .twelve; faces = λ h. s .faces e; empty = λ h. absurd (true-not-false h refl) }
 
   -- what was marked in an empty set lists the candidates
   pub listed-are : {marks₀ marks : List ℕ} {due : Bool} → p .n ≤ 64 → ((x y z : ℕ) → x < 64 → y < 64 → z < 64 → has marks₀ x y z ≡ false) → due ≡ false → Marked p marks₀ due marks → triplesOf (p .n) (has marks) ≡ candidatesOf p

@@ -1,29 +1,29 @@
--- The scan of the vertices for one four, by what is left to scan; and what a vertex's position says. Assumes nothing.
+-- The scan of the vertices for one four, by what is left to scan; and which fours do not count. Assumes nothing.
 use mathlib.Core.Path.{_≡_, refl, sym, _∙_, ap, subst}
 use mathlib.Core.Bool.{Bool, true, false, not}
-use mathlib.Core.List.{[], _∷_}
 use mathlib.Core.Logic.{⊎-elim}
-use Prim.Native.Nat.{ℕ, _+_, _≤_, _<_}
+use Prim.Native.Nat.{ℕ, zero, suc, _+_, _-_, _≤_, _<_}
 use native.Mathlib.Omega.{arith}
-use lib.IntN.{pos}
-use denote.Enum.Declared.{tagOf}
-use types.Run.{OneOf}
 use Rattle.polygon.specs.declared.Polygon.{Polygon}
-use Rattle.geometry.specs.declared.sphere.Lifted.{Lifted}
-use Rattle.geometry.specs.declared.sphere.Pencil.{Pencil}
-use Rattle.geometry.specs.declared.sphere.Sphere.{Sphere}
-use Rattle.geometry.specs.declared.sphere.Position.{Position}
-use Rattle.geometry.specs.declared.sphere.Position.the-variants.{Inside, On, Outside}
-use Rattle.integers.specs.Order.{equal}
-use Rattle.geometry.specs.Spheres.{coplanar, positionOf, liftOf, pencilOf, sphereOf, positionBy}
-use Rattle.geometry.proofs.Spheres.{computedSphere, coplanar-is, position-is, position-inside, position-on, position-outside}
-use Rattle.geometry.proofs.sphere.Position.{the-type}
+use Rattle.geometry.specs.Spheres.{coplanar}
+use Rattle.geometry.specs.Facets.{separates}
+use Rattle.geometry.proofs.Facets.{no-empty-sphere}
 use Rattle.lists.specs.Lists.{both, either, every, some}
-use Rattle.lists.proofs.Choice.{true-not-false, not-true-false}
-use Rattle.lists.proofs.Ranges.{every-on, every-end, every-at, some-step, some-end}
+use Rattle.lists.proofs.Choice.{Truth, truth, holds, fails, true-not-false, not-true-false, either-left}
+use Rattle.lists.proofs.Ranges.{every-on, every-end, every-at, some-step, some-end, some-here}
 use Rattle.lists.proofs.Bools.{either-assoc, either-no, both-no}
-use Rattle.delaunay.specs.Candidates.{vertex, insideFour, onFour, counts, isCorner, isFifth}
-use Rattle.delaunay.specs.Search.{isOn}
+use Rattle.delaunay.specs.Candidates.{vertex, insideFour, counts, isFifth}
+use Rattle.delaunay.specs.Search.{scannedAt}
+
+-- a turn after the first
+pub scanned-later : (last i : ℕ) → (i ≡ 0 → ⊥) → i - 1 ≡ scannedAt last i
+scanned-later last zero h = absurd (h refl)
+scanned-later last (suc i) h = omega arith
+
+-- a turn looks at a vertex
+pub scanned-in : (n last i v : ℕ) → last < n → i < n + 1 → v ≡ scannedAt last i → v < n
+scanned-in n last zero v h k e = omega (arith, e)
+scanned-in n last (suc i) v h k e = omega (arith, e)
 
 module _ (p : Polygon) (a b c d : ℕ) where
   -- up to vertex v none is strictly inside, and `fifth` says whether one other than the corners is on the sphere
@@ -34,7 +34,8 @@ module _ (p : Polygon) (a b c d : ℕ) where
   pub scan-start : Scanned 0 false
   scan-start = record { clear = refl; found = refl }
 
-  pub scan-on : (v : ℕ) (fifth fifth′ : Bool) → v < p .n → insideFour p a b c d v ≡ false → fifth′ ≡ either fifth (isFifth p a b c d v) → Scanned v fifth → Scanned (v + 1) fifth′
+  -- the next vertex
+  scan-on : (v : ℕ) (fifth fifth′ : Bool) → v < p .n → insideFour p a b c d v ≡ false → fifth′ ≡ either fifth (isFifth p a b c d v) → Scanned v fifth → Scanned (v + 1) fifth′
   scan-on v fifth fifth′ h e f s = record {
     clear = sym (every-on v (p .n) _ h (ap not e)) ∙ s .clear;
     found =
@@ -44,6 +45,29 @@ module _ (p : Polygon) (a b c d : ℕ) where
         ∙ s .found;
   }
 
+  -- a vertex out of turn, before the first
+  scan-ahead : (v : ℕ) (fifth fifth′ : Bool) → v < p .n → fifth′ ≡ either fifth (isFifth p a b c d v) → Scanned 0 fifth → Scanned 0 fifth′
+  scan-ahead v fifth fifth′ h f s = record {
+    clear = s .clear;
+    found =
+        ap (λ (t : Bool). either t (some 0 (p .n) (isFifth p a b c d))) f
+        ∙ sym (either-assoc fifth (isFifth p a b c d v) (some 0 (p .n) (isFifth p a b c d)))
+        ∙ ap (λ (t : Bool). either fifth t) (by (truth (isFifth p a b c d v)))
+        ∙ s .found;
+  }
+    where
+      by : Truth (isFifth p a b c d v) → either (isFifth p a b c d v) (some 0 (p .n) (isFifth p a b c d)) ≡ some 0 (p .n) (isFifth p a b c d)
+      by (holds e) = either-left (isFifth p a b c d v) _ e ∙ sym (some-here 0 (p .n) (isFifth p a b c d) v (omega arith) h e)
+      by (fails e) = ap (λ (t : Bool). either t (some 0 (p .n) (isFifth p a b c d))) e
+
+  -- turn i of the scan
+  pub scan-turn : (last i v : ℕ) (fifth fifth′ : Bool) → v ≡ scannedAt last i → v < p .n → insideFour p a b c d v ≡ false → fifth′ ≡ either fifth (isFifth p a b c d v) → Scanned (i - 1) fifth → Scanned (i + 1 - 1) fifth′
+  scan-turn last zero v fifth fifth′ k h e f s = scan-ahead v fifth fifth′ h f s
+  scan-turn last (suc i) v fifth fifth′ k h e f s = subst (λ (j : ℕ). Scanned j fifth′) (omega (arith, k)) (scan-on v fifth fifth′ h e f (subst (λ (j : ℕ). Scanned j fifth) (ahead ∙ sym k) s))
+    where
+      ahead : suc i - 1 ≡ i
+      ahead = omega arith
+
   pub not-counts-flat : coplanar (vertex p a) (vertex p b) (vertex p c) (vertex p d) ≡ true → counts p a b c d ≡ false
   unfolding counts
   not-counts-flat e = ap (λ (t : Bool). both (not t) (every 0 (p .n) (λ w. not (insideFour p a b c d w)))) e
@@ -52,6 +76,14 @@ module _ (p : Polygon) (a b c d : ℕ) where
   unfolding counts
   not-counts-inside v h e = both-no (not (coplanar (vertex p a) (vertex p b) (vertex p c) (vertex p d))) (not-true-false _ (λ t. true-not-false (every-at 0 (p .n) _ t v (omega arith) h) (ap not e)))
 
+  -- two vertices between which the triangle (a, b, c) is not locally Delaunay: one of them is inside every sphere through it
+  pub not-counts-between : (s w : ℕ) → s < p .n → w < p .n → separates (vertex p a) (vertex p b) (vertex p c) (vertex p s) (vertex p w) ≡ true → insideFour p a b c s w ≡ true → counts p a b c d ≡ false
+  not-counts-between s w hs hw e f = by (truth (coplanar (vertex p a) (vertex p b) (vertex p c) (vertex p d)))
+    where
+      by : Truth (coplanar (vertex p a) (vertex p b) (vertex p c) (vertex p d)) → counts p a b c d ≡ false
+      by (holds flat) = not-counts-flat flat
+      by (fails solid) = ⊎-elim (not-counts-inside s hs) (not-counts-inside w hw) (no-empty-sphere (vertex p a) (vertex p b) (vertex p c) (vertex p s) (vertex p w) e f (vertex p d) solid)
+
   module _ (v : ℕ) (fifth : Bool) (h : p .n ≤ v) (s : Scanned v fifth) where
     pub scanned-counts : coplanar (vertex p a) (vertex p b) (vertex p c) (vertex p d) ≡ false → counts p a b c d ≡ true
     unfolding counts
@@ -59,40 +91,3 @@ module _ (p : Polygon) (a b c d : ℕ) where
 
     pub scanned-fifth : some 0 (p .n) (isFifth p a b c d) ≡ fifth
     scanned-fifth = sym (s .found) ∙ ap (λ (t : Bool). either fifth t) (some-end v (p .n) _ h) ∙ either-no fifth
-
-  -- the sphere of the four, as computed
-  module _ {lb lc ld : Lifted} {k : Pencil} {s : Sphere}
-      (eb : lb ≡ liftOf (vertex p a) (vertex p b)) (ec : lc ≡ liftOf (vertex p a) (vertex p c)) (ed : ld ≡ liftOf (vertex p a) (vertex p d))
-      (ek : k ≡ pencilOf lb lc) (es : s ≡ sphereOf k ld) where
-    sphere-of : s ≡ computedSphere (vertex p a) (vertex p b) (vertex p c) (vertex p d)
-    sphere-of = es ∙ (λ i. sphereOf (ek i) ld) ∙ (λ i. sphereOf (pencilOf (eb i) (ec i)) (ed i))
-
-    pub flat-is : equal (s .orient) (pos 0) ≡ coplanar (vertex p a) (vertex p b) (vertex p c) (vertex p d)
-    flat-is = ap (λ (s : Sphere). equal (s .orient) (pos 0)) sphere-of ∙ coplanar-is (vertex p a) (vertex p b) (vertex p c) (vertex p d)
-
-    module _ (solid : coplanar (vertex p a) (vertex p b) (vertex p c) (vertex p d) ≡ false) (v : ℕ) {lv : Lifted} {place : Position}
-        (ev : lv ≡ liftOf (vertex p a) (vertex p v)) (ep : place ≡ positionBy s lv) where
-      place-is : place ≡ positionOf (vertex p a) (vertex p b) (vertex p c) (vertex p d) (vertex p v)
-      place-is = ep ∙ (λ i. positionBy (sphere-of i) (ev i)) ∙ position-is (vertex p a) (vertex p b) (vertex p c) (vertex p d) (vertex p v) solid
-
-      pub is-inside : place ≡ Inside → insideFour p a b c d v ≡ true
-      is-inside e = position-inside (vertex p a) (vertex p b) (vertex p c) (vertex p d) (vertex p v) (sym place-is ∙ e)
-
-      -- not inside, and on the sphere where the code says so
-      not-inside : (q : Position) → place ≡ q → (place ≡ Inside → ⊥) → (insideFour p a b c d v ≡ false) × (isOn place ≡ onFour p a b c d v)
-      not-inside Inside e n = absurd (n e)
-      not-inside On e n = let r = position-on (vertex p a) (vertex p b) (vertex p c) (vertex p d) (vertex p v) (sym place-is ∙ e) in (r .0, ap isOn e ∙ sym (r .1))
-      not-inside Outside e n = let r = position-outside (vertex p a) (vertex p b) (vertex p c) (vertex p d) (vertex p v) (sym place-is ∙ e) in (r .0, ap isOn e ∙ sym (r .1))
-
-      pub is-clear : (place ≡ Inside → ⊥) → insideFour p a b c d v ≡ false
-      is-clear n = not-inside place refl n .0
-
-      pub is-fifth : (place ≡ Inside → ⊥) → (found : Bool) → either found (both (not (isCorner a b c d v)) (isOn place)) ≡ either found (isFifth p a b c d v)
-      is-fifth n found = ap (λ (t : Bool). either found (both (not (isCorner a b c d v)) t)) (not-inside place refl n .1)
-
--- what the tag of a position says
-pub not-tagged : (place : Position) → OneOf (1 ∷ 2 ∷ []) (tagOf the-type place) → place ≡ Inside → ⊥
-not-tagged place t e = go (subst (λ (q : Position). OneOf (1 ∷ 2 ∷ []) (tagOf the-type q)) e t)
-  where
-    go : OneOf (1 ∷ 2 ∷ []) 0 → ⊥
-    go t = ⊎-elim (λ (z : 0 ≡ 1). omega arith) (λ (z : 0 ≡ 2). omega arith) t

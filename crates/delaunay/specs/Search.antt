@@ -2,7 +2,7 @@
 use mathlib.Core.Path.{_≡_}
 use mathlib.Core.Bool.{Bool, true, false}
 use mathlib.Core.List.{List}
-use Prim.Native.Nat.{ℕ, _<_}
+use Prim.Native.Nat.{ℕ, zero, suc, _<_}
 use lib.IntN.{pos}
 use lib.ListN.{getD}
 use Rattle.polygon.specs.declared.Polygon.{Polygon}
@@ -11,7 +11,7 @@ use Rattle.geometry.specs.declared.sphere.Position.{Position}
 use Rattle.geometry.specs.declared.sphere.Position.the-variants.{Inside, On, Outside}
 use Rattle.geometry.specs.Spheres.{liftOf}
 use Rattle.lists.specs.Lists.{either}
-use Rattle.faces.specs.Faces.{has}
+use Rattle.faces.specs.Faces.{has, emptySet}
 use Rattle.delaunay.specs.Candidates.{vertex, isCandidate, cospherical}
 
 abbrev pub isOn : Position → Bool
@@ -26,7 +26,18 @@ unlifted = record { vector = record { x = pos 0; y = pos 0; z = pos 0 }; square 
 pub record Lifts (p : Polygon) (a : ℕ) (lifted : List Lifted) : Type 0 where
   pub at : (v : ℕ) → v < p .n → getD lifted v unlifted ≡ liftOf (vertex p a) (vertex p v)
 
+-- the vertex to look at in turn i of a scan: the one that dropped the last four, then all in their order
+abbrev pub scannedAt : ℕ → ℕ → ℕ
+scannedAt last zero = last
+scannedAt last (suc i) = i
+
 -- where 12 is not due, the candidates were put into the set
+pub record Searched (p : Polygon) (before : List ℕ) (due : Bool) (after : List ℕ) : Type 0 where
+  pub twelve : due ≡ cospherical p
+  pub faces : due ≡ false → (x y z : ℕ) → x < 64 → y < 64 → z < 64 → has after x y z ≡ either (has before x y z) (isCandidate p x y z)
+
+-- the same, and where 12 is due, the set is empty
 pub record Marked (p : Polygon) (before : List ℕ) (due : Bool) (after : List ℕ) : Type 0 where
   pub twelve : due ≡ cospherical p
   pub faces : due ≡ false → (x y z : ℕ) → x < 64 → y < 64 → z < 64 → has after x y z ≡ either (has before x y z) (isCandidate p x y z)
+  pub empty : due ≡ true → after ≡ emptySet

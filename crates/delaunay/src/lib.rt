@@ -1,16 +1,20 @@
 // The candidates of a polygon: the faces of its Delaunay tetrahedra.
+use geometry::facet;
 use geometry::sphere;
 use geometry::sphere::Lifted;
+use geometry::sphere::Pencil;
 use geometry::sphere::Position;
 use polygon::Polygon;
 ghost use mathlib.Core.Path.{_≡_};
-ghost use mathlib.Core.Bool.{not};
-ghost use Prim.Native.Nat.{_<_};
+ghost use mathlib.Core.Bool.{not, true};
+ghost use Prim.Native.Nat.{_≤_, _<_};
 ghost use lib.ListN.{length};
+ghost use Rattle.geometry.specs.Spheres.{LiftedBounds, PencilBounds};
+ghost use Rattle.geometry.specs.Facets.{refutedBy};
 ghost use Rattle.lists.specs.Lists.{both, either};
 ghost use Rattle.polygon.specs.Polygon.{Valid};
 ghost use Rattle.delaunay.specs.Candidates.{isCorner};
-ghost use Rattle.delaunay.specs.Search.{Lifts, Marked, isOn};
+ghost use Rattle.delaunay.specs.Search.{Lifts, Searched, Marked, isOn, scannedAt};
 
 // The vertices as seen from vertex a.
 fn lift_vertices(p: Polygon, a: usize) -> [Lifted; 64]
@@ -69,34 +73,61 @@ fn fifth_found(
     }
 }
 
-// Puts the candidates, the faces of the fours that count, into the set; true where 12 is due, as one of these fours has a fifth vertex on its
-// sphere, and the set is of no use then. The vertex that dropped the last four is tried first.
-pub fn mark_candidates(p: Polygon, masks: &mut [u64; 4096]) -> bool
+// The vertex to look at in turn i of a scan: the one that dropped the last four, then all in their order.
+fn scanned(last: usize, i: usize) -> usize
+    ensures { λ r. ⌜ r ≡ scannedAt last i ⌝ }
+{
+    if i == 0 {
+        return last;
+    }
+    i - 1
+}
+
+// Do the two vertices that refuted an earlier three refute this one? Asked where six vertices or more come after c: fewer are tried sooner.
+fn still_refuted(n: usize, c: usize, pencil: Pencil, one: Lifted, other: Lifted) -> bool
+    requires { ⌜ (n ≤ 64) × (c < n) × (PencilBounds pencil) × (LiftedBounds one) × (LiftedBounds other) ⌝ }
+    ensures { λ r. ⌜ (r ≡ true → refutedBy pencil one other ≡ true) ⌝ }
+{
+    if c + 6 < n {
+        return facet::refuted_by(pencil, one, other);
+    }
+    false
+}
+
+// Puts the faces of the fours that count into the set, up to the first four that has a fifth vertex on its sphere: true there.
+// A vertex inside the sphere drops the four; where the plane of (a, b, c) separates it from d, no four of this three counts, and the three is
+// left. The vertex that dropped the last four is looked at first, and with the d of the last three that was left it is tried on the next one.
+fn mark_fours(p: Polygon, masks: &mut [u64; 4096]) -> bool
     requires { ⌜ (Valid p) × (length (now masks) ≡ 4096) ⌝ }
-    ensures { λ r. ⌜ Marked p (now (masks .entry)) r (now (masks .exit)) ⌝ }
+    ensures { λ r. ⌜ Searched p (now (masks .entry)) r (now (masks .exit)) ⌝ }
 {
     let n = p.n;
     let mut last = 0;
-    for a in 0..n {
+    let mut apex = 0;
+    for a in 0..n - 3 {
         let lifted = lift_vertices(p, a);
-        for b in a + 1..n {
-            for c in b + 1..n {
+        for b in a + 1..n - 2 {
+            'three: for c in b + 1..n - 1 {
                 let pencil = sphere::pencil_through(lifted[b], lifted[c]);
-                'next: for d in c + 1..n {
+                if still_refuted(n, c, pencil, lifted[apex], lifted[last]) {
+                    continue 'three;
+                }
+                'four: for d in c + 1..n {
                     let ball = sphere::circumsphere(pencil, lifted[d]);
-                    let orient = ball.orient;
-                    if orient == 0 {
-                        continue 'next;
-                    }
-                    if let Position::Inside = sphere::locate(ball, lifted[last]) {
-                        continue 'next;
+                    if ball.orient == 0 {
+                        continue 'four;
                     }
                     let mut fifth = false;
-                    for v in 0..n {
+                    for i in 0..n + 1 {
+                        let v = scanned(last, i);
                         let place = sphere::locate(ball, lifted[v]);
                         if let Position::Inside = place {
                             last = v;
-                            continue 'next;
+                            if facet::separates(pencil, lifted[d], lifted[v]) {
+                                apex = d;
+                                continue 'three;
+                            }
+                            continue 'four;
                         }
                         fifth = fifth_found(fifth, place, a, b, c, d, v);
                     }
@@ -107,6 +138,18 @@ pub fn mark_candidates(p: Polygon, masks: &mut [u64; 4096]) -> bool
                 }
             }
         }
+    }
+    false
+}
+
+// Puts the candidates, the faces of the fours that count, into the set; true where 12 is due, and the set is left empty then.
+pub fn mark_candidates(p: Polygon, masks: &mut [u64; 4096]) -> bool
+    requires { ⌜ (Valid p) × (length (now masks) ≡ 4096) ⌝ }
+    ensures { λ r. ⌜ Marked p (now (masks .entry)) r (now (masks .exit)) ⌝ }
+{
+    if mark_fours(p, masks) {
+        faces::clear(masks);
+        return true;
     }
     false
 }

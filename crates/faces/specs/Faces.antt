@@ -4,7 +4,7 @@ use mathlib.Core.List.{List, [], _∷_}
 use Prim.Native.Nat.{ℕ, _+_, _*_, _/_, _%_, _^_}
 use lib.Bits.{bitOr}
 use lib.Dec.{eqb}
-use lib.ListN.{getD, set}
+use lib.ListN.{getD, set, replicate}
 use Rattle.lists.specs.Lists.{over, when, both, either, some}
 
 abbrev pub triple : ℕ → ℕ → ℕ → List ℕ
@@ -42,6 +42,10 @@ hasVertex mask c = eqb (mask / 2 ^ c % 2) 1
 -- the triple is in the set
 unfoldable pub has : List ℕ → ℕ → ℕ → ℕ → Bool
 has masks a b c = hasVertex (getD masks (pairAt a b) 0) c
+
+-- the set without triples
+abbrev pub emptySet : List ℕ
+emptySet = replicate 4096 0
 
 -- a triple put in
 abbrev pub withTriple : List ℕ → ℕ → ℕ → ℕ → List ℕ

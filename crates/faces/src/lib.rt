@@ -3,7 +3,7 @@ ghost use mathlib.Core.Path.{_≡_};
 ghost use Prim.Native.Nat.{_<_, _≤_};
 ghost use lib.ListN.{length};
 ghost use Rattle.lists.specs.Lists.{filled};
-ghost use Rattle.faces.specs.Faces.{pairAt, withVertex, hasVertex, has, withFaces, triplesOf};
+ghost use Rattle.faces.specs.Faces.{pairAt, withVertex, hasVertex, has, emptySet, withFaces, triplesOf};
 
 // No more candidates than triples of 64 vertices.
 pub const TRIPLES: usize = 41664;
@@ -27,6 +27,13 @@ fn has_vertex(mask: u64, c: usize) -> bool
     ensures { λ r. ⌜ r ≡ hasVertex mask c ⌝ }
 {
     (mask >> c) % 2 == 1
+}
+
+// Empties the set.
+pub fn clear(masks: &mut [u64; 4096])
+    ensures { λ _. ⌜ now (masks .exit) ≡ emptySet ⌝ }
+{
+    *masks = [0; 4096];
 }
 
 // Inserts the four faces of a tetrahedron.

@@ -1,0 +1,93 @@
+-- Three corners and four, as the search computes them: their pencil and their sphere, and what a vertex's position says of the fours. Assumes nothing.
+use mathlib.Core.Path.{_≡_, refl, sym, _∙_, ap, subst}
+use mathlib.Core.Bool.{Bool, true, false, not}
+use mathlib.Core.List.{List}
+use Prim.Native.Nat.{ℕ, _<_}
+use lib.IntN.{pos}
+use lib.ListN.{getD}
+use Rattle.polygon.specs.declared.Polygon.{Polygon}
+use Rattle.polygon.specs.Polygon.{Valid}
+use Rattle.geometry.specs.declared.sphere.Lifted.{Lifted}
+use Rattle.geometry.specs.declared.sphere.Pencil.{Pencil}
+use Rattle.geometry.specs.declared.sphere.Sphere.{Sphere}
+use Rattle.geometry.specs.declared.sphere.Position.{Position}
+use Rattle.geometry.specs.declared.sphere.Position.the-variants.{Inside, On, Outside}
+use Rattle.integers.specs.Order.{equal}
+use Rattle.geometry.specs.Spheres.{coplanar, positionOf, liftOf, pencilOf, sphereOf, positionBy, LiftedBounds, PencilBounds, SphereBounds}
+use Rattle.geometry.specs.Facets.{separatesBy, refutedBy}
+use Rattle.geometry.proofs.Spheres.{lift-bounds, pencil-bounds, sphere-bounds, computedSphere, coplanar-is, position-is, position-inside, position-on, position-outside}
+use Rattle.geometry.proofs.Facets.{separates-is, refuted-is}
+use Rattle.lists.specs.Lists.{both, either}
+use Rattle.delaunay.specs.Candidates.{vertex, insideFour, onFour, counts, isCorner, isFifth}
+use Rattle.delaunay.specs.Search.{Lifts, isOn, unlifted}
+use Rattle.delaunay.proofs.Scanning.{not-counts-inside, not-counts-between}
+
+-- the triangle (a, b, c), as seen from a
+pub record Three (p : Polygon) (a b c : ℕ) (lifted : List Lifted) (pencil : Pencil) : Type 0 where
+  pub valid : Valid p
+  pub a<n : a < p .n
+  pub b<n : b < p .n
+  pub c<n : c < p .n
+  pub lifts : Lifts p a lifted
+  pub spans : pencil ≡ pencilOf (getD lifted b unlifted) (getD lifted c unlifted)
+
+pub lift-in : {p : Polygon} {a : ℕ} {lifted : List Lifted} → Valid p → a < p .n → Lifts p a lifted → (v : ℕ) → v < p .n → LiftedBounds (getD lifted v unlifted)
+lift-in {a = a} g h l v k = subst (λ (l : Lifted). LiftedBounds l) (sym (l .at v k)) (lift-bounds (g .on-grid a h) (g .on-grid v k))
+
+module _ {p : Polygon} {a b c : ℕ} {lifted : List Lifted} {pencil : Pencil} (t : Three p a b c lifted pencil) where
+  pub vertex-in : (v : ℕ) → v < p .n → LiftedBounds (getD lifted v unlifted)
+  vertex-in = lift-in (t .valid) (t .a<n) (t .lifts)
+
+  pub pencil-in : PencilBounds pencil
+  pencil-in = subst (λ (k : Pencil). PencilBounds k) (sym (t .spans)) (pencil-bounds (vertex-in b (t .b<n)) (vertex-in c (t .c<n)))
+
+  pencil-of : pencil ≡ pencilOf (liftOf (vertex p a) (vertex p b)) (liftOf (vertex p a) (vertex p c))
+  pencil-of = t .spans ∙ (λ i. pencilOf (t .lifts .at b (t .b<n) i) (t .lifts .at c (t .c<n) i))
+
+  -- two vertices that refute it: no four of the three counts
+  pub none-counts : (s w : ℕ) → s < p .n → w < p .n → refutedBy pencil (getD lifted s unlifted) (getD lifted w unlifted) ≡ true → (d : ℕ) → counts p a b c d ≡ false
+  none-counts s w hs hw e d =
+      let r = refuted-is (vertex p a) (vertex p b) (vertex p c) (vertex p s) (vertex p w) (sym (λ i. refutedBy (pencil-of i) (t .lifts .at s hs i) (t .lifts .at w hw i)) ∙ e) in
+      not-counts-between p a b c d s w hs hw (r .0) (r .1)
+
+  -- the sphere through a fourth corner
+  module _ (d : ℕ) (d<n : d < p .n) {ball : Sphere} (es : ball ≡ sphereOf pencil (getD lifted d unlifted)) where
+    pub sphere-in : SphereBounds ball
+    sphere-in = subst (λ (s : Sphere). SphereBounds s) (sym es) (sphere-bounds pencil-in (vertex-in d d<n))
+
+    sphere-of : ball ≡ computedSphere (vertex p a) (vertex p b) (vertex p c) (vertex p d)
+    sphere-of = es ∙ (λ i. sphereOf (pencil-of i) (t .lifts .at d d<n i))
+
+    pub flat-is : equal (ball .orient) (pos 0) ≡ coplanar (vertex p a) (vertex p b) (vertex p c) (vertex p d)
+    flat-is = ap (λ (s : Sphere). equal (s .orient) (pos 0)) sphere-of ∙ coplanar-is (vertex p a) (vertex p b) (vertex p c) (vertex p d)
+
+    -- where a vertex lies
+    module _ (solid : coplanar (vertex p a) (vertex p b) (vertex p c) (vertex p d) ≡ false) (v : ℕ) (v<n : v < p .n) {place : Position} (ep : place ≡ positionBy ball (getD lifted v unlifted)) where
+      place-is : place ≡ positionOf (vertex p a) (vertex p b) (vertex p c) (vertex p d) (vertex p v)
+      place-is = ep ∙ (λ i. positionBy (sphere-of i) (t .lifts .at v v<n i)) ∙ position-is (vertex p a) (vertex p b) (vertex p c) (vertex p d) (vertex p v) solid
+
+      is-inside : place ≡ Inside → insideFour p a b c d v ≡ true
+      is-inside e = position-inside (vertex p a) (vertex p b) (vertex p c) (vertex p d) (vertex p v) (sym place-is ∙ e)
+
+      -- inside: the four does not count
+      pub drops : place ≡ Inside → counts p a b c d ≡ false
+      drops e = not-counts-inside p a b c d v v<n (is-inside e)
+
+      -- inside, and on the other side of the triangle: no four of the three counts
+      pub leaves : place ≡ Inside → separatesBy pencil (getD lifted d unlifted) (getD lifted v unlifted) ≡ true → (x : ℕ) → counts p a b c x ≡ false
+      leaves e f x =
+          not-counts-between p a b c x d v d<n v<n
+          (sym (separates-is (vertex p a) (vertex p b) (vertex p c) (vertex p d) (vertex p v)) ∙ sym (λ i. separatesBy (pencil-of i) (t .lifts .at d d<n i) (t .lifts .at v v<n i)) ∙ f)
+          (is-inside e)
+
+      -- not inside, and on the sphere where the code says so
+      not-inside : (q : Position) → place ≡ q → (place ≡ Inside → ⊥) → (insideFour p a b c d v ≡ false) × (isOn place ≡ onFour p a b c d v)
+      not-inside Inside e n = absurd (n e)
+      not-inside On e n = let r = position-on (vertex p a) (vertex p b) (vertex p c) (vertex p d) (vertex p v) (sym place-is ∙ e) in (r .0, ap isOn e ∙ sym (r .1))
+      not-inside Outside e n = let r = position-outside (vertex p a) (vertex p b) (vertex p c) (vertex p d) (vertex p v) (sym place-is ∙ e) in (r .0, ap isOn e ∙ sym (r .1))
+
+      pub is-clear : (place ≡ Inside → ⊥) → insideFour p a b c d v ≡ false
+      is-clear n = not-inside place refl n .0
+
+      pub is-fifth : (place ≡ Inside → ⊥) → (found : Bool) → either found (both (not (isCorner a b c d v)) (isOn place)) ≡ either found (isFifth p a b c d v)
+      is-fifth n found = ap (λ (t : Bool). either found (both (not (isCorner a b c d v)) t)) (not-inside place refl n .1)
