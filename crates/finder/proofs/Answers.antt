@@ -2,9 +2,9 @@
 use mathlib.Core.Path.{_≡_, refl, sym, _∙_, ap}
 use mathlib.Core.Bool.{Bool, true, false, cond}
 use mathlib.Core.List.{List}
-use Prim.Native.Nat.{ℕ, _-_}
+use Prim.Native.Nat.{ℕ, zero, suc, _-_}
 use native.Mathlib.Omega.{arith}
-use borrow.Author.Tests.{eq-eqb, ne-eqb, le-ltb, eqb-true}
+use borrow.Author.Tests.{eq-eqb, le-ltb, eqb-true}
 use lib.Dec.{eqb}
 use lib.ListN.{length}
 use Rattle.terms.specs.Limits.{maxTriples}
@@ -16,14 +16,15 @@ use Rattle.dihedrals.specs.Weights.{rowsOf}
 use Rattle.dihedrals.proofs.Rows.{row-count}
 use Rattle.faces.proofs.Sets.{triples-bound}
 use Rattle.lists.specs.Lists.{either}
-use Rattle.lists.proofs.Choice.{Truth, holds, fails, truth, yes, no}
+use Rattle.lists.proofs.Choice.{Truth, holds, fails, truth, yes, no, true-not-false}
+use Rattle.finder.specs.declared.Found.{Found}
 use Rattle.finder.specs.declared.Found.the-variants.{Refused}
 use Rattle.finder.specs.declared.Places.{Places}
 use Rattle.finder.specs.declared.Sizes.the-variants.{Known}
 use Rattle.finder.specs.declared.Sizes.the-variants as sizes
-use Rattle.finder.specs.Sizes.{placesOf, sizesOf}
-use Rattle.finder.specs.Finding.{Finding, finding, short, shortTables, shortBeside, findOr13, findCall, findBesideCall}
-use Rattle.finder.specs.Filling.{rimNumber, placesFor, fillOr13}
+use Rattle.finder.specs.Sizes.{sizesBy, sizesOf}
+use Rattle.finder.specs.Finding.{Finding, finding, valuesOf, dueValues, short, shortTables, shortBeside, numberDue, findBy, findNumber, findCall, besideNumber, findBesideCall}
+use Rattle.finder.specs.Filling.{placesFor, fillOr13}
 
 -- one test after the other, as one
 one-test : {A : Type 0} (a b c d e : Bool) (x y : A) → cond a x (cond b x (cond c x (cond d x (cond e x y)))) ≡ cond (either (either a b) (either c (either d e))) x y
@@ -33,71 +34,94 @@ one-test false false true d e x y = refl
 one-test false false false true e x y = refl
 one-test false false false false e x y = refl
 
--- the number due on the polygon, then 12, as one number: where it is r k, and where none is due x
-module _ (p : Polygon) {A : Type 0} (r : ℕ → A) (x : A) where
-  abbrev answer : A
-  answer = cond (eqb (codeOf p) 0) (cond (cospherical p) (r 12) x) (r (codeOf p))
+-- ---- the number due
+-- a number that is due, and else 13
+abbrev then13 : ℕ → Bool → ℕ
+then13 zero tooShort = cond tooShort 13 0
+then13 (suc k) tooShort = suc k
 
-  by-number : answer ≡ cond (eqb (rimNumber p) 0) x (r (rimNumber p))
-  unfolding rimNumber
-  by-number = go (truth (eqb (codeOf p) 0)) (truth (cospherical p))
+module _ (p : Polygon) where
+  -- 13 comes last
+  thirteen-last : (tooShort : Bool) → numberDue tooShort p ≡ then13 (numberDue false p) tooShort
+  unfolding numberDue
+  thirteen-last tooShort = go (truth (eqb (codeOf p) 0)) (truth (cospherical p))
     where
-      at : {k : ℕ} → rimNumber p ≡ k → answer ≡ cond (eqb k 0) x (r k) → answer ≡ cond (eqb (rimNumber p) 0) x (r (rimNumber p))
-      at e h = h ∙ sym (ap (λ (k : ℕ). cond (eqb k 0) x (r k)) e)
+      at : {k : ℕ} → numberDue false p ≡ k → numberDue tooShort p ≡ then13 k tooShort → numberDue tooShort p ≡ then13 (numberDue false p) tooShort
+      at e h = h ∙ sym (ap (λ (k : ℕ). then13 k tooShort) e)
 
-      go : Truth (eqb (codeOf p) 0) → Truth (cospherical p) → answer ≡ cond (eqb (rimNumber p) 0) x (r (rimNumber p))
-      go (fails e) d = at (no _ _ e) (no _ _ e ∙ sym (no _ _ e))
+      own : (k : ℕ) → codeOf p ≡ k → eqb (codeOf p) 0 ≡ false → codeOf p ≡ then13 (codeOf p) tooShort
+      own zero c e = absurd (true-not-false (eq-eqb (codeOf p) 0 c) e)
+      own (suc k) c e = c ∙ ap (λ (k : ℕ). then13 k tooShort) (sym c)
+
+      go : Truth (eqb (codeOf p) 0) → Truth (cospherical p) → numberDue tooShort p ≡ then13 (numberDue false p) tooShort
+      go (fails e) d = at (no _ _ e) (no _ _ e ∙ own (codeOf p) refl e)
       go (holds e) (holds d) = at (yes _ _ e ∙ yes _ _ d) (yes _ _ e ∙ yes _ _ d)
       go (holds e) (fails d) = at (yes _ _ e ∙ no _ _ d) (yes _ _ e ∙ no _ _ d)
 
-  number-due : {k : ℕ} → k ≡ rimNumber p → (k ≡ 0 → ⊥) → r k ≡ answer
-  number-due e h = ap r e ∙ sym (by-number ∙ no _ _ (ne-eqb (rimNumber p) 0 (λ z. h (e ∙ z))))
-
-  none-due : rimNumber p ≡ 0 → x ≡ answer
-  none-due e = sym (by-number ∙ yes _ _ (eq-eqb (rimNumber p) 0 e))
-
-module _ (p : Polygon) where
-  -- no number is due: the polygon is valid
-  pub code-none : rimNumber p ≡ 0 → codeOf p ≡ 0
-  unfolding rimNumber
-  code-none e = go (truth (eqb (codeOf p) 0))
+  -- where none is due, the polygon's is not either
+  pub code-none : (tooShort : Bool) → numberDue tooShort p ≡ 0 → codeOf p ≡ 0
+  unfolding numberDue
+  code-none tooShort e = go (truth (eqb (codeOf p) 0))
     where
       go : Truth (eqb (codeOf p) 0) → codeOf p ≡ 0
       go (holds d) = eqb-true (codeOf p) 0 d
       go (fails d) = sym (no _ _ d) ∙ e
 
-  pub sizes-refused : {k : ℕ} → k ≡ rimNumber p → (k ≡ 0 → ⊥) → sizes.Refused k ≡ sizesOf p
-  unfolding sizesOf
-  sizes-refused e h = number-due p (λ (k : ℕ). sizes.Refused k) (Known (placesOf p)) e h
+  pub due-first : (k : ℕ) (tooShort : Bool) → k ≡ numberDue false p → (k ≡ 0 → ⊥) → k ≡ numberDue tooShort p
+  due-first zero tooShort e h = absurd (h refl)
+  due-first (suc k) tooShort e h = sym (thirteen-last tooShort ∙ ap (λ (k : ℕ). then13 k tooShort) (sym e))
 
-  pub sizes-known : {places : Places} {found : List (List ℕ)} → rimNumber p ≡ 0 → found ≡ candidatesOf p → places ≡ placesFor (p .n) found → Known places ≡ sizesOf p
-  unfolding sizesOf
+  pub due-13 : (tooShort : Bool) → numberDue false p ≡ 0 → numberDue tooShort p ≡ cond tooShort 13 0
+  due-13 tooShort e = thirteen-last tooShort ∙ ap (λ (k : ℕ). then13 k tooShort) e
+
+  -- ---- the places
+  pub sizes-refused : (k : ℕ) → k ≡ numberDue false p → (k ≡ 0 → ⊥) → sizes.Refused k ≡ sizesOf p
+  sizes-refused zero e h = absurd (h refl)
+  sizes-refused (suc k) e h = ap (λ (k : ℕ). sizesBy k p) e
+
+  pub sizes-known : {places : Places} {found : List (List ℕ)} → numberDue false p ≡ 0 → found ≡ candidatesOf p → places ≡ placesFor (p .n) found → Known places ≡ sizesOf p
   sizes-known {places} {found} e f g =
       ap (λ (x : Places). Known x) (g ∙ ap (placesFor (p .n)) f ∙ ap (λ (m : ℕ). record { triangles = p .n - 2; candidates = length (candidatesOf p); rows = m }) (sym (row-count p (candidatesOf p))))
-      ∙ none-due p (λ (k : ℕ). sizes.Refused k) (Known (placesOf p)) e
+      ∙ ap (λ (k : ℕ). sizesBy k p) (sym e)
+
+-- ---- the answer and the tables
+-- the number and the counts of an answer, by the number due
+pub found-values : (p : Polygon) (k : ℕ) (candidates : List (List ℕ)) (weights : List ℕ) (rows : List (List ℕ)) → valuesOf (findBy k p candidates weights rows .answer) ≡ dueValues k p
+found-values p zero candidates weights rows = refl
+found-values p (suc k) candidates weights rows = refl
+
+pub values-found : (p : Polygon) (k : ℕ) (candidates : List (List ℕ)) (weights : List ℕ) (rows : List (List ℕ)) {x : Found} {c r : List (List ℕ)} {w : List ℕ} →
+    finding x c w r ≡ findBy k p candidates weights rows → valuesOf x ≡ dueValues k p
+values-found p k candidates weights rows e = ap (λ (f : Finding). valuesOf (f .answer)) e ∙ found-values p k candidates weights rows
 
 module _ (p : Polygon) (trianglePlaces workPlaces : ℕ) (candidates : List (List ℕ)) (weights : List ℕ) (rows : List (List ℕ)) where
-  refusal : ℕ → Finding
-  refusal k = finding (Refused k) candidates weights rows
+  pub find-refused : (k : ℕ) → k ≡ numberDue false p → (k ≡ 0 → ⊥) → finding (Refused k) candidates weights rows ≡ findBesideCall p trianglePlaces workPlaces candidates weights rows
+  find-refused zero e h = absurd (h refl)
+  find-refused (suc k) e h =
+      ap (λ (k : ℕ). findBy k p candidates weights rows) (due-first p (suc k) (either (shortBeside p trianglePlaces workPlaces) (shortTables p candidates weights rows)) e h)
 
-  pub find-refused : {k : ℕ} → k ≡ rimNumber p → (k ≡ 0 → ⊥) → finding (Refused k) candidates weights rows ≡ findBesideCall p trianglePlaces workPlaces candidates weights rows
-  unfolding findOr13 refusal
-  find-refused e h = number-due p refusal _ e h
-
-  pub filled-is : rimNumber p ≡ 0 → fillOr13 p (candidatesOf p) trianglePlaces workPlaces candidates weights rows ≡ findBesideCall p trianglePlaces workPlaces candidates weights rows
-  unfolding fillOr13 findOr13 refusal
+  pub filled-is : numberDue false p ≡ 0 → fillOr13 p (candidatesOf p) trianglePlaces workPlaces candidates weights rows ≡ findBesideCall p trianglePlaces workPlaces candidates weights rows
+  unfolding fillOr13
   filled-is e =
-      one-test (short trianglePlaces (p .n - 2)) (short workPlaces (length (candidatesOf p))) (short (length candidates) (length (candidatesOf p))) (short (length weights) (length (candidatesOf p))) (short (length rows) (length (rowsOf p (candidatesOf p)))) (refusal 13) _
-      ∙ none-due p refusal _ e
+      one-test (short trianglePlaces (p .n - 2)) (short workPlaces (length (candidatesOf p))) (short (length candidates) (length (candidatesOf p))) (short (length weights) (length (candidatesOf p))) (short (length rows) (length (rowsOf p (candidatesOf p)))) (finding (Refused 13) candidates weights rows) _
+      ∙ by tooShort
+      ∙ ap (λ (k : ℕ). findBy k p candidates weights rows) (sym (due-13 p tooShort e))
+    where
+      tooShort : Bool
+      tooShort = either (shortBeside p trianglePlaces workPlaces) (shortTables p candidates weights rows)
+
+      by : (b : Bool) → cond b (finding (Refused 13) candidates weights rows) (findBy 0 p candidates weights rows) ≡ findBy (cond b 13 0) p candidates weights rows
+      by true = refl
+      by false = refl
 
 -- two tables of enough places beside the finder's change nothing
-pub beside-enough : (p : Polygon) (candidates : List (List ℕ)) (weights : List ℕ) (rows : List (List ℕ)) → findBesideCall p (p .n) maxTriples candidates weights rows ≡ findCall p candidates weights rows
-unfolding findOr13
+pub beside-enough : (p : Polygon) (candidates : List (List ℕ)) (weights : List ℕ) (rows : List (List ℕ)) → besideNumber p (p .n) maxTriples candidates weights rows ≡ findNumber p candidates weights rows
+unfolding numberDue
 beside-enough p candidates weights rows = go (truth (eqb (codeOf p) 0))
   where
-    go : Truth (eqb (codeOf p) 0) → findBesideCall p (p .n) maxTriples candidates weights rows ≡ findCall p candidates weights rows
+    go : Truth (eqb (codeOf p) 0) → besideNumber p (p .n) maxTriples candidates weights rows ≡ findNumber p candidates weights rows
     go (fails e) = no _ _ e ∙ sym (no _ _ e)
     go (holds e) =
         let v = code-valid p (eqb-true (codeOf p) 0 e) in
         let enough : shortBeside p (p .n) maxTriples ≡ false = no _ _ (le-ltb (p .n) (p .n - 2) (omega arith)) ∙ le-ltb maxTriples (length (candidatesOf p)) (triples-bound (p .n) (isCandidate p) (v .most)) in
-        ap (λ (t : Bool). findOr13 (either t (shortTables p candidates weights rows)) p candidates weights rows) enough
+        ap (λ (t : Bool). numberDue (either t (shortTables p candidates weights rows)) p) enough

@@ -14,7 +14,7 @@ use Rattle.lists.specs.Lists.{upFrom, everyFrom, someFrom}
 use Rattle.faces.specs.Faces.{triple, isFace}
 use Rattle.delaunay.specs.Candidates.{counts, isCandidate, candidatesOf, cospherical}
 use Rattle.finder.specs.declared.Found.the-variants.{Lists, Refused}
-use Rattle.finder.specs.Finding.{finding, findOr13, findCall}
+use Rattle.finder.specs.Finding.{finding, numberDue, findCall}
 
 abbrev pub fileP : Polygon
 fileP = record {
@@ -31,12 +31,12 @@ candidates-P = refl
 pub tables-P :
     findCall fileP (replicate 5 (triple 9 9 9)) (replicate 5 9) (replicate 3 (triple 9 9 9))
     ≡ finding (Lists 4 2) (triple 0 1 2 ∷ triple 0 1 3 ∷ triple 0 2 3 ∷ triple 1 2 3 ∷ triple 9 9 9 ∷ []) (80 ∷ 64 ∷ 80 ∷ 93 ∷ 9 ∷ []) (triple 1 3 312 ∷ triple 2 0 360 ∷ triple 9 9 9 ∷ [])
-unfolding findOr13 codeOf repeatedVertex verticesOnGrid upFrom everyFrom someFrom isFace counts isCandidate cospherical orientOf centreOf distanceOf hangs lengthOf rootDigits ratioOf bendOf
+unfolding numberDue codeOf repeatedVertex verticesOnGrid upFrom everyFrom someFrom isFace counts isCandidate cospherical orientOf centreOf distanceOf hangs lengthOf rootDigits ratioOf bendOf
 tables-P = refl
 
 -- a row table one place short: 13, and nothing is changed
 pub short-P : findCall fileP (replicate 5 (triple 9 9 9)) (replicate 5 9) (replicate 1 (triple 9 9 9)) ≡ finding (Refused 13) (replicate 5 (triple 9 9 9)) (replicate 5 9) (replicate 1 (triple 9 9 9))
-unfolding findOr13 codeOf repeatedVertex verticesOnGrid upFrom everyFrom someFrom isFace counts isCandidate cospherical orientOf centreOf distanceOf hangs
+unfolding numberDue codeOf repeatedVertex verticesOnGrid upFrom everyFrom someFrom isFace counts isCandidate cospherical orientOf centreOf distanceOf hangs
 short-P = refl
 
 -- five corners of a cube: 12
@@ -49,5 +49,5 @@ cubeCorners = record {
 }
 
 pub twelve-cube : findCall cubeCorners [] [] [] ≡ finding (Refused 12) [] [] []
-unfolding findOr13 codeOf repeatedVertex verticesOnGrid upFrom everyFrom someFrom isFace counts isCandidate cospherical orientOf centreOf distanceOf hangs
+unfolding numberDue codeOf repeatedVertex verticesOnGrid upFrom everyFrom someFrom isFace counts isCandidate cospherical orientOf centreOf distanceOf hangs
 twelve-cube = refl

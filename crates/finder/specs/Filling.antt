@@ -1,31 +1,26 @@
 -- What the private functions say to each other: nothing here has to be believed. Definitions only.
 use mathlib.Core.Path.{_≡_}
-use mathlib.Core.Bool.{cond}
+use mathlib.Core.Bool.{cond, false}
 use mathlib.Core.List.{List}
 use Prim.Native.Nat.{ℕ, _-_, _≤_}
-use lib.Dec.{eqb}
 use lib.ListN.{length}
 use Rattle.polygon.specs.declared.Polygon.{Polygon}
-use Rattle.polygon.specs.Polygon.{codeOf}
 use Rattle.faces.specs.Faces.{has, triplesOf}
-use Rattle.delaunay.specs.Candidates.{candidatesOf, cospherical}
+use Rattle.delaunay.specs.Candidates.{candidatesOf}
 use Rattle.hinges.specs.Hinges.{innersOf}
 use Rattle.dihedrals.specs.Weights.{weightsOf, rowsOf}
 use Rattle.lists.specs.Lists.{filled}
 use Rattle.finder.specs.declared.Found.the-variants.{Lists, Refused}
 use Rattle.finder.specs.declared.Places.{Places}
-use Rattle.finder.specs.Finding.{Finding, finding, short}
+use Rattle.finder.specs.Finding.{Finding, finding, short, numberDue}
 
 -- the triangles of a set on the polygon's vertices
 abbrev pub facesOf : Polygon → List ℕ → List (List ℕ)
 facesOf p masks = triplesOf (p .n) (has masks)
 
 -- the number due before the tables are looked at; where it is 0, the set has the candidates
-unfoldable pub rimNumber : Polygon → ℕ
-rimNumber p = cond (eqb (codeOf p) 0) (cond (cospherical p) 12 0) (codeOf p)
-
 pub record Searched (p : Polygon) (number : ℕ) (masks : List ℕ) : Type 0 where
-  pub is-due : number ≡ rimNumber p
+  pub is-due : number ≡ numberDue false p
   pub listed : number ≡ 0 → facesOf p masks ≡ candidatesOf p
 
 -- the places for the triangles of a set, the rows counted as hanging pairs

@@ -6,7 +6,7 @@ ghost use lib.ListN.{replicate};
 ghost use Rattle.terms.specs.Limits.{minVertices, maxVertices};
 ghost use Rattle.faces.specs.Faces.{has, triplesOf};
 ghost use Rattle.dihedrals.specs.Lists.{Solid};
-ghost use Rattle.finder.specs.Finding.{numberOf, candidateCountOf, rowCountOf, finding, findCall, findBesideCall};
+ghost use Rattle.finder.specs.Finding.{numberOf, candidateCountOf, rowCountOf, valuesOf, dueValues, finding, findNumber, findCall, besideNumber, findBesideCall};
 ghost use Rattle.finder.specs.Sizes.{sizesOf};
 ghost use Rattle.finder.specs.Filling.{facesOf, placesFor, Searched, Room, Written, fillOr13};
 
@@ -182,6 +182,7 @@ pub fn find_beside(
     rows: &mut [[u32; 3]],
 ) -> Found
     ensures { λ r. ⌜ finding r (now (candidates .exit)) (now (weights .exit)) (now (rows .exit)) ≡ findBesideCall p «triangle_places» «work_places» (now (candidates .entry)) (now (weights .entry)) (now (rows .entry)) ⌝ }
+    ensures { λ r. ⌜ valuesOf r ≡ dueValues (besideNumber p «triangle_places» «work_places» (now (candidates .entry)) (now (weights .entry)) (now (rows .entry))) p ⌝ }
 {
     let mut masks = [0u64; 4096];
     let number = search(p, &mut masks);
@@ -207,6 +208,7 @@ pub fn find(
     rows: &mut [[u32; 3]],
 ) -> Found
     ensures { λ r. ⌜ finding r (now (candidates .exit)) (now (weights .exit)) (now (rows .exit)) ≡ findCall p (now (candidates .entry)) (now (weights .entry)) (now (rows .entry)) ⌝ }
+    ensures { λ r. ⌜ valuesOf r ≡ dueValues (findNumber p (now (candidates .entry)) (now (weights .entry)) (now (rows .entry))) p ⌝ }
 {
     let n = p.n;
     find_beside(p, n, faces::TRIPLES, candidates, weights, rows)

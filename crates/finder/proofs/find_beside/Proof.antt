@@ -1,5 +1,6 @@
 -- `finder::find_beside` meets its contract. Assumes nothing.
 use mathlib.Core.Path.{_≡_, sym, _∙_, ap, subst}
+use mathlib.Core.Bool.{false}
 use mathlib.Core.List.{List}
 use Prim.Native.Nat.{ℕ}
 use borrow.Author.Needs.{needs}
@@ -7,17 +8,29 @@ use Rattle.polygon.specs.declared.Polygon.{Polygon}
 use Rattle.polygon.proofs.Validity.{code-valid}
 use Rattle.delaunay.specs.Candidates.{candidatesOf}
 use Rattle.dihedrals.specs.Lists.{Solid}
-use Rattle.finder.specs.Filling.{facesOf, rimNumber, fillOr13}
+use Rattle.finder.specs.declared.Found.{Found}
+use Rattle.finder.specs.Finding.{valuesOf, dueValues, finding, besideNumber, findBesideCall, numberDue}
+use Rattle.finder.specs.Filling.{facesOf, fillOr13}
 use Rattle.finder.proofs.Candidates.{candidates-solid}
-use Rattle.finder.proofs.Answers.{code-none, find-refused, filled-is}
+use Rattle.finder.proofs.Answers.{code-none, values-found, find-refused, filled-is}
 use Rattle.finder.proofs.find_beside.Statement.{statement}
 use Rattle.finder.proofs.find_beside.Tie as tie
 
 search-requires : tie.Need-search-requires
 search-requires c κs = search needs
 
+-- the number and the counts, from the answer
+values : (s : tie.Start) {x : Found} {c r : List (List ℕ)} {w : List ℕ} →
+    finding x c w r ≡ findBesideCall (s .args .p) (s .args .triangle-places) (s .args .work-places) (s .args .candidates .now) (s .args .weights .now) (s .args .rows .now) →
+    valuesOf x ≡ dueValues (besideNumber (s .args .p) (s .args .triangle-places) (s .args .work-places) (s .args .candidates .now) (s .args .weights .now) (s .args .rows .now)) (s .args .p)
+values s e =
+    values-found (s .args .p) (besideNumber (s .args .p) (s .args .triangle-places) (s .args .work-places) (s .args .candidates .now) (s .args .weights .now) (s .args .rows .now)) (s .args .candidates .now) (s .args .weights .now) (s .args .rows .now) e
+
 returns : tie.Need-returns
-returns c = find-refused (c .before .before .before .before .args .p) _ _ _ _ _ (c .before .search .ensures .is-due) (c .if1 .taken)
+returns c =
+    let s = c .before .before .before .before in
+    let e = find-refused (s .args .p) (s .args .triangle-places) (s .args .work-places) (s .args .candidates .now) (s .args .weights .now) (s .args .rows .now) _ (c .before .search .ensures .is-due) (c .if1 .taken) in
+    (e, values s e)
 
 -- no number is due so far
 module _ (g : tie.Else1) where
@@ -27,7 +40,7 @@ module _ (g : tie.Else1) where
   abbrev polygon : Polygon
   polygon = begin .args .p
 
-  none-due : rimNumber polygon ≡ 0
+  none-due : numberDue false polygon ≡ 0
   none-due = sym (g .before .search .ensures .is-due) ∙ g .if1 .left
 
   candidates-are : facesOf polygon (g .before .search .last .1 .0) ≡ candidatesOf polygon
@@ -37,7 +50,7 @@ fill-requires : tie.Need-fill-requires
 fill-requires c κs =
     let g = c .before .before .before .before in
     let p = polygon g in
-    subst (λ (l : List (List ℕ)). Solid p l) (sym (candidates-are g)) (candidates-solid p (code-valid p (code-none p (none-due g))))
+    subst (λ (l : List (List ℕ)). Solid p l) (sym (candidates-are g)) (candidates-solid p (code-valid p (code-none p false (none-due g))))
 
 same-length : tie.Need-same-length
 same-length c = search needs
@@ -53,9 +66,10 @@ returns-2 c =
     let g = c .before .before .before .before .before .before .before .before .before in
     let s = begin g in
     let p = polygon g in
-    c .before .before .before .before .fill .ensures
+    let e = c .before .before .before .before .fill .ensures
     ∙ ap (λ (l : List (List ℕ)). fillOr13 p l (s .args .triangle-places) (s .args .work-places) (s .args .candidates .now) (s .args .weights .now) (s .args .rows .now)) (candidates-are g)
-    ∙ filled-is p (s .args .triangle-places) (s .args .work-places) (s .args .candidates .now) (s .args .weights .now) (s .args .rows .now) (none-due g)
+    ∙ filled-is p (s .args .triangle-places) (s .args .work-places) (s .args .candidates .now) (s .args .weights .now) (s .args .rows .now) (none-due g) in
+    (e, values s e)
 
 pub find-beside-spec : {M : Type 1} → statement M
 find-beside-spec =

@@ -14,7 +14,7 @@ use Rattle.polygon.proofs.Validity.{code-valid}
 use Rattle.faces.specs.Faces.{has}
 use Rattle.faces.proofs.Sets.{none-in}
 use Rattle.delaunay.proofs.Marking.{listed-are}
-use Rattle.finder.specs.Filling.{rimNumber}
+use Rattle.finder.specs.Finding.{numberDue}
 use Rattle.finder.proofs.search.Statement.{statement}
 use Rattle.finder.proofs.search.Tie as tie
 
@@ -22,7 +22,7 @@ polygon-code-requires : tie.Need-polygon-code-requires
 polygon-code-requires c κs = search needs
 
 returns : tie.Need-returns
-unfolding rimNumber
+unfolding numberDue
 returns c =
     let e = c .before .polygon-code .ensures in
     record {
@@ -44,7 +44,7 @@ mark-candidates-requires : tie.Need-mark-candidates-requires
 mark-candidates-requires c κs = (valid (c .before), ap length (c .before .before .before .pre) ∙ length-replicate {A = ℕ} 4096 0)
 
 returns-2 : tie.Need-returns-2
-unfolding rimNumber
+unfolding numberDue
 returns-2 c =
     let g = c .before .before .before in
     record {
@@ -53,7 +53,7 @@ returns-2 c =
     }
 
 returns-3 : tie.Need-returns-3
-unfolding rimNumber
+unfolding numberDue
 returns-3 c =
     let g = c .before .before .before in
     let none : (x y z : ℕ) → x < 64 → y < 64 → z < 64 → has (g .before .before .args .masks .now) x y z ≡ false = λ x y z hx hy hz. subst (λ (m : List ℕ). has m x y z ≡ false) (sym (g .before .before .pre)) (none-in 4096 (omega arith) (record { first = hx; second = hy; third = hz })) in
