@@ -58,14 +58,21 @@ module _ (p : Polygon) where
       go (holds e) (holds d) = at (yes _ _ e ∙ yes _ _ d) (yes _ _ e ∙ yes _ _ d)
       go (holds e) (fails d) = at (yes _ _ e ∙ no _ _ d) (yes _ _ e ∙ no _ _ d)
 
-  -- where none is due, the polygon's is not either
-  pub code-none : (tooShort : Bool) → numberDue tooShort p ≡ 0 → codeOf p ≡ 0
+  -- where none is due
+  pub record Clear (tooShort : Bool) : Type 0 where
+    pub code : codeOf p ≡ 0
+    pub no-12 : cospherical p ≡ false
+    pub no-13 : tooShort ≡ false
+
+  pub clear : (tooShort : Bool) → numberDue tooShort p ≡ 0 → Clear tooShort
   unfolding numberDue
-  code-none tooShort e = go (truth (eqb (codeOf p) 0))
+  clear tooShort e = go tooShort (truth (eqb (codeOf p) 0)) (truth (cospherical p)) e
     where
-      go : Truth (eqb (codeOf p) 0) → codeOf p ≡ 0
-      go (holds d) = eqb-true (codeOf p) 0 d
-      go (fails d) = sym (no _ _ d) ∙ e
+      go : (b : Bool) → Truth (eqb (codeOf p) 0) → Truth (cospherical p) → numberDue b p ≡ 0 → Clear b
+      go b (fails d) f e = absurd (true-not-false (eq-eqb (codeOf p) 0 (sym (no _ _ d) ∙ e)) d)
+      go b (holds d) (holds f) e = absurd (let z = sym (yes _ _ d ∙ yes _ _ f) ∙ e in omega (arith, z))
+      go true (holds d) (fails f) e = absurd (let z = sym (yes _ _ d ∙ no _ _ f) ∙ e in omega (arith, z))
+      go false (holds d) (fails f) e = record { code = eqb-true (codeOf p) 0 d; no-12 = f; no-13 = refl }
 
   pub due-first : (k : ℕ) (tooShort : Bool) → k ≡ numberDue false p → (k ≡ 0 → ⊥) → k ≡ numberDue tooShort p
   due-first zero tooShort e h = absurd (h refl)

@@ -1,4 +1,2 @@
 pub mod Patching
 pub mod Sizes
-pub mod Demands
-pub mod Starred

@@ -5,7 +5,7 @@ use borrow.Author.Needs.{needs}
 use Rattle.polygon.specs.Polygon.{Valid}
 use Rattle.polygon.proofs.Validity.{code-valid}
 use Rattle.finder.specs.Finding.{numberDue}
-use Rattle.finder.proofs.Answers.{code-none, sizes-refused, sizes-known}
+use Rattle.finder.proofs.Answers.{clear, sizes-refused, sizes-known}
 use Rattle.finder.proofs.table_sizes.Statement.{statement}
 use Rattle.finder.proofs.table_sizes.Tie as tie
 
@@ -21,7 +21,7 @@ none-due g = sym (g .before .search .ensures .is-due) ∙ g .if1 .left
 count-places-requires : tie.Need-count-places-requires
 count-places-requires c κs =
     let p = c .before .before .before .before .args .p in
-    let v : Valid p = code-valid p (code-none p false (none-due (c .before))) in
+    let v : Valid p = code-valid p (clear p false (none-due (c .before)) .code) in
     (v .least, v .most)
 
 returns-2 : tie.Need-returns-2
