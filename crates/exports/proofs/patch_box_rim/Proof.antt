@@ -26,7 +26,7 @@ same-length-5 : tie.Need-same-length-5
 same-length-5 c = search needs
 
 returns : tie.Need-returns
-returns c = rim-patched (c .patch-answer .ensures) (c .before .before .before .before .before .before .before .before .before .patch-file .ensures)
+returns c = rim-patched (c .patch-answer .ensures) (c .before .before .before .before .before .before .before .before .before .patch-file .ensures .0)
 
 pub patch-box-rim-spec : {M : Type 1} → statement M
 patch-box-rim-spec =

@@ -1,30 +1,31 @@
--- Demand 2: the lists of a valid polygon are exactly what document 01 defines. Assumes nothing.
+-- Demand 2 of the lists of a valid polygon, and 12 as a statement. Assumes nothing.
 use mathlib.Core.Path.{_≡_, refl, sym, _∙_, ap, subst}
-use mathlib.Core.Bool.{true, not}
+use mathlib.Core.Bool.{Bool, true, false, not}
 use mathlib.Core.List.{List, [], _∷_, List·Memᴰ, List·Memᴰ·head}
 use mathlib.Core.Logic.{_⊎_, ⊎-elim}
 use Prim.Native.Nat.{ℕ, zero, suc, _-_, _≤_, _<_}
 use native.Mathlib.Omega.{arith}
-use borrow.Author.Tests.{not-true}
+use borrow.Author.Tests.{not-true, eq-eqb, eqb-true}
+use lib.Dec.{eqb}
 use lib.ListN.{length, length-map}
 use Rattle.polygon.specs.declared.Polygon.{Polygon}
 use Rattle.polygon.specs.Polygon.{Valid}
 use Rattle.geometry.specs.Spheres.{coplanar}
-use Rattle.terms.specs.Entries.{entryAt, outer, inner, rowWeight}
-use Rattle.jobs.proofs.Order.{true-before, hangs-true, true-hangs, row-before-same}
-use Rattle.lists.specs.Lists.{both, either, every}
-use Rattle.lists.proofs.Choice.{true-not-false, both-left, both-right, both-true, either-left, either-right, either-cases}
-use Rattle.lists.proofs.Ranges.{every-at, every-all}
+use Rattle.terms.specs.Entries.{triple, entryAt, outer, inner, rowWeight}
+use Rattle.jobs.proofs.Order.{true-before, true-row-before, hangs-true, true-hangs, row-before-same}
+use Rattle.lists.specs.Lists.{both, either, every, some}
+use Rattle.lists.proofs.Choice.{true-not-false, not-true-false, both-left, both-right, both-true, either-left, either-right, either-cases}
+use Rattle.lists.proofs.Ranges.{every-at, every-all, some-found, some-here}
 use Rattle.lists.proofs.Members.{entry-member, member-entry}
-use Rattle.faces.specs.Faces.{triple, sameTriple, isFace}
+use Rattle.faces.specs.Faces.{sameTriple, isFace}
 use Rattle.faces.proofs.Sets.{triple-same, same-triple}
 use Rattle.faces.proofs.Fours.{four-found, four-here}
 use Rattle.faces.proofs.Members.{triples-member, triples-put}
-use Rattle.delaunay.specs.Candidates.{vertex, insideFour, counts, isCandidate, candidatesOf}
+use Rattle.delaunay.specs.Candidates.{vertex, insideFour, onFour, counts, isCandidate, candidatesOf, isCorner, isFifth, cospherical}
 use Rattle.dihedrals.specs.Weights.{faceWeight, weightsOf, hingeWeight, rowAt, rowsOf}
 use Rattle.dihedrals.proofs.Faces.{weight-at}
-use Rattle.finder.specs.Demand2.{Counts, Face, abc, abd, acd, bcd, IsRow, Demand2, Flat}
+use Rattle.demands.specs.Demand2.{Counts, Face, abc, abd, acd, bcd, Cospherical, IsRow, Demand2, Flat}
 use Rattle.finder.proofs.Accepted.{row-hinge, hinge-row, rows-in-order, candidates-in-order, weights-allowed}
 
 -- ---- four vertices that count, as a test and as a statement
 module _ (p : Polygon) (a b c d : ℕ) where
@@ -95,6 +96,58 @@ module _ (p : Polygon) where
   listed-face : (t : List ℕ) → List·Memᴰ t (candidatesOf p) → (a : ℕ) × (b : ℕ) × (c : ℕ) × (t ≡ triple a b c) × Face p a b c
   listed-face t m = let r = triples-member (p .n) (isCandidate p) t m in (r .a, r .b, r .c, r .is, candidate-face (r .a) (r .b) (r .c) (r .holds-of))
 
+-- ---- 12, as a test and as a statement
+module _ (p : Polygon) where
+  abbrev hasFifth : ℕ → ℕ → ℕ → ℕ → Bool
+  hasFifth a b c d = both (counts p a b c d) (some 0 (p .n) (isFifth p a b c d))
+
+  pub cospherical-true : cospherical p ≡ true → Cospherical p
+  unfolding cospherical
+  cospherical-true e =
+      let f = four-found (p .n) hasFifth e in
+      let s = some 0 (p .n) (isFifth p (f .a) (f .b) (f .c) (f .d)) in
+      let g = some-found 0 (p .n) (isFifth p (f .a) (f .b) (f .c) (f .d)) (both-right (counts p (f .a) (f .b) (f .c) (f .d)) s (f .holds-of)) in
+      let apart = not (isCorner (f .a) (f .b) (f .c) (f .d) (g .at)) in
+      let on = onFour p (f .a) (f .b) (f .c) (f .d) (g .at) in
+      let n = not-true _ (both-left apart on (g .true-at)) in
+      record {
+        a = f .a;
+        b = f .b;
+        c = f .c;
+        d = f .d;
+        four = counts-true p (f .a) (f .b) (f .c) (f .d) (f .a<b) (f .b<c) (f .c<d) (f .d<n) (both-left (counts p (f .a) (f .b) (f .c) (f .d)) s (f .holds-of));
+        fifth = g .at;
+        fifth<n = g .high;
+        not-a = λ h. true-not-false (either-left (eqb (g .at) (f .a)) _ (eq-eqb (g .at) (f .a) h)) n;
+        not-b = λ h. true-not-false (either-right (eqb (g .at) (f .a)) _ (either-left (eqb (g .at) (f .b)) _ (eq-eqb (g .at) (f .b) h))) n;
+        not-c = λ h. true-not-false (either-right (eqb (g .at) (f .a)) _ (either-right (eqb (g .at) (f .b)) _ (either-left (eqb (g .at) (f .c)) _ (eq-eqb (g .at) (f .c) h)))) n;
+        not-d = λ h. true-not-false (either-right (eqb (g .at) (f .a)) _ (either-right (eqb (g .at) (f .b)) _ (either-right (eqb (g .at) (f .c)) _ (eq-eqb (g .at) (f .d) h)))) n;
+        on = both-right apart on (g .true-at);
+      }
+
+  pub true-cospherical : Cospherical p → cospherical p ≡ true
+  unfolding cospherical
+  true-cospherical r =
+      let no-corner : isCorner (r .a) (r .b) (r .c) (r .d) (r .fifth) ≡ false = not-true-false _ (λ h. corner (either-cases (eqb (r .fifth) (r .a)) (either (eqb (r .fifth) (r .b)) (either (eqb (r .fifth) (r .c)) (eqb (r .fifth) (r .d)))) h)) in
+      four-here (p .n) hasFifth (record {
+        a = r .a;
+        b = r .b;
+        c = r .c;
+        d = r .d;
+        a<b = r .four .a<b;
+        b<c = r .four .b<c;
+        c<d = r .four .c<d;
+        d<n = r .four .d<n;
+        holds-of = both-true (true-counts p (r .a) (r .b) (r .c) (r .d) (r .four)) (some-here 0 (p .n) (isFifth p (r .a) (r .b) (r .c) (r .d)) (r .fifth) (omega arith) (r .fifth<n) (both-true (ap not no-corner) (r .on)));
+      })
+    where
+      corner : (eqb (r .fifth) (r .a) ≡ true) ⊎ (either (eqb (r .fifth) (r .b)) (either (eqb (r .fifth) (r .c)) (eqb (r .fifth) (r .d))) ≡ true) → ⊥
+      corner h =
+          ⊎-elim (λ e. r .not-a (eqb-true (r .fifth) (r .a) e))
+          (λ e. ⊎-elim (λ e. r .not-b (eqb-true (r .fifth) (r .b) e))
+          (λ e. ⊎-elim (λ e. r .not-c (eqb-true (r .fifth) (r .c) e)) (λ e. r .not-d (eqb-true (r .fifth) (r .d) e)) (either-cases (eqb (r .fifth) (r .c)) (eqb (r .fifth) (r .d)) e))
+          (either-cases (eqb (r .fifth) (r .b)) (either (eqb (r .fifth) (r .c)) (eqb (r .fifth) (r .d))) e)) h
+
 module _ (p : Polygon) (v : Valid p) where
   abbrev cs : List (List ℕ)
   cs = candidatesOf p
@@ -119,6 +172,7 @@ module _ (p : Polygon) (v : Valid p) where
     hinge-weight = λ k h. weigh k h;
     row = λ o i ho hi e. let f = member-entry rows [] (rowAt p cs o i) (hinge-row p cs o i ho hi (hangs-true (entryAt cs i) (entryAt cs o) e)) in (f .at, record { below = f .below; outer-is = ap outer (f .is); inner-is = ap inner (f .is) });
     one-row = λ o i j k a b. let l = same-row o i j k a b (k - j) refl in let m = same-row o i k j b a (j - k) refl in omega arith;
+    rows-ascending = λ j k h l. true-row-before (entryAt rows j) (entryAt rows k) (rows-in-order p cs .ascending j k h l);
     light = λ i h. weights-allowed p v .own i h;
     row-light = λ k h. weights-allowed p v .of-row k h;
   }
@@ -138,10 +192,10 @@ module _ (p : Polygon) where
   no-face f x y z (acd a b c d k) = true-not-false (f .plane a b c d (k .a<b) (k .b<c) (k .c<d) (k .d<n)) (k .solid)
   no-face f x y z (bcd a b c d k) = true-not-false (f .plane a b c d (k .a<b) (k .b<c) (k .c<d) (k .d<n)) (k .solid)
 
-  -- "A rim in one plane .. has no candidates."
+  -- a rim in one plane has no candidates (rule 2.5)
   pub flat-none : Flat p → candidatesOf p ≡ []
   flat-none f = no-members (candidatesOf p) (λ t m. let r = listed-face p t m in no-face f (r .0) (r .1) (r .2) (r .4))
 
-  -- "so every rim of three vertices"
+  -- and three vertices are in one (rule 2.5)
   pub three-flat : p .n ≤ 3 → Flat p
   three-flat h = record { plane = λ a b c d i j k l. absurd (omega arith) }

@@ -1,4 +1,4 @@
--- Document 01's rim file P, computed over the definitions: candidates, area weights and rows, with a place left over in each table.
+-- The finder's call computed over the definitions: rim P (rule 6.1) with a place left over in each table, the same with a row place too few, and five corners of a cube.
 use mathlib.Core.Path.{_≡_, refl}
 use mathlib.Core.List.{[], _∷_}
 use lib.IntN.{pos}
