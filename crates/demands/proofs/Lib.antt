@@ -1,3 +1,6 @@
 pub mod Demand2
 pub mod Tables
+pub mod Demand1
+pub mod Demands
+pub mod Sizes
 pub mod Cases
