@@ -13,7 +13,9 @@ use Rattle.geometry.specs.declared.sphere.Sphere.{Sphere}
 use Rattle.geometry.specs.declared.sphere.Position.{Position}
 use Rattle.geometry.specs.declared.sphere.Position.the-variants.{Inside, On, Outside}
 use Rattle.integers.specs.Order.{equal}
-use Rattle.geometry.specs.Spheres.{coplanar, positionOf, liftOf, pencilOf, sphereOf, positionBy, LiftedBounds, PencilBounds, SphereBounds}
+use Rattle.geometry.specs.Spheres.{coplanar}
+use Rattle.geometry.specs.Bounds.{LiftedBounds, PencilBounds, SphereBounds}
+use Rattle.geometry.specs.Lifting.{positionOf, liftOf, pencilOf, sphereOf, positionBy}
 use Rattle.geometry.specs.Facets.{separatesBy, refutedBy}
 use Rattle.geometry.proofs.Spheres.{lift-bounds, pencil-bounds, sphere-bounds, computedSphere, coplanar-is, position-is, position-inside, position-on, position-outside}
 use Rattle.geometry.proofs.Facets.{separates-is, refuted-is}

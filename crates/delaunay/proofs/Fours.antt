@@ -11,10 +11,11 @@ use Rattle.geometry.specs.declared.sphere.Pencil.{Pencil}
 use Rattle.geometry.specs.declared.sphere.Sphere.{Sphere}
 use Rattle.geometry.specs.declared.sphere.Position.{Position}
 use Rattle.geometry.specs.declared.sphere.Position.the-variants.{Inside}
-use Rattle.geometry.specs.Spheres.{coplanar, sphereOf, positionBy}
+use Rattle.geometry.specs.Spheres.{coplanar}
+use Rattle.geometry.specs.Lifting.{sphereOf, positionBy}
 use Rattle.geometry.specs.Facets.{separatesBy}
 use Rattle.lists.specs.Lists.{both, either}
-use Rattle.faces.specs.Faces.{withFaces}
+use Rattle.faces.specs.Masks.{pairCount, withFaces}
 use Rattle.faces.proofs.Fours.{left3, left4}
 use Rattle.delaunay.specs.Candidates.{vertex, isCorner}
 use Rattle.delaunay.specs.Search.{isOn, unlifted, scannedAt}
@@ -47,7 +48,7 @@ module _ {p : Polygon} {a b c d : ℕ} {lifted : List Lifted} {pencil : Pencil} 
 
   -- all vertices are scanned
   module _ (v : ℕ) (fifth : Bool) (end : p .n ≤ v) (s : Scanned p a b c d v fifth) where
-    pub four-marked : fifth ≡ false → length marks ≡ 4096 → Kept p marks₀ (withFaces marks a b c d) left₀ (λ P. left4 (p .n) P a b c (d + 1))
+    pub four-marked : fifth ≡ false → length marks ≡ pairCount → Kept p marks₀ (withFaces marks a b c d) left₀ (λ P. left4 (p .n) P a b c (d + 1))
     four-marked e long =
         let t = f .three in
         let m = t .valid .most in

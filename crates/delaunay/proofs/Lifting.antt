@@ -5,17 +5,18 @@ use Prim.Native.Nat.{ℕ, zero, suc, _+_, _-_, _<_}
 use native.Mathlib.Omega.{arith}
 use lib.ListN.{length, getD, set, length-set}
 use lib.Seq.{getD-set-same, getD-set-other}
+use Rattle.terms.specs.Limits.{maxVertices}
 use Rattle.grid.specs.declared.GridPoint.{GridPoint}
 use Rattle.polygon.specs.Polygon.{vertexAt}
 use Rattle.geometry.specs.declared.sphere.Lifted.{Lifted}
-use Rattle.geometry.specs.Spheres.{liftOf}
+use Rattle.geometry.specs.Lifting.{liftOf}
 use Rattle.delaunay.specs.Search.{unlifted}
 
 pub record LiftedTo (base : GridPoint) (vertices : List GridPoint) (v : ℕ) (lifted : List Lifted) : Type 0 where
-  pub long : length lifted ≡ 64
+  pub long : length lifted ≡ maxVertices
   pub at : (k : ℕ) → k < v → getD lifted k unlifted ≡ liftOf base (vertexAt vertices k)
 
-pub lifted-more : {base : GridPoint} {vertices : List GridPoint} {v : ℕ} {lifted : List Lifted} (l : Lifted) → v < 64 → l ≡ liftOf base (vertexAt vertices v) → LiftedTo base vertices v lifted → LiftedTo base vertices (v + 1) (set lifted v l)
+pub lifted-more : {base : GridPoint} {vertices : List GridPoint} {v : ℕ} {lifted : List Lifted} (l : Lifted) → v < maxVertices → l ≡ liftOf base (vertexAt vertices v) → LiftedTo base vertices v lifted → LiftedTo base vertices (v + 1) (set lifted v l)
 lifted-more {base} {vertices} {v} {lifted} l h e f = record { long = length-set lifted v l ∙ f .long; at = λ k m. go k (v - k) m refl }
   where
     go : (k d : ℕ) → k < v + 1 → v - k ≡ d → getD (set lifted v l) k unlifted ≡ liftOf base (vertexAt vertices k)

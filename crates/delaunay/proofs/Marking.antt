@@ -5,10 +5,12 @@ use mathlib.Core.List.{List}
 use Prim.Native.Nat.{ℕ, _+_, _≤_, _<_}
 use native.Mathlib.Omega.{arith}
 use lib.ListN.{length}
+use Rattle.terms.specs.Limits.{maxVertices}
 use Rattle.polygon.specs.declared.Polygon.{Polygon}
 use Rattle.lists.specs.Lists.{both, either, some}
 use Rattle.lists.proofs.Choice.{true-not-false}
-use Rattle.faces.specs.Faces.{isFace, has, emptySet, withFaces, triplesOf}
+use Rattle.faces.specs.Faces.{isFace, triplesOf}
+use Rattle.faces.specs.Masks.{pairCount, has, emptySet, withFaces}
 use Rattle.lists.proofs.Bools.{either-no, either-swap, both-no, both-yes}
 use Rattle.faces.proofs.Fours.{left1, left3, left4, next4, leave4, out1}
 use Rattle.faces.proofs.Sets.{faces-in, faces-long, triples-same}
@@ -28,7 +30,7 @@ hasFifth p a b c d = both (counts p a b c d) (some 0 (p .n) (isFifth p a b c d))
 
 -- from one place of the search to a later one: what is marked and what is left make up the same
 pub record Kept (p : Polygon) (marks₀ marks : List ℕ) (left₀ left : Test → Bool) : Type 0 where
-  pub faces : (x y z : ℕ) → x < 64 → y < 64 → z < 64 → either (has marks x y z) (left (gives p x y z)) ≡ either (has marks₀ x y z) (left₀ (gives p x y z))
+  pub faces : (x y z : ℕ) → x < maxVertices → y < maxVertices → z < maxVertices → either (has marks x y z) (left (gives p x y z)) ≡ either (has marks₀ x y z) (left₀ (gives p x y z))
   pub twelve : left (hasFifth p) ≡ left₀ (hasFifth p)
   pub long : length marks ≡ length marks₀
 
@@ -60,7 +62,7 @@ module _ {p : Polygon} where
     }
 
     -- a four that counts, with no fifth vertex on its sphere
-    pub kept-mark : length marks ≡ 4096 → a < 64 → b < 64 → c < 64 → d < 64 → counts p a b c d ≡ true → some 0 (p .n) (isFifth p a b c d) ≡ false → Kept p marks₀ (withFaces marks a b c d) left₀ (λ P. left4 (p .n) P a b c (d + 1))
+    pub kept-mark : length marks ≡ pairCount → a < maxVertices → b < maxVertices → c < maxVertices → d < maxVertices → counts p a b c d ≡ true → some 0 (p .n) (isFifth p a b c d) ≡ false → Kept p marks₀ (withFaces marks a b c d) left₀ (λ P. left4 (p .n) P a b c (d + 1))
     kept-mark long ha hb hc hd e f = record {
       faces = λ x y z h i j.
           let L = left4 (p .n) (gives p x y z) a b c (d + 1) in
@@ -106,7 +108,7 @@ module _ {p : Polygon} where
   marked-all s e = record { twelve = sym e ∙ s .twelve; faces = λ h. s .faces e; empty = λ h. absurd (true-not-false h refl) }
 
   -- what was marked in an empty set lists the candidates
-  pub listed-are : {marks₀ marks : List ℕ} {due : Bool} → p .n ≤ 64 → ((x y z : ℕ) → x < 64 → y < 64 → z < 64 → has marks₀ x y z ≡ false) → due ≡ false → Marked p marks₀ due marks → triplesOf (p .n) (has marks) ≡ candidatesOf p
+  pub listed-are : {marks₀ marks : List ℕ} {due : Bool} → p .n ≤ maxVertices → ((x y z : ℕ) → x < maxVertices → y < maxVertices → z < maxVertices → has marks₀ x y z ≡ false) → due ≡ false → Marked p marks₀ due marks → triplesOf (p .n) (has marks) ≡ candidatesOf p
   listed-are {marks₀} {marks} h none e m =
       triples-same (p .n) (has marks) (isCandidate p)
       (λ x y z hx hy hz.

@@ -1,17 +1,18 @@
--- What the functions of the search say to each other. Definitions only.
+-- What the functions of the search say to each other; nobody has to believe it.
 use mathlib.Core.Path.{_≡_}
 use mathlib.Core.Bool.{Bool, true, false}
 use mathlib.Core.List.{List}
 use Prim.Native.Nat.{ℕ, zero, suc, _<_}
 use lib.IntN.{pos}
 use lib.ListN.{getD}
+use Rattle.terms.specs.Limits.{maxVertices}
 use Rattle.polygon.specs.declared.Polygon.{Polygon}
 use Rattle.geometry.specs.declared.sphere.Lifted.{Lifted}
 use Rattle.geometry.specs.declared.sphere.Position.{Position}
 use Rattle.geometry.specs.declared.sphere.Position.the-variants.{Inside, On, Outside}
-use Rattle.geometry.specs.Spheres.{liftOf}
+use Rattle.geometry.specs.Lifting.{liftOf}
 use Rattle.lists.specs.Lists.{either}
-use Rattle.faces.specs.Faces.{has, emptySet}
+use Rattle.faces.specs.Masks.{has, emptySet}
 use Rattle.delaunay.specs.Candidates.{vertex, isCandidate, cospherical}
 
 abbrev pub isOn : Position → Bool
@@ -34,10 +35,10 @@ scannedAt last (suc i) = i
 -- where 12 is not due, the candidates were put into the set
 pub record Searched (p : Polygon) (before : List ℕ) (due : Bool) (after : List ℕ) : Type 0 where
   pub twelve : due ≡ cospherical p
-  pub faces : due ≡ false → (x y z : ℕ) → x < 64 → y < 64 → z < 64 → has after x y z ≡ either (has before x y z) (isCandidate p x y z)
+  pub faces : due ≡ false → (x y z : ℕ) → x < maxVertices → y < maxVertices → z < maxVertices → has after x y z ≡ either (has before x y z) (isCandidate p x y z)
 
 -- the same, and where 12 is due, the set is empty
 pub record Marked (p : Polygon) (before : List ℕ) (due : Bool) (after : List ℕ) : Type 0 where
   pub twelve : due ≡ cospherical p
-  pub faces : due ≡ false → (x y z : ℕ) → x < 64 → y < 64 → z < 64 → has after x y z ≡ either (has before x y z) (isCandidate p x y z)
+  pub faces : due ≡ false → (x y z : ℕ) → x < maxVertices → y < maxVertices → z < maxVertices → has after x y z ≡ either (has before x y z) (isCandidate p x y z)
   pub empty : due ≡ true → after ≡ emptySet

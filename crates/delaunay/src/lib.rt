@@ -9,15 +9,17 @@ ghost use mathlib.Core.Path.{_≡_};
 ghost use mathlib.Core.Bool.{not, true};
 ghost use Prim.Native.Nat.{_≤_, _<_};
 ghost use lib.ListN.{length};
-ghost use Rattle.geometry.specs.Spheres.{LiftedBounds, PencilBounds};
+ghost use Rattle.terms.specs.Limits.{maxVertices};
+ghost use Rattle.geometry.specs.Bounds.{LiftedBounds, PencilBounds};
 ghost use Rattle.geometry.specs.Facets.{refutedBy};
 ghost use Rattle.lists.specs.Lists.{both, either};
+ghost use Rattle.faces.specs.Masks.{pairCount};
 ghost use Rattle.polygon.specs.Polygon.{Valid};
 ghost use Rattle.delaunay.specs.Candidates.{isCorner};
 ghost use Rattle.delaunay.specs.Search.{Lifts, Searched, Marked, isOn, scannedAt};
 
 // The vertices as seen from vertex a.
-fn lift_vertices(p: Polygon, a: usize) -> [Lifted; 64]
+fn lift_vertices(p: Polygon, a: usize) -> [Lifted; terms::MAX_VERTICES]
     requires { ⌜ (Valid p) × (a < p .n) ⌝ }
     ensures { λ r. ⌜ Lifts p a r ⌝ }
 {
@@ -25,7 +27,7 @@ fn lift_vertices(p: Polygon, a: usize) -> [Lifted; 64]
     let vertices = p.vertices;
     let base = vertices[a];
     let own = sphere::lift(base, base);
-    let mut lifted = [own; 64];
+    let mut lifted = [own; terms::MAX_VERTICES];
     for v in 0..n {
         let q = vertices[v];
         lifted[v] = sphere::lift(base, q);
@@ -85,7 +87,7 @@ fn scanned(last: usize, i: usize) -> usize
 
 // Do the two vertices that refuted an earlier three refute this one? Asked where six vertices or more come after c: fewer are tried sooner.
 fn still_refuted(n: usize, c: usize, pencil: Pencil, one: Lifted, other: Lifted) -> bool
-    requires { ⌜ (n ≤ 64) × (c < n) × (PencilBounds pencil) × (LiftedBounds one) × (LiftedBounds other) ⌝ }
+    requires { ⌜ (n ≤ maxVertices) × (c < n) × (PencilBounds pencil) × (LiftedBounds one) × (LiftedBounds other) ⌝ }
     ensures { λ r. ⌜ (r ≡ true → refutedBy pencil one other ≡ true) ⌝ }
 {
     if c + 6 < n {
@@ -97,8 +99,8 @@ fn still_refuted(n: usize, c: usize, pencil: Pencil, one: Lifted, other: Lifted)
 // Puts the faces of the fours that count into the set, up to the first four that has a fifth vertex on its sphere: true there.
 // A vertex inside the sphere drops the four; where the plane of (a, b, c) separates it from d, no four of this three counts, and the three is
 // left. The vertex that dropped the last four is looked at first, and with the d of the last three that was left it is tried on the next one.
-fn mark_fours(p: Polygon, masks: &mut [u64; 4096]) -> bool
-    requires { ⌜ (Valid p) × (length (now masks) ≡ 4096) ⌝ }
+fn mark_fours(p: Polygon, masks: &mut [u64; faces::PAIRS]) -> bool
+    requires { ⌜ (Valid p) × (length (now masks) ≡ pairCount) ⌝ }
     ensures { λ r. ⌜ Searched p (now (masks .entry)) r (now (masks .exit)) ⌝ }
 {
     let n = p.n;
@@ -143,8 +145,8 @@ fn mark_fours(p: Polygon, masks: &mut [u64; 4096]) -> bool
 }
 
 // Puts the candidates, the faces of the fours that count, into the set; true where 12 is due, and the set is left empty then.
-pub fn mark_candidates(p: Polygon, masks: &mut [u64; 4096]) -> bool
-    requires { ⌜ (Valid p) × (length (now masks) ≡ 4096) ⌝ }
+pub fn mark_candidates(p: Polygon, masks: &mut [u64; faces::PAIRS]) -> bool
+    requires { ⌜ (Valid p) × (length (now masks) ≡ pairCount) ⌝ }
     ensures { λ r. ⌜ Marked p (now (masks .entry)) r (now (masks .exit)) ⌝ }
 {
     if mark_fours(p, masks) {

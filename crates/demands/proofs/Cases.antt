@@ -11,7 +11,8 @@ use Rattle.geometry.specs.Faces.{lengthOf, ratioOf, bendOf}
 use Rattle.geometry.specs.Spheres.{orientOf, centreOf, distanceOf}
 use Rattle.jobs.specs.Job.{hangs}
 use Rattle.lists.specs.Lists.{upFrom, everyFrom, someFrom}
-use Rattle.faces.specs.Faces.{triple, isFace}
+use Rattle.terms.specs.Entries.{triple}
+use Rattle.faces.specs.Faces.{isFace}
 use Rattle.delaunay.specs.Candidates.{counts, isCandidate, candidatesOf, cospherical}
 use Rattle.finder.specs.declared.Found.the-variants.{Lists, Refused}
 use Rattle.finder.specs.Finding.{finding, numberDue, findCall}

@@ -9,7 +9,7 @@ use Rattle.grid.specs.Point.{PointOnGrid}
 use Rattle.polygon.specs.declared.Polygon.{Polygon}
 use Rattle.polygon.specs.Polygon.{vertexAt, Valid}
 use Rattle.geometry.specs.declared.Vector.{Vector}
-use Rattle.geometry.specs.Vectors.{Within}
+use Rattle.geometry.specs.Bounds.{maxNormal, maxLength, Within}
 use Rattle.geometry.specs.Faces.{normalOf, lengthOf}
 use Rattle.geometry.proofs.Vectors.{within-as}
 use Rattle.geometry.proofs.Faces.{normal-within, length-bound}
@@ -18,7 +18,7 @@ use Rattle.terms.specs.Entries.{entryAt, vertexA, vertexB, vertexC}
 use Rattle.dihedrals.specs.Weights.{faceNormal, faceWeight, lengthsOf, weightsOf}
 use Rattle.dihedrals.specs.Lists.{Corners, Solid, Measured}
 
-pub face-within : {p : Polygon} {t : List ℕ} → Valid p → Corners p t → Within 8000000 (faceNormal p t)
+pub face-within : {p : Polygon} {t : List ℕ} → Valid p → Corners p t → Within maxNormal (faceNormal p t)
 face-within {p} {t} v c = normal-within (v .on-grid (vertexA t) (c .a<n)) (v .on-grid (vertexB t) (c .b<n)) (v .on-grid (vertexC t) (c .c<n))
 
 -- the corners of a candidate t, read as numbers
@@ -61,5 +61,5 @@ face-measured {p} {cs} s i h {n} {m} en em = record {
 }
 
 -- what is written can be lengths
-pub lengths-below : {p : Polygon} {cs : List (List ℕ)} → Solid p cs → (i : ℕ) → i < length cs → lengthOf (faceNormal p (entryAt cs i)) ≤ 13856406
+pub lengths-below : {p : Polygon} {cs : List (List ℕ)} → Solid p cs → (i : ℕ) → i < length cs → lengthOf (faceNormal p (entryAt cs i)) ≤ maxLength
 lengths-below s i h = length-bound (face-within (s .valid) (s .corners i h))

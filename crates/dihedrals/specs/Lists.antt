@@ -6,7 +6,7 @@ use lib.ListN.{length, getD}
 use Rattle.polygon.specs.declared.Polygon.{Polygon}
 use Rattle.polygon.specs.Polygon.{Valid}
 use Rattle.geometry.specs.declared.Vector.{Vector}
-use Rattle.geometry.specs.Vectors.{Within}
+use Rattle.geometry.specs.Bounds.{maxNormal, maxLength, Within}
 use Rattle.geometry.specs.Faces.{lengthOf}
 use Rattle.terms.specs.Entries.{entryAt, vertexA, vertexB, vertexC}
 use Rattle.hinges.specs.Hinges.{Sorted}
@@ -27,10 +27,10 @@ pub record Solid (p : Polygon) (candidates : List (List ℕ)) : Type 0 where
 
 -- the first places hold numbers that can be lengths of normals
 pub record Lengths (count : ℕ) (lengths : List ℕ) : Type 0 where
-  pub below : (i : ℕ) → i < count → getD lengths i 0 ≤ 13856406
+  pub below : (i : ℕ) → i < count → getD lengths i 0 ≤ maxLength
 
 -- a normal whose length m is not 0
 pub record Measured (normal : Vector) (m : ℕ) : Type 0 where
-  pub within : Within 8000000 normal
+  pub within : Within maxNormal normal
   pub is : m ≡ lengthOf normal
   pub above-0 : 0 < m

@@ -9,7 +9,7 @@ use lib.Bits.{bitOr, or-shr, or-mod, or-zero-l, shifted-even}
 use lib.Dec.{eqb}
 use lib.Pow.{pow-pos, pow-lt, pow-add, shl-shr}
 use Rattle.lists.specs.Lists.{either}
-use Rattle.faces.specs.Faces.{withVertex, hasVertex}
+use Rattle.faces.specs.Masks.{withVertex, hasVertex}
 
 -- bit z of 2 ^ c
 same-bit : (c : ℕ) → 2 ^ c / 2 ^ c % 2 ≡ 1

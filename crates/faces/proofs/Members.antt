@@ -5,7 +5,8 @@ use mathlib.Core.List.{List, List·Memᴰ}
 use Prim.Native.Nat.{ℕ, _+_, _<_}
 use native.Mathlib.Omega.{arith}
 use Rattle.lists.proofs.Members.{over-member, over-put, when-member, when-put}
-use Rattle.faces.specs.Faces.{triple, triplesOf}
+use Rattle.terms.specs.Entries.{triple}
+use Rattle.faces.specs.Faces.{triplesOf}
 
 -- a triple of n vertices, in ascending order, for which P holds
 pub record Triple (n : ℕ) (P : ℕ → ℕ → ℕ → Bool) (t : List ℕ) : Type 0 where

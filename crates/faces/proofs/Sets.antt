@@ -15,15 +15,18 @@ use Rattle.lists.proofs.Ranges.{up-bound, when-bound}
 use Rattle.lists.proofs.Parts.{over-same}
 use Rattle.lists.proofs.Bools.{either-assoc}
 use Rattle.faces.proofs.Masks.{bit-set, bit-none}
-use Rattle.faces.specs.Faces.{sameTriple, isFace, pairAt, withVertex, hasVertex, has, withTriple, withFaces, triple, triplesOf}
+use Rattle.terms.specs.Limits.{maxVertices, maxTriples}
+use Rattle.terms.specs.Entries.{triple}
+use Rattle.faces.specs.Faces.{sameTriple, isFace, triplesOf}
+use Rattle.faces.specs.Masks.{pairCount, pairAt, withVertex, hasVertex, has, withTriple, withFaces}
 
 -- all numbers of a triple are those of vertices
 pub record Vertices (a b c : ℕ) : Type 0 where
-  pub first : a < 64
-  pub second : b < 64
-  pub third : c < 64
+  pub first : a < maxVertices
+  pub second : b < maxVertices
+  pub third : c < maxVertices
 
-same-pair : {a b x y : ℕ} → a < 64 → b < 64 → x < 64 → y < 64 → pairAt x y ≡ pairAt a b → (a ≡ x) × (b ≡ y)
+same-pair : {a b x y : ℕ} → a < maxVertices → b < maxVertices → x < maxVertices → y < maxVertices → pairAt x y ≡ pairAt a b → (a ≡ x) × (b ≡ y)
 same-pair ha hb hx hy e = (omega arith, omega arith)
 
 pub same-triple : {a b c x y z : ℕ} → (a ≡ x) × (b ≡ y) × (c ≡ z) → sameTriple a b c x y z ≡ true
@@ -35,7 +38,7 @@ triple-same {a} {b} {c} {x} {y} {z} e =
     (eqb-true a x (both-left (eqb a x) (both (eqb b y) (eqb c z)) e), eqb-true b y (both-left (eqb b y) (eqb c z) t), eqb-true c z (both-right (eqb b y) (eqb c z) t))
 
 -- a triple put in
-put-in : (masks : List ℕ) {a b x y z : ℕ} (c : ℕ) → length masks ≡ 4096 → a < 64 → b < 64 → Vertices x y z →
+put-in : (masks : List ℕ) {a b x y z : ℕ} (c : ℕ) → length masks ≡ pairCount → a < maxVertices → b < maxVertices → Vertices x y z →
     has (withTriple masks a b c) x y z ≡ either (sameTriple a b c x y z) (has masks x y z)
 unfolding has
 put-in masks {a} {b} {x} {y} {z} c l ha hb k = go (truth (eqb (pairAt x y) (pairAt a b)))
@@ -54,7 +57,7 @@ put-in masks {a} {b} {x} {y} {z} c l ha hb k = go (truth (eqb (pairAt x y) (pair
         ap (λ (m : ℕ). hasVertex m z) (getD-set-other masks (pairAt a b) (pairAt x y) (withVertex (getD masks (pairAt a b) 0) c) 0 (eqb-false (pairAt x y) (pairAt a b) e))
         ∙ ap (λ (t : Bool). either t (hasVertex (getD masks (pairAt x y) 0) z)) (sym (not-true-false (sameTriple a b c x y z) (λ s. let t = triple-same {a = a} {b = b} {c = c} {x = x} {y = y} {z = z} s in eqb-false (pairAt x y) (pairAt a b) e (omega (arith, t .0, t .1)))))
 
-module _ (masks : List ℕ) {a b c d x y z : ℕ} (long : length masks ≡ 4096) (ha : a < 64) (hb : b < 64) (hc : c < 64) (hd : d < 64) (k : Vertices x y z) where
+module _ (masks : List ℕ) {a b c d x y z : ℕ} (long : length masks ≡ pairCount) (ha : a < maxVertices) (hb : b < maxVertices) (hc : c < maxVertices) (hd : d < maxVertices) (k : Vertices x y z) where
   -- the faces of a four put in
   pub faces-in : has (withFaces masks a b c d) x y z ≡ either (isFace a b c d x y z) (has masks x y z)
   unfolding isFace
@@ -62,9 +65,9 @@ module _ (masks : List ℕ) {a b c d x y z : ℕ} (long : length masks ≡ 4096)
       let f1 = withTriple masks b c d in
       let f2 = withTriple f1 a c d in
       let f3 = withTriple f2 a b d in
-      let l1 : length f1 ≡ 4096 = length-set masks _ _ ∙ long in
-      let l2 : length f2 ≡ 4096 = length-set f1 _ _ ∙ l1 in
-      let l3 : length f3 ≡ 4096 = length-set f2 _ _ ∙ l2 in
+      let l1 : length f1 ≡ pairCount = length-set masks _ _ ∙ long in
+      let l2 : length f2 ≡ pairCount = length-set f1 _ _ ∙ l1 in
+      let l3 : length f3 ≡ pairCount = length-set f2 _ _ ∙ l2 in
       put-in f3 c l3 ha hb k
       ∙ ap (λ (t : Bool). either (sameTriple a b c x y z) t)
       (put-in f2 d l2 ha hb k
@@ -83,7 +86,7 @@ faces-long masks a b c d =
     length-set f3 _ _ ∙ length-set f2 _ _ ∙ length-set f1 _ _ ∙ length-set masks _ _
 
 -- the set that is empty
-pub none-in : (m : ℕ) {x y z : ℕ} → 4096 ≤ m → Vertices x y z → has (replicate m 0) x y z ≡ false
+pub none-in : (m : ℕ) {x y z : ℕ} → pairCount ≤ m → Vertices x y z → has (replicate m 0) x y z ≡ false
 unfolding has
 none-in m {x} {y} {z} h k =
     let p = k .first in
@@ -101,12 +104,16 @@ up-sum f g lo zero k′ h b = omega arith
 up-sum f g lo (suc k) zero h b = absurd (omega arith)
 up-sum f g lo (suc k) (suc k′) h b = omega (arith, length-append (f lo) (upFrom f (suc lo) k), b lo, up-sum f g (suc lo) k k′ (omega arith) b)
 
--- no more than the triples of 64 vertices
-pub triples-bound : (n : ℕ) (P : ℕ → ℕ → ℕ → Bool) → n ≤ 64 → length (triplesOf n P) ≤ 41664
+-- all vertices but one
+abbrev others : ℕ
+others = maxVertices - 1
+
+-- no more than the triples of that many vertices
+pub triples-bound : (n : ℕ) (P : ℕ → ℕ → ℕ → Bool) → n ≤ maxVertices → length (triplesOf n P) ≤ maxTriples
 unfolding sumFrom
 triples-bound n P h =
-    up-sum _ (λ a. sumFrom (λ b. 63 - b) (a + 1) (63 - a)) 0 (n - 0) 64 (omega arith)
-    (λ a. up-sum _ (λ b. 63 - b) (a + 1) (n - (a + 1)) (63 - a) (omega arith)
+    up-sum _ (λ a. sumFrom (λ b. others - b) (a + 1) (others - a)) 0 (n - 0) maxVertices (omega arith)
+    (λ a. up-sum _ (λ b. others - b) (a + 1) (n - (a + 1)) (others - a) (omega arith)
     (λ b. le-trans (up-bound _ 1 (b + 1) (n - (b + 1)) (λ c. when-bound (P a b c) (triple a b c))) (omega arith)))
 
 -- two tests that agree on the triples of n vertices list the same triples

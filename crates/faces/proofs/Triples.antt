@@ -9,7 +9,8 @@ use Rattle.lists.specs.Lists.{over, when}
 use Rattle.lists.proofs.Ranges.{over-step, over-more, over-end, over-none}
 use Rattle.lists.proofs.Parts.{over-same, over-lengths}
 use Rattle.lists.proofs.Flattening.{flat-over, flat-when}
-use Rattle.faces.specs.Faces.{triple, triplesOf}
+use Rattle.terms.specs.Entries.{triple}
+use Rattle.faces.specs.Faces.{triplesOf}
 
 module _ {A : Type 0} (n : ℕ) (f : ℕ → ℕ → ℕ → List A) where
   abbrev pub left1 : ℕ → List A

@@ -1,44 +1,52 @@
-// A set of triangles (a, b, c) over at most 64 vertices: a mask of the vertices c for each pair (a, b).
+// A set of triangles (a, b, c): a mask of the vertices c for each pair (a, b).
 ghost use mathlib.Core.Path.{_≡_};
 ghost use Prim.Native.Nat.{_<_, _≤_};
 ghost use lib.ListN.{length};
+ghost use Rattle.terms.specs.Limits.{maxVertices};
 ghost use Rattle.lists.specs.Lists.{filled};
-ghost use Rattle.faces.specs.Faces.{pairAt, withVertex, hasVertex, has, emptySet, withFaces, triplesOf};
+ghost use Rattle.faces.specs.Faces.{triplesOf};
+ghost use Rattle.faces.specs.Masks.{pairAt, withVertex, hasVertex, has, emptySet, withFaces};
 
-// No more candidates than triples of 64 vertices.
-pub const TRIPLES: usize = 41664;
+// A mask for each pair of vertices.
+pub const PAIRS: usize = terms::MAX_VERTICES * terms::MAX_VERTICES;
+
+// No more candidates than triples of vertices.
+pub const TRIPLES: usize = terms::MAX_VERTICES
+    * (terms::MAX_VERTICES - 1)
+    * (terms::MAX_VERTICES - 2)
+    / 6;
 
 fn pair_index(a: usize, b: usize) -> usize
-    requires { ⌜ (a < 64) × (b < 64) ⌝ }
+    requires { ⌜ (a < maxVertices) × (b < maxVertices) ⌝ }
     ensures { λ r. ⌜ r ≡ pairAt a b ⌝ }
 {
-    a * 64 + b
+    a * terms::MAX_VERTICES + b
 }
 
 fn with_vertex(mask: u64, c: usize) -> u64
-    requires { ⌜ c < 64 ⌝ }
+    requires { ⌜ c < maxVertices ⌝ }
     ensures { λ r. ⌜ r ≡ withVertex mask c ⌝ }
 {
     mask | (1 << c)
 }
 
 fn has_vertex(mask: u64, c: usize) -> bool
-    requires { ⌜ c < 64 ⌝ }
+    requires { ⌜ c < maxVertices ⌝ }
     ensures { λ r. ⌜ r ≡ hasVertex mask c ⌝ }
 {
     (mask >> c) % 2 == 1
 }
 
 // Empties the set.
-pub fn clear(masks: &mut [u64; 4096])
+pub fn clear(masks: &mut [u64; PAIRS])
     ensures { λ _. ⌜ now (masks .exit) ≡ emptySet ⌝ }
 {
-    *masks = [0; 4096];
+    *masks = [0; PAIRS];
 }
 
 // Inserts the four faces of a tetrahedron.
-pub fn insert_faces(masks: &mut [u64; 4096], a: usize, b: usize, c: usize, d: usize)
-    requires { ⌜ (a < 64) × (b < 64) × (c < 64) × (d < 64) ⌝ }
+pub fn insert_faces(masks: &mut [u64; PAIRS], a: usize, b: usize, c: usize, d: usize)
+    requires { ⌜ (a < maxVertices) × (b < maxVertices) × (c < maxVertices) × (d < maxVertices) ⌝ }
     ensures { λ _. ⌜ now (masks .exit) ≡ withFaces (now (masks .entry)) a b c d ⌝ }
 {
     let ab = pair_index(a, b);
@@ -51,8 +59,8 @@ pub fn insert_faces(masks: &mut [u64; 4096], a: usize, b: usize, c: usize, d: us
 }
 
 // Is (a, b, c) in the set?
-pub fn contains(masks: &[u64; 4096], a: usize, b: usize, c: usize) -> bool
-    requires { ⌜ (a < 64) × (b < 64) × (c < 64) ⌝ }
+pub fn contains(masks: &[u64; PAIRS], a: usize, b: usize, c: usize) -> bool
+    requires { ⌜ (a < maxVertices) × (b < maxVertices) × (c < maxVertices) ⌝ }
     ensures { λ r. ⌜ r ≡ has (now (masks .entry)) a b c ⌝ }
 {
     let index = pair_index(a, b);
@@ -60,8 +68,8 @@ pub fn contains(masks: &[u64; 4096], a: usize, b: usize, c: usize) -> bool
 }
 
 // How many triangles on the first n vertices the set has.
-pub fn count(masks: &[u64; 4096], n: usize) -> usize
-    requires { ⌜ n ≤ 64 ⌝ }
+pub fn count(masks: &[u64; PAIRS], n: usize) -> usize
+    requires { ⌜ n ≤ maxVertices ⌝ }
     ensures { λ r. ⌜ r ≡ length (triplesOf n (has (now (masks .entry)))) ⌝ }
 {
     let mut count = 0;
@@ -78,8 +86,8 @@ pub fn count(masks: &[u64; 4096], n: usize) -> usize
 }
 
 // The triangles of the set on the first n vertices, in ascending order.
-pub fn list(masks: &[u64; 4096], n: usize, out: &mut [[u8; 3]]) -> usize
-    requires { ⌜ (n ≤ 64) × (length (triplesOf n (has (now masks))) ≤ length (now out)) ⌝ }
+pub fn list(masks: &[u64; PAIRS], n: usize, out: &mut [[u8; 3]]) -> usize
+    requires { ⌜ (n ≤ maxVertices) × (length (triplesOf n (has (now masks))) ≤ length (now out)) ⌝ }
     ensures { λ r. ⌜ (r ≡ length (triplesOf n (has (now (masks .entry))))) × (now (out .exit) ≡ filled (triplesOf n (has (now (masks .entry)))) (now (out .entry))) ⌝ }
 {
     let mut count = 0;

@@ -12,12 +12,12 @@ use Rattle.polygon.specs.Polygon.{Valid}
 use Rattle.geometry.specs.Faces.{normalOf, lengthOf}
 use Rattle.geometry.specs.Spheres.{coplanar}
 use Rattle.geometry.proofs.Faces.{face-length-pqr, face-length-pqs, face-length-prs, face-length-qrs}
-use Rattle.terms.specs.Entries.{entryAt, vertexA, vertexB, vertexC}
+use Rattle.terms.specs.Entries.{triple, entryAt, vertexA, vertexB, vertexC}
 use Rattle.jobs.proofs.Order.{Before, by-a, by-b, by-c}
 use Rattle.lists.specs.Lists.{both, either, every, over, when}
 use Rattle.lists.proofs.Choice.{both-left, both-right, either-cases}
 use Rattle.lists.proofs.Members.{Ascending, over-member, when-member, over-ascending, when-ascending, ascending-at, entry-member}
-use Rattle.faces.specs.Faces.{triple, sameTriple, isFace, triplesOf}
+use Rattle.faces.specs.Faces.{sameTriple, isFace, triplesOf}
 use Rattle.faces.proofs.Sets.{triples-bound, triple-same}
 use Rattle.faces.proofs.Fours.{four-found}
 use Rattle.faces.proofs.Members.{Triple, triples-member}

@@ -5,7 +5,8 @@ use mathlib.Core.List.{List}
 use Prim.Native.Nat.{ℕ, _-_, _≤_}
 use lib.ListN.{length}
 use Rattle.polygon.specs.declared.Polygon.{Polygon}
-use Rattle.faces.specs.Faces.{has, triplesOf}
+use Rattle.faces.specs.Faces.{triplesOf}
+use Rattle.faces.specs.Masks.{has}
 use Rattle.delaunay.specs.Candidates.{candidatesOf}
 use Rattle.hinges.specs.Hinges.{innersOf}
 use Rattle.dihedrals.specs.Weights.{weightsOf, rowsOf}

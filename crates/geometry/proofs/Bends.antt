@@ -12,13 +12,14 @@ use Rattle.geometry.specs.declared.Vector.{Vector}
 use Rattle.integers.specs.Rounding.{floorRoot, floorDiv, clamped}
 use Rattle.integers.proofs.Ring.{con, _:-_, ring}
 use Rattle.integers.proofs.Rounding.{clamped-range, product-above-0}
-use Rattle.geometry.specs.Vectors.{dotOf, squareOf, opposite, Within}
+use Rattle.geometry.specs.Vectors.{dotOf, squareOf, opposite}
+use Rattle.geometry.specs.Bounds.{maxNormal, maxBend, Within}
 use Rattle.geometry.specs.Faces.{lengthOf, ratioOf, bendOf, bendBetween}
 use Rattle.geometry.proofs.Terms.{vec, dotE, oppositeE}
 use Rattle.geometry.proofs.Faces.{square-size, length-squared}
 
 module _ (d : ℤ) (m k : ℕ) where
-  bend-natural : (j : ℕ) × (j ≤ 2000) × (pos 1000 -ℤ ratioOf d m k ≡ pos j)
+  bend-natural : (j : ℕ) × (j ≤ maxBend) × (pos 1000 -ℤ ratioOf d m k ≡ pos j)
   unfolding ratioOf
   bend-natural = clamped-range (floorDiv (pos 1000 *ℤ d) (m * k))
 
@@ -26,9 +27,9 @@ module _ (d : ℤ) (m k : ℕ) where
   unfolding bendOf
   bend-is = ap (λ (z : ℤ). pos (natAbs z)) (bend-natural .2) ∙ sym (bend-natural .2)
 
-  pub bend-bound : bendOf d m k ≤ 2000
+  pub bend-bound : bendOf d m k ≤ maxBend
   unfolding bendOf
-  bend-bound = subst (λ (z : ℤ). natAbs z ≤ 2000) (sym (bend-natural .2)) (bend-natural .1)
+  bend-bound = subst (λ (z : ℤ). natAbs z ≤ maxBend) (sym (bend-natural .2)) (bend-natural .1)
 
 -- ---- its ends
 
@@ -67,9 +68,9 @@ pub bend-perpendicular : (m k : ℕ) → bendOf (pos 0) m k ≡ 1000
 unfolding bendOf ratioOf
 bend-perpendicular m k = ap (λ (y : ℕ). natAbs (pos 1000 -ℤ clamped (negsuc 999) (pos 1000) (pos y))) (zero-div (m * k))
 
--- ---- "Bend of equal normals 0, of perpendicular 1000, of opposite 2000."
+-- ---- the bends of rule 6.5
 
-pub equal-normals : {n : Vector} → Within 8000000 n → 0 < lengthOf n → bendBetween n n ≡ 0
+pub equal-normals : {n : Vector} → Within maxNormal n → 0 < lengthOf n → bendBetween n n ≡ 0
 equal-normals {n} h l =
     ap (λ (d : ℤ). bendOf d (lengthOf n) (lengthOf n)) (square-size n)
     ∙ bend-least (lengthOf n) (lengthOf n) (product-above-0 (lengthOf n) (lengthOf n) l l) (natAbs (squareOf n)) (length-squared h)
@@ -88,7 +89,7 @@ module _ (n : Vector) where
   unfolding lengthOf
   opposite-length = ap (λ (z : ℤ). floorRoot (natAbs z)) opposite-square
 
-  pub opposite-normals : Within 8000000 n → 0 < lengthOf n → bendBetween n (opposite n) ≡ 2000
+  pub opposite-normals : Within maxNormal n → 0 < lengthOf n → bendBetween n (opposite n) ≡ 2000
   opposite-normals h l =
       (λ i. bendOf (dot i) (lengthOf n) (opposite-length i))
       ∙ bend-most (lengthOf n) (lengthOf n) (product-above-0 (lengthOf n) (lengthOf n) l l) (natAbs (squareOf n)) (length-squared h)
@@ -96,7 +97,7 @@ module _ (n : Vector) where
       dot : dotOf n (opposite n) ≡ negℤ (pos (natAbs (squareOf n)))
       dot = opposite-dot ∙ +ℤ-idl (negℤ (squareOf n)) ∙ ap negℤ (square-size n)
 
--- "d = −1 with both m equal to 100: 1001."
+-- a dot product of -1 with both lengths 100
 pub nearly-perpendicular : bendOf (negsuc 0) 100 100 ≡ 1001
 unfolding bendOf ratioOf
 nearly-perpendicular = refl

@@ -1,4 +1,4 @@
--- Document 01's rim P over the definitions: its lengths, bends and positions. Assumes nothing.
+-- Points of rim P (rule 6.1) and others over the definitions: lengths, bends and positions. Assumes nothing.
 use mathlib.Core.Path.{_≡_, refl}
 use mathlib.Core.Bool.{true, false}
 use lib.IntN.{pos}
@@ -6,8 +6,10 @@ use Rattle.grid.specs.declared.GridPoint.{GridPoint}
 use Rattle.grid.specs.Point.{point}
 use Rattle.integers.specs.Rounding.{floorRoot, rootDigits}
 use Rattle.geometry.specs.declared.sphere.Position.the-variants.{Inside, Outside}
+use Rattle.geometry.specs.Bounds.{maxDot, maxLength}
 use Rattle.geometry.specs.Faces.{normalOf, lengthOf, ratioOf, bendOf, bendBetween}
-use Rattle.geometry.specs.Spheres.{orientOf, centreOf, distanceOf, coplanar, onSphere, positionOf}
+use Rattle.geometry.specs.Spheres.{orientOf, centreOf, distanceOf, coplanar, strictlyInside, onSphere}
+use Rattle.geometry.specs.Lifting.{positionOf}
 
 abbrev p0 : GridPoint
 p0 = point (pos 0) (pos 0) (pos 0)
@@ -50,7 +52,7 @@ unfolding orientOf
 proper = refl
 
 -- the largest whole root that is asked for
-root-of-all : floorRoot 192000000000000 ≡ 13856406
+root-of-all : floorRoot maxDot ≡ maxLength
 unfolding rootDigits
 root-of-all = refl
 
@@ -66,3 +68,14 @@ fifth-inside = refl
 fifth-outside : positionOf p0 p1 p2 p3 (point (pos 9) (pos 8) (pos 0)) ≡ Outside
 unfolding orientOf centreOf distanceOf positionOf
 fifth-outside = refl
+
+-- a point inside the sphere on the fourth corner's own side refutes nothing: its own sphere through the triangle has neither inside
+abbrev apex : GridPoint
+apex = point (pos 0) (pos 0) (pos 16)
+
+abbrev below : GridPoint
+below = point (pos 2) (pos 2) (pos 4)
+
+own-side : (strictlyInside p0 p1 p3 apex below ≡ true) × (coplanar p0 p1 p3 below ≡ false) × (strictlyInside p0 p1 p3 below apex ≡ false) × (strictlyInside p0 p1 p3 below below ≡ false)
+unfolding orientOf centreOf distanceOf
+own-side = (refl, refl, refl, refl)

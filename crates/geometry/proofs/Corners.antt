@@ -12,7 +12,8 @@ use Rattle.integers.proofs.Laws.{sub-zero}
 use Rattle.integers.proofs.Order.{equal-is}
 use Rattle.integers.proofs.Ring.{E, var, con, _:-_, _:*_, ring}
 use Rattle.geometry.specs.Vectors.{differenceOf, dotOf, crossOf, squareOf, scaledBy, plus, minus, opposite}
-use Rattle.geometry.specs.Spheres.{orientOf, centreOf, distanceOf, onSphere, positionOf}
+use Rattle.geometry.specs.Spheres.{orientOf, centreOf, distanceOf, onSphere}
+use Rattle.geometry.specs.Lifting.{positionOf}
 use Rattle.geometry.proofs.Terms.{VectorE, vec, dotE, scaledE, plusE, minusE, oppositeE, orientE, centreE, distanceE, ofVectors, ofPoints}
 use Rattle.geometry.proofs.Spheres.{distances-power}
 
@@ -35,7 +36,7 @@ module _ (u v t : Vector) where
   power-t : dotOf u (crossOf v t) *ℤ squareOf t -ℤ dotOf centre t ≡ pos 0
   power-t = ring (ofVectors u v t) (powerE (vec 6)) (con (pos 0)) tt
 
--- "the sphere through them": the corners q, r, s are as far from the centre as p
+-- the sphere goes through the four (rule 2.2): the corners q, r, s are as far from the centre as p
 module _ (p q r s : GridPoint) where
   at-corner : (w : GridPoint) → orientOf p q r s *ℤ squareOf (differenceOf w p) -ℤ dotOf (centreOf p q r s) (differenceOf w p) ≡ pos 0 → distanceOf p q r s w ≡ distanceOf p q r s p
   unfolding distanceOf

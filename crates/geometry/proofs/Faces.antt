@@ -10,14 +10,16 @@ use lib.Signed.{nonNeg}
 use Rattle.grid.specs.declared.GridPoint.{GridPoint}
 use Rattle.grid.specs.Point.{PointOnGrid}
 use Rattle.geometry.specs.declared.Vector.{Vector}
+use Rattle.terms.specs.Limits.{maxAreaFactor, maxBendFactor}
 use Rattle.integers.specs.Bounds.{AtMost}
 use Rattle.integers.proofs.Laws.{square-is}
 use Rattle.integers.proofs.Ring.{E, ring}
 use Rattle.integers.proofs.Bounds.{mul-le}
 use Rattle.integers.proofs.Order.{equal-is, true≢false}
 use Rattle.integers.proofs.Rounding.{floor-root-le, floor-root-above-0, floor-root-square}
-use Rattle.geometry.specs.Vectors.{differenceOf, dotOf, squareOf, Within}
+use Rattle.geometry.specs.Vectors.{differenceOf, dotOf, squareOf}
 use Rattle.geometry.specs.Spheres.{orientOf, coplanar}
+use Rattle.geometry.specs.Bounds.{maxNormal, maxDot, maxLength, maxBend, Within}
 use Rattle.geometry.specs.Faces.{normalOf, lengthOf, areaWeightOf, bendWeightOf}
 use Rattle.geometry.proofs.Terms.{VectorE, vec, dotE, crossE, minusE, orientE, ofPoints}
 use Rattle.geometry.proofs.Vectors.{within-difference, within-cross, at-most-dot}
@@ -32,24 +34,24 @@ square-size v = square-natural v ∙ ap (λ (z : ℤ). pos (natAbs z)) (sym (squ
 pub square-nonneg : (v : Vector) → T (nonNeg (squareOf v))
 square-nonneg v = subst (λ (z : ℤ). T (nonNeg z)) (sym (square-natural v)) tt
 
-pub normal-within : {a b c : GridPoint} → PointOnGrid a → PointOnGrid b → PointOnGrid c → Within 8000000 (normalOf a b c)
+pub normal-within : {a b c : GridPoint} → PointOnGrid a → PointOnGrid b → PointOnGrid c → Within maxNormal (normalOf a b c)
 normal-within h k l = within-cross (within-difference k h) (within-difference l h)
 
-pub normals-dot : {n k : Vector} → Within 8000000 n → Within 8000000 k → AtMost 192000000000000 (dotOf n k)
+pub normals-dot : {n k : Vector} → Within maxNormal n → Within maxNormal k → AtMost maxDot (dotOf n k)
 normals-dot h l = at-most-dot h l
 
 -- ---- the length of a normal
 
-module _ {n : Vector} (h : Within 8000000 n) where
+module _ {n : Vector} (h : Within maxNormal n) where
   pub square-below : natAbs (squareOf n) < 2 ^ 52
   square-below = lt-of-le-of-lt (at-most-dot h h .size) (lit< tt)
 
   square-fits : natAbs (squareOf n) < 2 ^ 64
   square-fits = lt-of-le-of-lt (at-most-dot h h .size) (lit< tt)
 
-  pub length-bound : lengthOf n ≤ 13856406
+  pub length-bound : lengthOf n ≤ maxLength
   unfolding lengthOf
-  length-bound = floor-root-le (natAbs (squareOf n)) 13856406 square-fits (lt-of-le-of-lt (at-most-dot h h .size) (lit< tt))
+  length-bound = floor-root-le (natAbs (squareOf n)) maxLength square-fits (lt-of-le-of-lt (at-most-dot h h .size) (lit< tt))
 
   -- the length of a normal that is not 0 is at least 1
   pub length-above-0 : (squareOf n ≡ pos 0 → ⊥) → 0 < lengthOf n
@@ -66,10 +68,10 @@ module _ {n : Vector} (h : Within 8000000 n) where
 
 -- ---- weights
 
-pub area-weight-bound : {factor m : ℕ} → factor ≤ 16 → m ≤ 13856406 → areaWeightOf factor m ≤ 221702496
+pub area-weight-bound : {factor m : ℕ} → factor ≤ maxAreaFactor → m ≤ maxLength → areaWeightOf factor m ≤ maxAreaFactor * maxLength
 area-weight-bound h k = mul-le h k
 
-pub bend-weight-bound : {factor bend : ℕ} → factor ≤ 65535 → bend ≤ 2000 → bendWeightOf factor bend ≤ 131070000
+pub bend-weight-bound : {factor bend : ℕ} → factor ≤ maxBendFactor → bend ≤ maxBend → bendWeightOf factor bend ≤ maxBendFactor * maxBend
 bend-weight-bound h k = mul-le h k
 
 -- ---- the faces of four that are not in one plane have a normal

@@ -13,7 +13,8 @@ use Rattle.integers.proofs.Laws.{mul-assoc}
 use Rattle.integers.proofs.Order.{equal-no, equal-is, less-by-multiple, true≢false}
 use Rattle.integers.proofs.Ring.{E, var, con, _:+_, _:-_, _:*_, ring}
 use Rattle.geometry.specs.Vectors.{differenceOf, dotOf, crossOf, squareOf, scaledBy, plus, minus}
-use Rattle.geometry.specs.Spheres.{orientOf, coplanar, centreOf, distanceOf, strictlyInside, onSphere, positionOf, positionBy, liftOf, pencilOf, sphereOf}
+use Rattle.geometry.specs.Spheres.{orientOf, coplanar, centreOf, distanceOf, strictlyInside, onSphere}
+use Rattle.geometry.specs.Lifting.{positionOf, positionBy, liftOf, pencilOf, sphereOf}
 use Rattle.geometry.specs.Facets.{opposed, separates, separatesBy, isInside, refutedBy}
 use Rattle.geometry.proofs.Terms.{VectorE, vec, dotE, crossE, scaledE, plusE, minusE, orientE, ofVectors}
 use Rattle.geometry.proofs.Signs.{opposed-is, opposed-first, one-negative}

@@ -8,13 +8,14 @@ use Rattle.grid.specs.Point.{OnGrid, PointOnGrid}
 use Rattle.geometry.specs.declared.Vector.{Vector}
 use Rattle.integers.specs.Bounds.{AtMost, largest}
 use Rattle.integers.proofs.Bounds.{at-most-add, at-most-sub, at-most-mul, at-most-le}
-use Rattle.geometry.specs.Vectors.{differenceOf, dotOf, crossOf, scaledBy, plus, minus, Within, ProductsFit, third}
+use Rattle.geometry.specs.Vectors.{differenceOf, dotOf, crossOf, scaledBy, plus, minus}
+use Rattle.geometry.specs.Bounds.{maxDifference, Within, ProductsFit, third}
 
 -- a grid coordinate
 pub coordinate : {c : ℤ} → OnGrid c → AtMost 1000 c
 coordinate h = record { size = h .size }
 
-pub within-difference : {p q : GridPoint} → PointOnGrid p → PointOnGrid q → Within 2000 (differenceOf p q)
+pub within-difference : {p q : GridPoint} → PointOnGrid p → PointOnGrid q → Within maxDifference (differenceOf p q)
 within-difference h k = record { in-x = at-most-sub (coordinate (h .x)) (coordinate (k .x)); in-y = at-most-sub (coordinate (h .y)) (coordinate (k .y)); in-z = at-most-sub (coordinate (h .z)) (coordinate (k .z)) }
 
 module _ {m n : ℕ} {u v : Vector} (h : Within m u) (k : Within n v) where

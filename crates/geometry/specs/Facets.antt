@@ -8,7 +8,8 @@ use Rattle.geometry.specs.declared.sphere.Pencil.{Pencil}
 use Rattle.geometry.specs.declared.sphere.Position.{Position}
 use Rattle.geometry.specs.declared.sphere.Position.the-variants.{Inside, On, Outside}
 use Rattle.geometry.specs.Vectors.{dotOf}
-use Rattle.geometry.specs.Spheres.{orientOf, sphereOf, positionBy}
+use Rattle.geometry.specs.Spheres.{orientOf}
+use Rattle.geometry.specs.Lifting.{sphereOf, positionBy}
 
 -- i is not 0, and j is 0 or has the other sign
 abbrev pub opposed : ℤ → ℤ → Bool

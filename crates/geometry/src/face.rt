@@ -7,8 +7,9 @@ use grid::GridPoint;
 ghost use mathlib.Core.Path.{_≡_};
 ghost use Rattle.grid.specs.Point.{PointOnGrid};
 ghost use Prim.Native.Nat.{_≤_, _<_};
+ghost use Rattle.terms.specs.Limits.{maxAreaFactor, maxBendFactor};
 ghost use Rattle.integers.specs.Bounds.{AtMost};
-ghost use Rattle.geometry.specs.Vectors.{Within};
+ghost use Rattle.geometry.specs.Bounds.{maxNormal, maxDot, maxLength, maxBend, Within};
 ghost use Rattle.geometry.specs.Faces.{normalOf, lengthOf, areaWeightOf, bendOf, bendWeightOf};
 
 pub fn normal(a: GridPoint, b: GridPoint, c: GridPoint) -> Vector
@@ -22,7 +23,7 @@ pub fn normal(a: GridPoint, b: GridPoint, c: GridPoint) -> Vector
 
 // The whole part of a normal's length.
 pub fn normal_length(n: Vector) -> u32
-    requires { ⌜ Within 8000000 n ⌝ }
+    requires { ⌜ Within maxNormal n ⌝ }
     ensures { λ r. ⌜ r ≡ lengthOf n ⌝ }
 {
     let square = dot(n, n);
@@ -30,7 +31,7 @@ pub fn normal_length(n: Vector) -> u32
 }
 
 pub fn area_weight(factor: u32, length: u32) -> u32
-    requires { ⌜ (factor ≤ 16) × (length ≤ 13856406) ⌝ }
+    requires { ⌜ (factor ≤ maxAreaFactor) × (length ≤ maxLength) ⌝ }
     ensures { λ r. ⌜ r ≡ areaWeightOf factor length ⌝ }
 {
     factor * length
@@ -38,7 +39,7 @@ pub fn area_weight(factor: u32, length: u32) -> u32
 
 // The bend between two triangles: d is the dot product of their normals, m and k are the lengths of these.
 pub fn bend(d: i64, m: u32, k: u32) -> u32
-    requires { ⌜ (AtMost 192000000000000 d) × (0 < m) × (m ≤ 13856406) × (0 < k) × (k ≤ 13856406) ⌝ }
+    requires { ⌜ (AtMost maxDot d) × (0 < m) × (m ≤ maxLength) × (0 < k) × (k ≤ maxLength) ⌝ }
     ensures { λ r. ⌜ r ≡ bendOf d m k ⌝ }
 {
     let n = 1000 * d;
@@ -48,7 +49,7 @@ pub fn bend(d: i64, m: u32, k: u32) -> u32
 }
 
 pub fn bend_weight(factor: u32, bend: u32) -> u32
-    requires { ⌜ (factor ≤ 65535) × (bend ≤ 2000) ⌝ }
+    requires { ⌜ (factor ≤ maxBendFactor) × (bend ≤ maxBend) ⌝ }
     ensures { λ r. ⌜ r ≡ bendWeightOf factor bend ⌝ }
 {
     factor * bend

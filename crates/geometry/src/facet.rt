@@ -6,7 +6,7 @@ use crate::sphere::Position;
 use crate::sphere::circumsphere;
 use crate::sphere::locate;
 ghost use mathlib.Core.Path.{_≡_};
-ghost use Rattle.geometry.specs.Spheres.{LiftedBounds, PencilBounds};
+ghost use Rattle.geometry.specs.Bounds.{LiftedBounds, PencilBounds};
 ghost use Rattle.geometry.specs.Facets.{separatesBy, refutedBy};
 
 // Does the triangle's plane separate w from s? s is off it then, and w in it or on its other side.

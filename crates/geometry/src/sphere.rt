@@ -7,8 +7,9 @@ use grid::GridPoint;
 ghost use mathlib.Core.Path.{_≡_};
 ghost use Rattle.grid.specs.Point.{PointOnGrid};
 ghost use Rattle.integers.specs.Bounds.{AtMost};
-ghost use Rattle.geometry.specs.Vectors.{Within, scaledBy, plus, minus};
-ghost use Rattle.geometry.specs.Spheres.{LiftedBounds, PencilBounds, SphereBounds, liftOf, pencilOf, turned, sphereOf, positionBy};
+ghost use Rattle.geometry.specs.Vectors.{scaledBy, plus, minus};
+ghost use Rattle.geometry.specs.Bounds.{maxDifference, maxSquare, maxNormal, maxOrient, maxCrossed, maxCentre, Within, LiftedBounds, PencilBounds, SphereBounds};
+ghost use Rattle.geometry.specs.Lifting.{liftOf, pencilOf, turned, sphereOf, positionBy};
 
 // A point as seen from the base, with its squared distance: the lifting map of Delaunay triangulation.
 pub struct Lifted {
@@ -45,7 +46,7 @@ pub fn lift(base: GridPoint, p: GridPoint) -> Lifted
 
 // i · a - j · b
 fn scaled_difference(i: i64, a: Vector, j: i64, b: Vector) -> Vector
-    requires { ⌜ (AtMost 12000000 i) × (Within 2000 a) × (AtMost 12000000 j) × (Within 2000 b) ⌝ }
+    requires { ⌜ (AtMost maxSquare i) × (Within maxDifference a) × (AtMost maxSquare j) × (Within maxDifference b) ⌝ }
     ensures { λ r. ⌜ r ≡ minus (scaledBy i a) (scaledBy j b) ⌝ }
 {
     let ax = a.x;
@@ -63,7 +64,7 @@ fn scaled_difference(i: i64, a: Vector, j: i64, b: Vector) -> Vector
 
 // a + k · b
 fn scaled_sum(a: Vector, k: i64, b: Vector) -> Vector
-    requires { ⌜ (Within 192000000000000 a) × (AtMost 12000000 k) × (Within 8000000 b) ⌝ }
+    requires { ⌜ (Within maxCrossed a) × (AtMost maxSquare k) × (Within maxNormal b) ⌝ }
     ensures { λ r. ⌜ r ≡ plus a (scaledBy k b) ⌝ }
 {
     let ax = a.x;
@@ -81,7 +82,7 @@ fn scaled_sum(a: Vector, k: i64, b: Vector) -> Vector
 
 // Where four corners turn the other way all signs are changed, so that one comparison places a point.
 fn turn(o: i64, c: Vector) -> Sphere
-    requires { ⌜ (AtMost 48000000000 o) × (Within 288000000000000 c) ⌝ }
+    requires { ⌜ (AtMost maxOrient o) × (Within maxCentre c) ⌝ }
     ensures { λ r. ⌜ r ≡ turned o c ⌝ }
 {
     if o < 0 {

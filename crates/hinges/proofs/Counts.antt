@@ -14,11 +14,11 @@ use Rattle.lists.proofs.Bools.{both-no}
 use Rattle.lists.proofs.Ranges.{up-bound, when-bound}
 use Rattle.lists.proofs.Parts.{over-split, over-empty, over-only, over-same, over-lengths, when-length, when-either}
 use Rattle.lists.proofs.Flattening.{over-entries, flat-sum}
-use Rattle.faces.specs.Faces.{triple, triplesOf}
+use Rattle.faces.specs.Faces.{triplesOf}
 use Rattle.faces.proofs.Sets.{triples-bound}
 use Rattle.faces.proofs.Triples.{left1, left3, next3, flat-triples, left-lengths}
 use Rattle.terms.specs.Limits.{maxVertices, maxTriples}
-use Rattle.terms.specs.Entries.{entryAt, vertexA, vertexC}
+use Rattle.terms.specs.Entries.{triple, entryAt, vertexA, vertexC}
 use Rattle.jobs.specs.Job.{sameEdge, hangs}
 use Rattle.hinges.specs.Hinges.{innersOn, innersOf, beneath}
 

@@ -3,7 +3,8 @@ ghost use mathlib.Core.Path.{_≡_};
 ghost use Prim.Native.Nat.{_<_, _≤_};
 ghost use lib.ListN.{length};
 ghost use Rattle.terms.specs.Limits.{maxVertices};
-ghost use Rattle.faces.specs.Faces.{has, triplesOf};
+ghost use Rattle.faces.specs.Faces.{triplesOf};
+ghost use Rattle.faces.specs.Masks.{has};
 ghost use Rattle.hinges.specs.Hinges.{innersOf, beneath};
 
 // How many triangles of the set have (i, j) as the edge from their first to their last vertex.

@@ -31,9 +31,35 @@ struct Sphere {
     bound: Vector,
 }
 
+/// What the vertices say of a sphere.
+enum Scan {
+    Inside(usize),
+    /// None is inside, and so many are on it, the corners among them.
+    Empty {
+        on: usize,
+    },
+}
+
 impl Sphere {
     fn side(&self, q: &Lifted) -> i64 {
         self.orient * q.square - dot(self.bound, q.at)
+    }
+
+    /// Looks at one vertex first, then at all.
+    #[inline(always)]
+    fn scan(&self, lifted: &[Lifted], first: usize) -> Scan {
+        if self.side(&lifted[first]) < 0 {
+            return Scan::Inside(first);
+        }
+        let mut on = 0;
+        for (v, q) in lifted.iter().enumerate() {
+            let side = self.side(q);
+            if side < 0 {
+                return Scan::Inside(v);
+            }
+            on += (side == 0) as usize;
+        }
+        Scan::Empty { on }
     }
 }
 
@@ -67,7 +93,26 @@ impl Pencil {
             Some(Sphere { orient, bound })
         }
     }
+
+    /// Is s off the plane of the three, and w in it or on its other side?
+    fn separates(&self, s: &Lifted, w: &Lifted) -> bool {
+        let [i, j] = [s, w].map(|q| dot(self.normal, q.at));
+        if i < 0 {
+            0 <= j
+        } else {
+            0 < i && j <= 0
+        }
+    }
+
+    /// With w separated from s and inside the sphere through s, each sphere through the three has
+    /// s or w inside.
+    fn refuted_by(&self, s: &Lifted, w: &Lifted) -> bool {
+        self.separates(s, w) && self.sphere(s).is_some_and(|sphere| sphere.side(w) < 0)
+    }
 }
+
+/// The remembered pair is tried on a three that has more vertices after it than these.
+const FEW: usize = 5;
 
 /// What is known of the faces on a pair of vertices i < j.
 #[derive(Clone, Copy, Default)]
@@ -110,42 +155,45 @@ impl Faces {
         self.pairs[a * self.n + c].middle |= 1 << b;
     }
 
+    fn insert_faces(&mut self, [a, b, c, d]: [usize; 4]) {
+        self.insert(a, b, c);
+        self.insert(a, b, d);
+        self.insert(a, c, d);
+        self.insert(b, c, d);
+    }
+
     fn mark(&mut self, polygon: &Polygon) -> Result<(), u32> {
         let n = polygon.n;
         let vertices = &polygon.vertices[..n];
         let mut lifted = [Lifted { at: [0; 3], square: 0 }; 64];
+        // What dropped the last four, and the fourth corner of the last three that was left.
         let mut dropper = 0;
-        for a in 0..n {
+        let mut apex = 0;
+        for a in 0..n - 3 {
             for (place, &vertex) in lifted.iter_mut().zip(vertices) {
                 let at = minus(vertex, vertices[a]);
                 *place = Lifted { at, square: dot(at, at) };
             }
             let lifted = &lifted[..n];
-            for b in a + 1..n {
-                for c in b + 1..n {
+            for b in a + 1..n - 2 {
+                'three: for c in b + 1..n - 1 {
                     let pencil = Pencil::new(lifted[b], lifted[c]);
-                    'next: for d in c + 1..n {
+                    if n - 1 - c > FEW && pencil.refuted_by(&lifted[apex], &lifted[dropper]) {
+                        continue 'three;
+                    }
+                    for d in c + 1..n {
                         let Some(sphere) = pencil.sphere(&lifted[d]) else { continue };
-                        // The vertex that dropped the last four often drops this one.
-                        if sphere.side(&lifted[dropper]) < 0 {
-                            continue;
-                        }
-                        let mut on = 0;
-                        for (v, q) in lifted.iter().enumerate() {
-                            let side = sphere.side(q);
-                            if side < 0 {
+                        match sphere.scan(lifted, dropper) {
+                            Scan::Inside(v) => {
                                 dropper = v;
-                                continue 'next;
+                                if pencil.separates(&lifted[d], &lifted[v]) {
+                                    apex = d;
+                                    continue 'three;
+                                }
                             }
-                            on += (side == 0) as u32;
+                            Scan::Empty { on } if on > 4 => return Err(12),
+                            Scan::Empty { .. } => self.insert_faces([a, b, c, d]),
                         }
-                        if on > 4 {
-                            return Err(12);
-                        }
-                        self.insert(a, b, c);
-                        self.insert(a, b, d);
-                        self.insert(a, c, d);
-                        self.insert(b, c, d);
                     }
                 }
             }

@@ -10,7 +10,7 @@ use Rattle.polygon.specs.declared.Polygon.{Polygon}
 use Rattle.polygon.specs.Polygon.{Valid}
 use Rattle.geometry.specs.declared.sphere.Lifted.{Lifted}
 use Rattle.geometry.specs.declared.sphere.Sphere.{Sphere}
-use Rattle.geometry.specs.Spheres.{SphereBounds}
+use Rattle.geometry.specs.Bounds.{SphereBounds}
 use Rattle.geometry.proofs.Spheres.{not-tagged}
 use Rattle.faces.proofs.Fours.{left1, left2, left3, left4, into2, into3, into4, out2, out3, out4}
 use Rattle.delaunay.proofs.Marking.{hasFifth, Kept, kept-start, kept-turn, kept-then, kept-skip, kept-leave, twelve-due, all-marked}

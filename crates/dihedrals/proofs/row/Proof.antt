@@ -5,6 +5,7 @@ use Prim.Native.Nat.{ℕ, _≤_}
 use native.Mathlib.Omega.{arith}
 use Rattle.integers.proofs.Bounds.{Holds, bits, returned, at-most-held}
 use Rattle.geometry.specs.Vectors.{dotOf}
+use Rattle.geometry.specs.Bounds.{maxDot, maxBend}
 use Rattle.geometry.specs.Faces.{bendOf, bendWeightOf}
 use Rattle.geometry.proofs.Vectors.{products-fit}
 use Rattle.geometry.proofs.Faces.{normals-dot, length-bound}
@@ -16,7 +17,7 @@ dot-requires : tie.Need-dot-requires
 dot-requires c κs = products-fit tt tt tt (c .pre .4 .within) (c .pre .2 .within)
 
 -- the dot product, as the machine hands it on
-dot-held : (c : tie.After-dot) → let s = c .before in Holds 192000000000000 (dotOf (s .args .inner) (s .args .outer)) (bits (c .dot .result))
+dot-held : (c : tie.After-dot) → let s = c .before in Holds maxDot (dotOf (s .args .inner) (s .args .outer)) (bits (c .dot .result))
 dot-held c = let s = c .before in returned tt (c .dot .ensures) (normals-dot (s .pre .4 .within) (s .pre .2 .within))
 
 bend-requires : tie.Need-bend-requires
@@ -25,7 +26,7 @@ bend-requires c κs =
     (at-most-held (dot-held c), s .pre .4 .above-0, omega (arith, s .pre .4 .is, length-bound (s .pre .4 .within)), s .pre .2 .above-0, omega (arith, s .pre .2 .is, length-bound (s .pre .2 .within)))
 
 bend-weight-requires : tie.Need-bend-weight-requires
-bend-weight-requires c κs = (c .before .before .pre .0, subst (λ (b : ℕ). b ≤ 2000) (sym (c .bend .ensures)) (bend-bound _ _ _))
+bend-weight-requires c κs = (c .before .before .pre .0, subst (λ (b : ℕ). b ≤ maxBend) (sym (c .bend .ensures)) (bend-bound _ _ _))
 
 cast-t10 : tie.Need-cast-t10
 cast-t10 c = let s = c .before .before .before in omega (arith, s .pre .1)

@@ -2,7 +2,7 @@
 use Prim.Native.Nat.{ℕ}
 use mathlib.Core.Path.{_∙_, ap}
 use lib.ListN.{getD}
-use Rattle.faces.specs.Faces.{hasVertex, has}
+use Rattle.faces.specs.Masks.{hasVertex, has}
 use borrow.Author.Needs.{needs}
 use Rattle.faces.proofs.contains.Statement.{statement}
 use Rattle.faces.proofs.contains.Tie as tie

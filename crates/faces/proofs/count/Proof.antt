@@ -5,7 +5,8 @@ use mathlib.Core.Logic.{⊎-elim}
 use Prim.Native.Nat.{_-_}
 use native.Mathlib.Omega.{arith}
 use Rattle.lists.proofs.Counting.{Counting, count-start, count-turn, count-push, count-moved, count-all}
-use Rattle.faces.specs.Faces.{has, triplesOf}
+use Rattle.faces.specs.Faces.{triplesOf}
+use Rattle.faces.specs.Masks.{has}
 use Rattle.faces.proofs.Sets.{triples-bound}
 use Rattle.faces.proofs.Triples.{left1, left2, left3, into2, into3, out1, out2, out3, listed, next-listed}
 use Rattle.faces.proofs.count.Statement.{statement}

@@ -7,7 +7,9 @@ use Prim.Native.Nat.{_+_, _-_}
 use native.Mathlib.Omega.{arith}
 use Rattle.lists.proofs.Ranges.{over-step, over-more, over-end, over-none}
 use Rattle.lists.proofs.Writing.{Writing, start, turn, enter, leave, place, push, moved, all}
-use Rattle.faces.specs.Faces.{has, triple, triplesOf}
+use Rattle.terms.specs.Entries.{triple}
+use Rattle.faces.specs.Faces.{triplesOf}
+use Rattle.faces.specs.Masks.{has}
 use Rattle.faces.proofs.Triples.{left1, left2, left3, listed, next-listed}
 use Rattle.faces.proofs.list.Statement.{statement}
 use Rattle.faces.proofs.list.Tie as tie

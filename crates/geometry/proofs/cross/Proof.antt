@@ -1,7 +1,8 @@
 -- `geometry::cross` meets its contract: each coordinate is a difference of two products, each with its bound.
 use Prim.Native.Nat.{_+_}
 use lib.IntN.{_-ℤ_, _*ℤ_}
-use Rattle.geometry.specs.Vectors.{third, crossOf}
+use Rattle.geometry.specs.Vectors.{crossOf}
+use Rattle.geometry.specs.Bounds.{third}
 use Rattle.integers.proofs.Bounds.{Holds, bits, stored, fits, product-fits, product-held, _-!_}
 use Rattle.geometry.proofs.cross.Statement.{statement}
 use Rattle.geometry.proofs.cross.Tie as tie

@@ -1,18 +1,19 @@
 -- `geometry::difference` meets its contract: each coordinate is a difference of two grid coordinates.
 use lib.IntN.{_-ℤ_}
+use Rattle.geometry.specs.Bounds.{maxDifference}
 use Rattle.integers.proofs.Bounds.{Holds, bits, given, stored, fits, _-!_}
 use Rattle.geometry.proofs.Vectors.{coordinate}
 use Rattle.geometry.proofs.difference.Statement.{statement}
 use Rattle.geometry.proofs.difference.Tie as tie
 
 module _ (s : tie.Start) where
-  held-x : Holds 2000 (s .args .p .x -ℤ s .args .q .x) (bits (s .args .p .x) -ℤ bits (s .args .q .x))
+  held-x : Holds maxDifference (s .args .p .x -ℤ s .args .q .x) (bits (s .args .p .x) -ℤ bits (s .args .q .x))
   held-x = given tt (coordinate (s .pre .0 .x)) -! given tt (coordinate (s .pre .1 .x))
 
-  held-y : Holds 2000 (s .args .p .y -ℤ s .args .q .y) (bits (s .args .p .y) -ℤ bits (s .args .q .y))
+  held-y : Holds maxDifference (s .args .p .y -ℤ s .args .q .y) (bits (s .args .p .y) -ℤ bits (s .args .q .y))
   held-y = given tt (coordinate (s .pre .0 .y)) -! given tt (coordinate (s .pre .1 .y))
 
-  held-z : Holds 2000 (s .args .p .z -ℤ s .args .q .z) (bits (s .args .p .z) -ℤ bits (s .args .q .z))
+  held-z : Holds maxDifference (s .args .p .z -ℤ s .args .q .z) (bits (s .args .p .z) -ℤ bits (s .args .q .z))
   held-z = given tt (coordinate (s .pre .0 .z)) -! given tt (coordinate (s .pre .1 .z))
 
 sub-t9 : tie.Need-sub-t9

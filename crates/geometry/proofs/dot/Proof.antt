@@ -1,6 +1,6 @@
 -- `geometry::dot` meets its contract: three products, each with its bound, and their sums.
 use lib.IntN.{_*ℤ_}
-use Rattle.geometry.specs.Vectors.{third}
+use Rattle.geometry.specs.Bounds.{third}
 use Rattle.integers.proofs.Bounds.{Holds, bits, stored, fits, product-fits, product-held, _+!_}
 use Rattle.geometry.proofs.dot.Statement.{statement}
 use Rattle.geometry.proofs.dot.Tie as tie

@@ -8,7 +8,7 @@ use native.Mathlib.Omega.{arith}
 use Rattle.lists.specs.Lists.{over, when}
 use Rattle.lists.proofs.Ranges.{over-step, over-end}
 use Rattle.lists.proofs.Counting.{Counting, count-start, count-turn, count-push, count-moved, count-all}
-use Rattle.faces.specs.Faces.{has}
+use Rattle.faces.specs.Masks.{has}
 use Rattle.hinges.specs.Hinges.{beneath}
 use Rattle.hinges.proofs.count_beneath.Statement.{statement}
 use Rattle.hinges.proofs.count_beneath.Tie as tie

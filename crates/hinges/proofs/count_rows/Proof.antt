@@ -7,7 +7,7 @@ use Prim.Native.Nat.{ℕ, _+_, _-_, _≤_}
 use native.Mathlib.Omega.{arith}
 use lib.ListN.{length-append}
 use Rattle.lists.proofs.Counting.{Counting, count-start, count-turn, count-part, count-moved, count-all}
-use Rattle.faces.specs.Faces.{has}
+use Rattle.faces.specs.Masks.{has}
 use Rattle.faces.proofs.Triples.{left1, left2, left3, into2, into3, out1, out2, out3}
 use Rattle.hinges.specs.Hinges.{beneath}
 use Rattle.hinges.proofs.Counts.{hung, next-hung, pairs-count, pairs-bound}

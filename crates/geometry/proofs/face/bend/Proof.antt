@@ -9,6 +9,7 @@ use mir.Syntax.{w64}
 use mir.ValLaws.{toZ-ofZ}
 use Rattle.integers.specs.Bounds.{AtMost}
 use Rattle.integers.specs.Rounding.{floorDiv, clamped}
+use Rattle.geometry.specs.Bounds.{maxDot, maxLength, maxBend}
 use Rattle.geometry.specs.Faces.{ratioOf, bendOf}
 use Rattle.integers.proofs.Rounding.{product-above-0}
 use Rattle.integers.proofs.Bounds.{Holds, bits, given, stored, fits, signed-fits, at-most-held, at-most-le, _*!_}
@@ -23,10 +24,10 @@ natural : {n m : ℕ} → m ≤ n → AtMost n (pos m)
 natural h = record { size = h }
 
 module _ (s : tie.Start) where
-  numerator : Holds 192000000000000000 (pos 1000 *ℤ s .args .d) (pos 1000 *ℤ bits (s .args .d))
+  numerator : Holds (1000 * maxDot) (pos 1000 *ℤ s .args .d) (pos 1000 *ℤ bits (s .args .d))
   numerator = thousand *! given tt (s .pre .0)
 
-  divisor : Holds 191999987236836 (pos (s .args .m * s .args .k)) (bits (pos (s .args .m)) *ℤ bits (pos (s .args .k)))
+  divisor : Holds (maxLength * maxLength) (pos (s .args .m * s .args .k)) (bits (pos (s .args .m)) *ℤ bits (pos (s .args .k)))
   divisor = given tt (natural (s .pre .2)) *! given tt (natural (s .pre .4))
 
 mul-n : tie.Need-mul-n
@@ -58,7 +59,7 @@ ratio! c =
     c .clamp .ensures
     ∙ ap (clamped (negsuc 999) (pos 1000)) (toZ-ofZ w64 (q .result) (record { sfits = q .ok }) ∙ q .ensures ∙ (λ i. floorDiv (stored tt (numerator s) .value i) (natAbs (stored tt (divisor s) .value i))))
 
-bend! : (c : tie.After-clamp) → Holds 2000 (pos (bendOf (c .before .before .args .d) (c .before .before .args .m) (c .before .before .args .k))) (pos 1000 -ℤ bits (c .clamp .result))
+bend! : (c : tie.After-clamp) → Holds maxBend (pos (bendOf (c .before .before .args .d) (c .before .before .args .m) (c .before .before .args .k))) (pos 1000 -ℤ bits (c .clamp .result))
 bend! c =
     let s = c .before .before in
     record {

@@ -3,7 +3,8 @@ use mathlib.Core.Path.{_≡_, sym, _∙_, ap, subst}
 use mathlib.Core.Bool.{Bool, false, cond}
 use borrow.Author.Needs.{needs}
 use Rattle.geometry.specs.declared.sphere.Sphere.{Sphere}
-use Rattle.geometry.specs.Spheres.{SphereBounds, sphereOf, positionBy}
+use Rattle.geometry.specs.Bounds.{SphereBounds}
+use Rattle.geometry.specs.Lifting.{sphereOf, positionBy}
 use Rattle.geometry.specs.Facets.{isInside, separatesBy}
 use Rattle.geometry.proofs.Spheres.{sphere-bounds, not-tagged}
 use Rattle.geometry.proofs.Facets.{not-inside}

@@ -5,8 +5,9 @@ use lib.IntN.{ℤ, pos}
 use Rattle.integers.specs.Order.{equal}
 use Rattle.integers.proofs.Order.{zero-bits, other-bits}
 use Rattle.integers.proofs.Bounds.{Holds, bits, given, returned, at-most-as, at-most-held, signed-fits}
-use Rattle.geometry.specs.Vectors.{dotOf, scaledBy, plus, Within}
-use Rattle.geometry.specs.Spheres.{turned}
+use Rattle.geometry.specs.Vectors.{dotOf, scaledBy, plus}
+use Rattle.geometry.specs.Bounds.{maxOrient, maxCrossed, Within}
+use Rattle.geometry.specs.Lifting.{turned}
 use Rattle.geometry.proofs.Vectors.{within-as, within-plus, within-scaled, within-cross, at-most-dot, products-fit}
 use Rattle.geometry.proofs.sphere.circumsphere.Statement.{statement}
 use Rattle.geometry.proofs.sphere.circumsphere.Tie as tie
@@ -15,7 +16,7 @@ dot-requires : tie.Need-dot-requires
 dot-requires c κs = let s = c .before .before in products-fit tt tt tt (s .pre .0 .normal-in) (s .pre .1 .vector-in)
 
 -- the orientation, and whether it is 0
-held : (c : tie.After-dot) → Holds 48000000000 (dotOf (c .before .before .before .args .pencil .normal) (c .before .before .before .args .t .vector)) (bits (c .dot .result))
+held : (c : tie.After-dot) → Holds maxOrient (dotOf (c .before .before .before .args .pencil .normal) (c .before .before .before .args .t .vector)) (bits (c .dot .result))
 held c = let s = c .before .before .before in returned tt (c .dot .ensures) (at-most-dot (s .pre .0 .normal-in) (s .pre .1 .vector-in))
 
 tested : (c : tie.After-dot) {b : Bool} → equal (c .dot .result) (pos 0) ≡ b → equal (dotOf (c .before .before .before .args .pencil .normal) (c .before .before .before .args .t .vector)) (pos 0) ≡ b
@@ -30,7 +31,7 @@ returns c =
 cross-requires : tie.Need-cross-requires
 cross-requires c κs = let s = c .before .before .before .before .before .before in products-fit tt tt tt (s .pre .0 .weighted-in) (s .pre .1 .vector-in)
 
-crossed : (c : tie.After-cross) → Within 192000000000000 (c .cross .result)
+crossed : (c : tie.After-cross) → Within maxCrossed (c .cross .result)
 crossed c = let s = c .before .before .before .before .before .before .before in within-as (c .cross .ensures) (within-cross (s .pre .0 .weighted-in) (s .pre .1 .vector-in))
 
 scaled-sum-requires : tie.Need-scaled-sum-requires

@@ -1,6 +1,7 @@
 -- `geometry::sphere::lift` meets its contract.
 use mathlib.Core.Path.{_∙_, ap}
-use Rattle.geometry.specs.Vectors.{squareOf, Within}
+use Rattle.geometry.specs.Vectors.{squareOf}
+use Rattle.geometry.specs.Bounds.{maxDifference, Within}
 use Rattle.integers.proofs.Bounds.{returned}
 use Rattle.geometry.proofs.Vectors.{within-difference, within-as, at-most-dot, products-fit}
 use Rattle.geometry.proofs.sphere.lift.Statement.{statement}
@@ -9,7 +10,7 @@ use Rattle.geometry.proofs.sphere.lift.Tie as tie
 difference-requires : tie.Need-difference-requires
 difference-requires c κs = (c .pre .1, c .pre .0)
 
-inside : (c : tie.After-difference) → Within 2000 (c .difference .result)
+inside : (c : tie.After-difference) → Within maxDifference (c .difference .result)
 inside c = within-as (c .difference .ensures) (within-difference (c .before .pre .1) (c .before .pre .0))
 
 dot-requires : tie.Need-dot-requires

@@ -2,7 +2,7 @@
 use mathlib.Core.Path.{_≡_, sym, _∙_, ap}
 use lib.IntN.{ℤ, pos, _-ℤ_, _*ℤ_}
 use lib.Signed.{ltZ}
-use Rattle.geometry.specs.Spheres.{powerOf}
+use Rattle.geometry.specs.Lifting.{powerOf}
 use Rattle.integers.specs.Order.{equal}
 use Rattle.integers.proofs.Bounds.{Holds, bits, given, stored, returned, fits, _*!_, _-!_}
 use Rattle.integers.proofs.Order.{zero-bits, other-bits}

@@ -1,17 +1,18 @@
 -- `geometry::sphere::scaled_sum` meets its contract.
 use lib.IntN.{_+ℤ_, _*ℤ_}
+use Rattle.geometry.specs.Bounds.{maxCentre}
 use Rattle.integers.proofs.Bounds.{Holds, bits, given, stored, fits, _*!_, _+!_}
 use Rattle.geometry.proofs.sphere.scaled_sum.Statement.{statement}
 use Rattle.geometry.proofs.sphere.scaled_sum.Tie as tie
 
 module _ (s : tie.Start) where
-  held-x : Holds 288000000000000 (s .args .a .x +ℤ s .args .k *ℤ s .args .b .x) (bits (s .args .a .x) +ℤ bits (bits (s .args .k) *ℤ bits (s .args .b .x)))
+  held-x : Holds maxCentre (s .args .a .x +ℤ s .args .k *ℤ s .args .b .x) (bits (s .args .a .x) +ℤ bits (bits (s .args .k) *ℤ bits (s .args .b .x)))
   held-x = given tt (s .pre .0 .in-x) +! stored tt (given tt (s .pre .1) *! given tt (s .pre .2 .in-x))
 
-  held-y : Holds 288000000000000 (s .args .a .y +ℤ s .args .k *ℤ s .args .b .y) (bits (s .args .a .y) +ℤ bits (bits (s .args .k) *ℤ bits (s .args .b .y)))
+  held-y : Holds maxCentre (s .args .a .y +ℤ s .args .k *ℤ s .args .b .y) (bits (s .args .a .y) +ℤ bits (bits (s .args .k) *ℤ bits (s .args .b .y)))
   held-y = given tt (s .pre .0 .in-y) +! stored tt (given tt (s .pre .1) *! given tt (s .pre .2 .in-y))
 
-  held-z : Holds 288000000000000 (s .args .a .z +ℤ s .args .k *ℤ s .args .b .z) (bits (s .args .a .z) +ℤ bits (bits (s .args .k) *ℤ bits (s .args .b .z)))
+  held-z : Holds maxCentre (s .args .a .z +ℤ s .args .k *ℤ s .args .b .z) (bits (s .args .a .z) +ℤ bits (bits (s .args .k) *ℤ bits (s .args .b .z)))
   held-z = given tt (s .pre .0 .in-z) +! stored tt (given tt (s .pre .1) *! given tt (s .pre .2 .in-z))
 
 mul-t10 : tie.Need-mul-t10
