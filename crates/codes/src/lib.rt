@@ -1,4 +1,4 @@
-// The error codes of document 01, "Who causes which number".
+// The numbers of rules 4.1 to 4.17, by who causes them.
 
 // The writer of the file.
 pub const LENGTH: u32 = 1;

@@ -20,7 +20,7 @@ use Rattle.faces.proofs.Triples.{left1, left3, next3, flat-triples, left-length
 use Rattle.terms.specs.Limits.{maxVertices, maxTriples}
 use Rattle.terms.specs.Entries.{triple, entryAt, vertexA, vertexC}
 use Rattle.jobs.specs.Job.{sameEdge, hangs}
-use Rattle.hinges.specs.Hinges.{innersOn, innersOf, beneath}
+use Rattle.hinges.specs.Hinges.{innersOn, innersOf, beneath, maxPairs}
 
 -- a candidate s that hangs on t; one whose edge from first to last vertex is (i, j)
 abbrev hanging : List ℕ → List ℕ → List (List ℕ)
@@ -100,7 +100,7 @@ module _ (n : ℕ) (P : ℕ → ℕ → ℕ → Bool) where
   next-hung a b c h e = next3 n (hung P) a b c h ∙ ap (λ (t : Bool). cond t (beneath P a b ++ beneath P b c) [] ++ left3 n (hung P) a b (c + 1)) (sym e)
 
   -- how many there can be
-  pub pairs-bound : n ≤ maxVertices → length (left1 n (hung P) 0) ≤ 1735888896
+  pub pairs-bound : n ≤ maxVertices → length (left1 n (hung P) 0) ≤ maxPairs
   pairs-bound h =
       let cs = triplesOf n P in
       let few : length cs ≤ maxTriples = triples-bound n P h in

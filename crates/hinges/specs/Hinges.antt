@@ -1,7 +1,7 @@
--- Hinges: pairs of candidates that share an edge, the inner hanging on the outer. Definitions only.
+-- Hinges: pairs of candidates that share an edge, the inner hanging on the outer (rule 2.9). Definitions only.
 use mathlib.Core.Bool.{Bool}
 use mathlib.Core.List.{List}
-use Prim.Native.Nat.{ℕ, _+_, _≤_, _<_}
+use Prim.Native.Nat.{ℕ, _+_, _*_, _≤_, _<_}
 use lib.Dec.{eqb}
 use lib.ListN.{length, getD}
 use Rattle.terms.specs.Limits.{maxVertices, maxTriples}
@@ -10,11 +10,15 @@ use Rattle.jobs.specs.Job.{sameEdge, hangs}
 use Rattle.lists.specs.Lists.{over, when}
 use Rattle.blocks.specs.Blocks.{ByFirst}
 
+-- no more pairs of candidates
+abbrev pub maxPairs : ℕ
+maxPairs = maxTriples * maxTriples
+
 -- the candidates that hang on candidate o, in ascending order
 abbrev pub innersOn : List (List ℕ) → ℕ → List ℕ
 innersOn candidates o = over 0 (length candidates) (λ i. when (hangs (entryAt candidates i) (entryAt candidates o)) i)
 
--- "one for each hanging pair": the inner of each, in the order of their outers
+-- an inner for each hanging pair, in the order of their outers (rule 2.13)
 abbrev pub innersOf : List (List ℕ) → List ℕ
 innersOf candidates = over 0 (length candidates) (innersOn candidates)
 

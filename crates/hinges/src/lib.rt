@@ -1,4 +1,4 @@
-// Hinges: pairs of candidates that share an edge, the inner hanging on the outer, as document 01 says.
+// Hinges: pairs of candidates that share an edge, the inner hanging on the outer (rule 2.9).
 ghost use mathlib.Core.Path.{_≡_};
 ghost use Prim.Native.Nat.{_<_, _≤_};
 ghost use lib.ListN.{length};
@@ -8,7 +8,7 @@ ghost use Rattle.faces.specs.Masks.{has};
 ghost use Rattle.hinges.specs.Hinges.{innersOf, beneath};
 
 // How many triangles of the set have (i, j) as the edge from their first to their last vertex.
-fn count_beneath(masks: &[u64; 4096], i: usize, j: usize) -> usize
+fn count_beneath(masks: &[u64; faces::PAIRS], i: usize, j: usize) -> usize
     requires { ⌜ (i < maxVertices) × (j < maxVertices) ⌝ }
     ensures { λ r. ⌜ r ≡ length (beneath (has (now (masks .entry))) i j) ⌝ }
 {
@@ -22,7 +22,7 @@ fn count_beneath(masks: &[u64; 4096], i: usize, j: usize) -> usize
 }
 
 // How many hanging pairs the triangles of the set on the first n vertices make: on (a, b, c) hang those beneath (a, b) and beneath (b, c).
-pub fn count_rows(masks: &[u64; 4096], n: usize) -> usize
+pub fn count_rows(masks: &[u64; faces::PAIRS], n: usize) -> usize
     requires { ⌜ n ≤ maxVertices ⌝ }
     ensures { λ r. ⌜ r ≡ length (innersOf (triplesOf n (has (now (masks .entry))))) ⌝ }
 {

@@ -1,4 +1,4 @@
--- How many candidates there can be: strictly ascending triples below n are at most n (n − 1) (n − 2) / 6, so below 64 at most 41,664. Assumes nothing.
+-- How many candidates there can be: strictly ascending triples below n are at most n (n − 1) (n − 2) / 6, so at most `maxTriples`. Assumes nothing.
 use mathlib.Core.Path.{_≡_, refl, ap}
 use mathlib.Core.List.{List}
 use Prim.Native.Nat.{ℕ, zero, suc, _+_, _-_, _≤_, _<_}
@@ -85,7 +85,7 @@ module _ (n : ℕ) where
         go zero e = omega arith
         go (suc m) e = omega (arith, left-below m (omega arith))
 
-    -- where 15 is not due for an n of at most 64, candidate numbers fit 16 bits
+    -- where 14 and 15 are not due, candidate numbers fit 16 bits
     pub candidates-bounded : n ≤ maxVertices → length candidates ≤ maxTriples
     unfolding choose2 choose3
     candidates-bounded h = le-trans at-most-choose3 (choose3-up n maxVertices h)

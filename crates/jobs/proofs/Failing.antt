@@ -1,109 +1,181 @@
--- Where a test of a direct job fails: an entry that breaks its rule. Assumes nothing.
-use mathlib.Core.Path.{_≡_, refl, sym, _∙_}
-use mathlib.Core.Bool.{Bool, true, false}
-use mathlib.Core.List.{List}
+-- Each number's test fails exactly where the number is due. Assumes nothing.
+use mathlib.Core.Path.{_≡_, refl, sym, ap, _∙_, subst}
+use mathlib.Core.Bool.{Bool, true, false, cond}
+use mathlib.Core.List.{List, List·Memᴰ, List·Memᴰ·head, List·Memᴰ·tail, List·Memᴰ·not-nil, List·Memᴰ·cases-cons}
 use mathlib.Core.Logic.{_⊎_, inl, inr, ⊎-elim}
 use Prim.Native.Nat.{ℕ, zero, suc, _+_, _-_, _<_}
 use native.Mathlib.Omega.{arith}
 use lib.ListN.{length, getD}
 use lib.Dec.{eqb, leb}
-use borrow.Author.Tests.{leb-false}
+use borrow.Author.Tests.{leb-false, lt-leb, eqb-true}
 use Rattle.lists.specs.Lists.{every, everyFrom, both, either}
-use Rattle.lists.proofs.Choice.{Truth, truth, holds, fails, yes, true-not-false, either-right}
-use Rattle.terms.specs.Limits.{maxWeight}
+use Rattle.lists.proofs.Choice.{Truth, truth, holds, fails, yes, no, true-not-false, not-true-false, either-right}
+use Rattle.lists.proofs.Bools.{both-no}
+use Rattle.lists.proofs.Ranges.{every-at}
+use Rattle.terms.specs.Limits.{minVertices, maxVertices, maxWeight}
 use Rattle.terms.specs.Entries.{entryAt, outer, inner, vertexA, vertexB, vertexC, rowWeight}
-use Rattle.jobs.specs.Job.{ascends, before, candidateFits, candidatesFit, namesPair, rowBefore, rowFits, rowsFit, weightsFit, rowWeightsFit}
-use Rattle.jobs.proofs.Order.{Before, RowBefore, true-before, true-row-before}
-use Rattle.jobs.proofs.Lists.{Ordered, Named, Candidates, Rows, Weights, true-ascends, true-names}
+use Rattle.jobs.specs.Job.{countFits, enough, ascends, before, candidateFits, candidatesFit, namesPair, rowBefore, rowFits, rowsFit, weightsFit, rowWeightsFit}
+use Rattle.jobs.specs.Due.{order, Due, few-vertices, many-vertices, few-triangles, little-work, few-weights, no-triangle, candidate-late, no-pair, row-late, heavy, heavy-row}
 
--- a number below a bound at which something is so
-pub record Some (bound : ℕ) (P : ℕ → Type 0) : Type 0 where
+-- a number below a bound at which a test fails
+record Some (bound : ℕ) (P : ℕ → Bool) : Type 0 where
   pub at : ℕ
   pub below : at < bound
-  pub is : P at
+  pub is : P at ≡ false
 
--- a test of every number that fails, fails at one
-every-from-fails : (P : ℕ → Bool) (lo k : ℕ) → everyFrom P lo k ≡ false → Some (lo + k) (λ i. P i ≡ false)
+-- a test of every number that fails, fails at one, and the other way round
+every-from-fails : (P : ℕ → Bool) (lo k : ℕ) → everyFrom P lo k ≡ false → Some (lo + k) P
 unfolding everyFrom
 every-from-fails P lo zero e = absurd (true-not-false refl e)
 every-from-fails P lo (suc k) e = go (truth (P lo)) (λ p. every-from-fails P (suc lo) k (sym (yes (everyFrom P (suc lo) k) false p) ∙ e))
   where
-    go : Truth (P lo) → (P lo ≡ true → Some (suc lo + k) (λ i. P i ≡ false)) → Some (lo + suc k) (λ i. P i ≡ false)
+    go : Truth (P lo) → (P lo ≡ true → Some (suc lo + k) P) → Some (lo + suc k) P
     go (holds p) later = let s = later p in record { at = s .at; below = omega (arith, s .below); is = s .is }
     go (fails p) later = record { at = lo; below = omega arith; is = p }
 
-every-fails : (m : ℕ) (P : ℕ → Bool) → every 0 m P ≡ false → Some m (λ i. P i ≡ false)
+every-fails : (m : ℕ) (P : ℕ → Bool) → every 0 m P ≡ false → Some m P
 every-fails m P e = let s = every-from-fails P 0 (m - 0) e in record { at = s .at; below = omega (arith, s .below); is = s .is }
 
--- 15 is due: a candidate that isn't a < b < c < n, or isn't after the one before it
-abbrev pub BadCandidate : ℕ → List (List ℕ) → ℕ → Type 0
-BadCandidate n candidates i = (Ordered n (entryAt candidates i) → ⊥) ⊎ ((0 < i) × (Before (entryAt candidates (i - 1)) (entryAt candidates i) → ⊥))
+fails-every : (m : ℕ) (P : ℕ → Bool) (i : ℕ) → i < m → P i ≡ false → every 0 m P ≡ false
+fails-every m P i h e = not-true-false _ (λ t. true-not-false (every-at 0 m P t i (omega arith) h) e)
 
--- 16 is due: a row that names no pair of candidates, inner hanging on outer, or isn't after the one before it
-abbrev pub BadRow : List (List ℕ) → List (List ℕ) → ℕ → Type 0
-BadRow candidates rows i = (Named candidates (entryAt rows i) → ⊥) ⊎ ((0 < i) × (RowBefore (entryAt rows (i - 1)) (entryAt rows i) → ⊥))
+both-fails : (a b : Bool) → both a b ≡ false → (a ≡ false) ⊎ (b ≡ false)
+both-fails false b e = inl refl
+both-fails true b e = inr e
 
--- an entry's own test fails, or it is not the first and its order test fails
+-- ---- an entry's own test fails, or it is not the first and its order test fails
 split : (i : ℕ) (own after : Bool) → both own (either (eqb i 0) after) ≡ false → (own ≡ false) ⊎ ((0 < i) × (after ≡ false))
 split i false after e = inl refl
 split zero true after e = absurd (true-not-false refl e)
 split (suc i) true true e = absurd (true-not-false (either-right (eqb (suc i) 0) true refl) e)
 split (suc i) true false e = inr (omega arith, refl)
 
-module _ (n : ℕ) (candidates : List (List ℕ)) where
-  pub candidates-false : candidatesFit n candidates ≡ false → Some (length candidates) (BadCandidate n candidates)
+late : (i : ℕ) (own after : Bool) → after ≡ false → both own (either (eqb (i + 1) 0) after) ≡ false
+late i own after e = both-no own (go (eqb (i + 1) 0) refl)
+  where
+    go : (b : Bool) → eqb (i + 1) 0 ≡ b → either b after ≡ false
+    go true q = absurd (omega (arith, eqb-true (i + 1) 0 q))
+    go false q = e
+
+-- ---- each number's place in the order
+pub in-14 : List·Memᴰ 14 order
+in-14 = List·Memᴰ·head refl
+
+pub in-13 : List·Memᴰ 13 order
+in-13 = List·Memᴰ·tail (List·Memᴰ·head refl)
+
+pub in-15 : List·Memᴰ 15 order
+in-15 = List·Memᴰ·tail (List·Memᴰ·tail (List·Memᴰ·head refl))
+
+pub in-16 : List·Memᴰ 16 order
+in-16 = List·Memᴰ·tail (List·Memᴰ·tail (List·Memᴰ·tail (List·Memᴰ·head refl)))
+
+pub in-17 : List·Memᴰ 17 order
+in-17 = List·Memᴰ·tail (List·Memᴰ·tail (List·Memᴰ·tail (List·Memᴰ·tail (List·Memᴰ·head refl))))
+
+module _ (n : ℕ) (candidates : List (List ℕ)) (weights : List ℕ) (rows : List (List ℕ)) (tp wp : ℕ) where
+  abbrev pub placesFit : Bool
+  placesFit = both (enough (n - 2) tp) (both (enough (length candidates) wp) (enough (length candidates) (length weights)))
+
+  abbrev pub weightTests : Bool
+  weightTests = both (weightsFit weights (length candidates)) (rowWeightsFit rows)
+
+  -- each number's test
+  abbrev pub test : ℕ → Bool
+  test k =
+      cond (eqb k 14) (countFits n)
+      (cond (eqb k 13) placesFit
+      (cond (eqb k 15) (candidatesFit n candidates)
+      (cond (eqb k 16) (rowsFit candidates rows)
+      (cond (eqb k 17) weightTests true))))
+
+  abbrev D : ℕ → Type 0
+  D k = Due n candidates weights rows tp wp k
+
+  abbrev own : ℕ → Bool
+  own i = ascends n (vertexA (entryAt candidates i)) (vertexB (entryAt candidates i)) (vertexC (entryAt candidates i))
+
+  abbrev pair : ℕ → Bool
+  pair i = namesPair candidates (outer (entryAt rows i)) (inner (entryAt rows i))
+
+  -- ---- what is due fails
+  late-candidate : (i : ℕ) → before (entryAt candidates i) (entryAt candidates (i + 1)) ≡ false → candidateFits n candidates (i + 1) ≡ false
   unfolding candidateFits
-  candidates-false e =
+  late-candidate i e = late i (own (i + 1)) _ (ap (λ j. before (entryAt candidates j) (entryAt candidates (i + 1))) (omega arith) ∙ e)
+
+  late-row : (i : ℕ) → rowBefore (entryAt rows i) (entryAt rows (i + 1)) ≡ false → rowFits candidates rows (i + 1) ≡ false
+  unfolding rowFits
+  late-row i e = late i (pair (i + 1)) _ (ap (λ j. rowBefore (entryAt rows j) (entryAt rows (i + 1))) (omega arith) ∙ e)
+
+  pub due-fails : {k : ℕ} → D k → test k ≡ false
+  unfolding candidateFits rowFits
+  due-fails (few-vertices h) = no _ _ (lt-leb minVertices n h)
+  due-fails (many-vertices h) = both-no (leb minVertices n) (lt-leb n maxVertices h)
+  due-fails (few-triangles h) = no _ _ (lt-leb (n - 2) tp h)
+  due-fails (little-work h) = both-no (enough (n - 2) tp) (no _ _ (lt-leb (length candidates) wp h))
+  due-fails (few-weights h) = both-no (enough (n - 2) tp) (both-no (enough (length candidates) wp) (lt-leb (length candidates) (length weights) h))
+  due-fails (no-triangle i h e) = fails-every (length candidates) (candidateFits n candidates) i h (no _ _ e)
+  due-fails (candidate-late i h e) = fails-every (length candidates) (candidateFits n candidates) (i + 1) h (late-candidate i e)
+  due-fails (no-pair i h e) = fails-every (length rows) (rowFits candidates rows) i h (no _ _ e)
+  due-fails (row-late i h e) = fails-every (length rows) (rowFits candidates rows) (i + 1) h (late-row i e)
+  due-fails (heavy i h e) = no _ _ (fails-every (length candidates) (λ i. leb (getD weights i 0) maxWeight) i h (lt-leb _ _ e))
+  due-fails (heavy-row i h e) = both-no (weightsFit weights (length candidates)) (fails-every (length rows) (λ i. leb (rowWeight (entryAt rows i)) maxWeight) i h (lt-leb _ _ e))
+
+  pub due-listed : {k : ℕ} → D k → List·Memᴰ k order
+  due-listed (few-vertices h) = in-14
+  due-listed (many-vertices h) = in-14
+  due-listed (few-triangles h) = in-13
+  due-listed (little-work h) = in-13
+  due-listed (few-weights h) = in-13
+  due-listed (no-triangle i h e) = in-15
+  due-listed (candidate-late i h e) = in-15
+  due-listed (no-pair i h e) = in-16
+  due-listed (row-late i h e) = in-16
+  due-listed (heavy i h e) = in-17
+  due-listed (heavy-row i h e) = in-17
+
+  -- ---- what fails is due
+  due-14 : countFits n ≡ false → D 14
+  due-14 e = ⊎-elim (λ f. few-vertices (leb-false minVertices n f)) (λ f. many-vertices (leb-false n maxVertices f)) (both-fails (leb minVertices n) (leb n maxVertices) e)
+
+  due-13 : placesFit ≡ false → D 13
+  due-13 e =
+      ⊎-elim (λ f. few-triangles (leb-false _ _ f))
+      (λ g. ⊎-elim (λ f. little-work (leb-false _ _ f)) (λ f. few-weights (leb-false _ _ f)) (both-fails (enough (length candidates) wp) _ g))
+      (both-fails (enough (n - 2) tp) _ e)
+
+  due-15 : candidatesFit n candidates ≡ false → D 15
+  unfolding candidateFits
+  due-15 e =
       let s = every-fails (length candidates) (candidateFits n candidates) e in
       let i = s .at in
-      let t = entryAt candidates i in
-      record {
-        at = i;
-        below = s .below;
-        is =
-            ⊎-elim (λ f. inl (λ o. true-not-false (true-ascends n t o) f))
-            (λ f. inr (f .0, λ o. true-not-false (true-before _ _ o) (f .1)))
-            (split i (ascends n (vertexA t) (vertexB t) (vertexC t)) (before (entryAt candidates (i - 1)) t) (s .is));
-      }
+      ⊎-elim (λ f. no-triangle i (s .below) f)
+      (λ f. candidate-late (i - 1) (omega (arith, s .below, f .0)) (ap (λ j. before (entryAt candidates (i - 1)) (entryAt candidates j)) (omega (arith, f .0)) ∙ f .1))
+      (split i (own i) (before (entryAt candidates (i - 1)) (entryAt candidates i)) (s .is))
 
-  pub bad-candidate : Candidates n candidates → Some (length candidates) (BadCandidate n candidates) → ⊥
-  bad-candidate c s = ⊎-elim (λ f. f (c .ordered (s .at) (s .below))) (λ f. f .1 (c .ascending (s .at - 1) (s .at) (omega (arith, f .0)) (s .below))) (s .is)
-
-module _ (candidates rows : List (List ℕ)) where
-  pub rows-false : rowsFit candidates rows ≡ false → Some (length rows) (BadRow candidates rows)
+  due-16 : rowsFit candidates rows ≡ false → D 16
   unfolding rowFits
-  rows-false e =
+  due-16 e =
       let s = every-fails (length rows) (rowFits candidates rows) e in
       let i = s .at in
-      let r = entryAt rows i in
-      record {
-        at = i;
-        below = s .below;
-        is =
-            ⊎-elim (λ f. inl (λ o. true-not-false (true-names candidates r o) f))
-            (λ f. inr (f .0, λ o. true-not-false (true-row-before _ _ o) (f .1)))
-            (split i (namesPair candidates (outer r) (inner r)) (rowBefore (entryAt rows (i - 1)) r) (s .is));
-      }
+      ⊎-elim (λ f. no-pair i (s .below) f)
+      (λ f. row-late (i - 1) (omega (arith, s .below, f .0)) (ap (λ j. rowBefore (entryAt rows (i - 1)) (entryAt rows j)) (omega (arith, f .0)) ∙ f .1))
+      (split i (pair i) (rowBefore (entryAt rows (i - 1)) (entryAt rows i)) (s .is))
 
-  pub bad-row : Rows candidates rows → Some (length rows) (BadRow candidates rows) → ⊥
-  bad-row r s = ⊎-elim (λ f. f (r .named (s .at) (s .below))) (λ f. f .1 (r .ascending (s .at - 1) (s .at) (omega (arith, f .0)) (s .below))) (s .is)
-
--- 17 is due: a weight of a candidate or of a row over 2,000,000,000
-abbrev pub BadWeight : List (List ℕ) → List ℕ → List (List ℕ) → Type 0
-BadWeight candidates weights rows = Some (length candidates) (λ i. maxWeight < getD weights i 0) ⊎ Some (length rows) (λ i. maxWeight < rowWeight (entryAt rows i))
-
-both-fails : (a b : Bool) → both a b ≡ false → (a ≡ false) ⊎ (b ≡ false)
-both-fails false b e = inl refl
-both-fails true b e = inr e
-
-module _ (candidates : List (List ℕ)) (weights : List ℕ) (rows : List (List ℕ)) where
-  pub weights-false : both (weightsFit weights (length candidates)) (rowWeightsFit rows) ≡ false → BadWeight candidates weights rows
-  weights-false e =
-      ⊎-elim (λ f. inl (let s = every-fails (length candidates) (λ i. leb (getD weights i 0) maxWeight) f in record { at = s .at; below = s .below; is = leb-false _ _ (s .is) }))
-      (λ f. inr (let s = every-fails (length rows) (λ i. leb (rowWeight (entryAt rows i)) maxWeight) f in record { at = s .at; below = s .below; is = leb-false _ _ (s .is) }))
+  due-17 : weightTests ≡ false → D 17
+  due-17 e =
+      ⊎-elim (λ f. let s = every-fails (length candidates) (λ i. leb (getD weights i 0) maxWeight) f in heavy (s .at) (s .below) (leb-false _ _ (s .is)))
+      (λ f. let s = every-fails (length rows) (λ i. leb (rowWeight (entryAt rows i)) maxWeight) f in heavy-row (s .at) (s .below) (leb-false _ _ (s .is)))
       (both-fails (weightsFit weights (length candidates)) (rowWeightsFit rows) e)
 
-  pub bad-weight : Weights candidates weights rows → BadWeight candidates weights rows → ⊥
-  bad-weight w b =
-      ⊎-elim (λ s. let a = w .own (s .at) (s .below) in let o = s .is in omega arith)
-      (λ s. let a = w .of-row (s .at) (s .below) in let o = s .is in omega arith) b
+  pub fails-due : (k : ℕ) → List·Memᴰ k order → test k ≡ false → D k
+  fails-due k m f =
+      ⊎-elim (λ q. at q due-14)
+      (λ m. ⊎-elim (λ q. at q due-13)
+      (λ m. ⊎-elim (λ q. at q due-15)
+      (λ m. ⊎-elim (λ q. at q due-16)
+      (λ m. ⊎-elim (λ q. at q due-17) (λ m. absurd (List·Memᴰ·not-nil m))
+      (List·Memᴰ·cases-cons m)) (List·Memᴰ·cases-cons m)) (List·Memᴰ·cases-cons m)) (List·Memᴰ·cases-cons m)) (List·Memᴰ·cases-cons m)
+    where
+      at : {j : ℕ} → k ≡ j → (test j ≡ false → D j) → D k
+      at q due = subst D (sym q) (due (sym (ap test q) ∙ f))

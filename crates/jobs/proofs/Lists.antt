@@ -1,20 +1,20 @@
--- What each test of a direct job says of its lists: where it holds, a fact of every entry; where it fails, an entry that breaks it. Assumes nothing.
-use mathlib.Core.Path.{_≡_, refl}
+-- What each test of a direct job says of its lists where it holds. Assumes nothing.
+use mathlib.Core.Path.{_≡_}
 use mathlib.Core.Bool.{Bool, true}
 use mathlib.Core.List.{List}
 use mathlib.Core.Logic.{⊎-elim}
-use Prim.Native.Nat.{ℕ, zero, suc, _-_, _≤_, _<_}
+use Prim.Native.Nat.{ℕ, _-_, _≤_, _<_}
 use native.Mathlib.Omega.{arith}
 use lib.ListN.{length, getD}
 use lib.Dec.{eqb, ltb, leb}
-use borrow.Author.Tests.{ltb-true, lt-ltb, leb-true, le-leb, eqb-true}
+use borrow.Author.Tests.{ltb-true, lt-ltb, leb-true, eqb-true}
 use Rattle.lists.specs.Lists.{both, either}
-use Rattle.lists.proofs.Choice.{both-left, both-right, both-true, either-right, either-cases}
-use Rattle.lists.proofs.Ranges.{every-at, every-all}
+use Rattle.lists.proofs.Choice.{both-left, both-right, both-true, either-cases}
+use Rattle.lists.proofs.Ranges.{every-at}
 use Rattle.terms.specs.Limits.{maxWeight}
 use Rattle.terms.specs.Entries.{entryAt, vertexA, vertexB, vertexC, outer, inner, rowWeight}
 use Rattle.jobs.specs.Job.{ascends, before, candidateFits, candidatesFit, hangs, namesPair, rowBefore, rowFits, rowsFit, weightsFit, rowWeightsFit}
-use Rattle.jobs.proofs.Order.{Before, RowBefore, Hangs, before-true, true-before, before-trans, row-before-true, true-row-before, row-before-trans, hangs-true, true-hangs, in-order}
+use Rattle.jobs.proofs.Order.{Before, RowBefore, Hangs, before-true, before-trans, row-before-true, row-before-trans, hangs-true, true-hangs, in-order}
 
 -- a < b < c < n
 pub record Ordered (n : ℕ) (t : List ℕ) : Type 0 where
@@ -38,18 +38,14 @@ pub record Rows (candidates rows : List (List ℕ)) : Type 0 where
   pub named : (i : ℕ) → i < length rows → Named candidates (entryAt rows i)
   pub ascending : (i j : ℕ) → i < j → j < length rows → RowBefore (entryAt rows i) (entryAt rows j)
 
--- every weight of a candidate and of a row is at most 2,000,000,000
+-- no weight of a candidate or of a row is over the limit
 pub record Weights (candidates : List (List ℕ)) (weights : List ℕ) (rows : List (List ℕ)) : Type 0 where
   pub own : (i : ℕ) → i < length candidates → getD weights i 0 ≤ maxWeight
   pub of-row : (i : ℕ) → i < length rows → rowWeight (entryAt rows i) ≤ maxWeight
 
--- ---- a test of each entry and of its place after the one before it, for candidates and rows alike
+-- ---- one entry
 neighbour : (i : ℕ) (rest : Bool) → either (eqb i 0) rest ≡ true → 0 < i → rest ≡ true
 neighbour i rest e h = ⊎-elim (λ z. absurd (omega (arith, eqb-true i 0 z))) (λ r. r) (either-cases (eqb i 0) rest e)
-
-first-or : (i : ℕ) (rest : Bool) → (0 < i → rest ≡ true) → either (eqb i 0) rest ≡ true
-first-or zero rest h = refl
-first-or (suc i) rest h = either-right (eqb (suc i) 0) rest (h (omega arith))
 
 module _ (n : ℕ) (t : List ℕ) where
   pub ascends-true : ascends n (vertexA t) (vertexB t) (vertexC t) ≡ true → Ordered n t
@@ -84,7 +80,7 @@ module _ (candidates : List (List ℕ)) (row : List ℕ) where
   unfolding namesPair
   true-names m = both-true (lt-ltb _ _ (m .outer-is)) (both-true (lt-ltb _ _ (m .inner-is)) (true-hangs _ _ (m .hanging)))
 
--- ---- where the tests hold
+-- ---- over the whole lists
 module _ (n : ℕ) (candidates : List (List ℕ)) where
   abbrev own : ℕ → Bool
   own i = ascends n (vertexA (entryAt candidates i)) (vertexB (entryAt candidates i)) (vertexC (entryAt candidates i))
@@ -101,12 +97,6 @@ module _ (n : ℕ) (candidates : List (List ℕ)) where
         ascending = in-order (λ i j. Before (entryAt candidates i) (entryAt candidates j)) (λ i j k. before-trans) (length candidates)
             (λ i p h. before-true _ _ (neighbour i (after i) (both-right (own i) (either (eqb i 0) (after i)) (at i (omega arith) h)) p));
       }
-
-  pub true-candidates : Candidates n candidates → candidatesFit n candidates ≡ true
-  unfolding candidateFits
-  true-candidates c =
-      every-all 0 (length candidates) (candidateFits n candidates)
-      (λ i l h. both-true (true-ascends n _ (c .ordered i h)) (first-or i (after i) (λ p. true-before _ _ (c .ascending (i - 1) i (omega arith) h))))
 
 module _ (candidates rows : List (List ℕ)) where
   abbrev pair : ℕ → Bool
@@ -125,20 +115,9 @@ module _ (candidates rows : List (List ℕ)) where
             (λ i p h. row-before-true _ _ (neighbour i (row-after i) (both-right (pair i) (either (eqb i 0) (row-after i)) (at i (omega arith) h)) p));
       }
 
-  pub true-rows : Rows candidates rows → rowsFit candidates rows ≡ true
-  unfolding rowFits
-  true-rows r =
-      every-all 0 (length rows) (rowFits candidates rows)
-      (λ i l h. both-true (true-names candidates _ (r .named i h)) (first-or i (row-after i) (λ p. true-row-before _ _ (r .ascending (i - 1) i (omega arith) h))))
-
 module _ (candidates : List (List ℕ)) (weights : List ℕ) (rows : List (List ℕ)) where
   pub weights-true : both (weightsFit weights (length candidates)) (rowWeightsFit rows) ≡ true → Weights candidates weights rows
   weights-true e = record {
     own = λ i h. leb-true _ _ (every-at 0 (length candidates) (λ i. leb (getD weights i 0) maxWeight) (both-left (weightsFit weights (length candidates)) (rowWeightsFit rows) e) i (omega arith) h);
     of-row = λ i h. leb-true _ _ (every-at 0 (length rows) (λ i. leb (rowWeight (entryAt rows i)) maxWeight) (both-right (weightsFit weights (length candidates)) (rowWeightsFit rows) e) i (omega arith) h);
   }
-
-  pub true-weights : Weights candidates weights rows → both (weightsFit weights (length candidates)) (rowWeightsFit rows) ≡ true
-  true-weights w =
-      both-true (every-all 0 (length candidates) (λ i. leb (getD weights i 0) maxWeight) (λ i l h. le-leb _ _ (w .own i h)))
-      (every-all 0 (length rows) (λ i. leb (rowWeight (entryAt rows i)) maxWeight) (λ i l h. le-leb _ _ (w .of-row i h)))

@@ -95,11 +95,6 @@ before-trans (by-c e d h) (by-a k) = by-a (omega arith)
 before-trans (by-c e d h) (by-b f k) = by-b (e ∙ f) (omega arith)
 before-trans (by-c e d h) (by-c f g k) = by-c (e ∙ f) (d ∙ g) (omega arith)
 
-pub before-itself : {t : List ℕ} → Before t t → ⊥
-before-itself (by-a h) = omega arith
-before-itself (by-b e h) = omega arith
-before-itself (by-c e d h) = omega arith
-
 pub row-before-trans : {r s t : List ℕ} → RowBefore r s → RowBefore s t → RowBefore r t
 row-before-trans (by-outer h) (by-outer k) = by-outer (omega arith)
 row-before-trans (by-outer h) (by-inner e k) = by-outer (omega arith)

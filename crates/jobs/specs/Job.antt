@@ -1,5 +1,5 @@
--- The tests of a direct job: document 01, "Tilings" and "Who causes which number". Definitions only.
--- A job is n, its candidates [a, b, c], a table of weights that begins with theirs, and its rows [outer, inner, weight].
+-- The tests of a direct job (rules 4.13 to 4.17), and the number that they give. Definitions only.
+-- A job is n, its candidates [a, b, c], a table of weights that begins with theirs, and its rows [outer, inner, weight] (rule 3.1).
 use mathlib.Core.Bool.{Bool, cond}
 use mathlib.Core.List.{List}
 use Prim.Native.Nat.{ℕ, _-_}
@@ -9,15 +9,15 @@ use Rattle.lists.specs.Lists.{every, both, either}
 use Rattle.terms.specs.Limits.{minVertices, maxVertices, maxWeight}
 use Rattle.terms.specs.Entries.{entryAt, vertexA, vertexB, vertexC, outer, inner, rowWeight}
 
--- 14: "n isn't 3 to 64"
+-- n is from 3 to 64 (rule 4.14)
 abbrev pub countFits : ℕ → Bool
 countFits n = both (leb minVertices n) (leb n maxVertices)
 
--- 13: "a lent table has fewer places than needed"
+-- a lent table has the places needed (rule 4.13)
 abbrev pub enough : ℕ → ℕ → Bool
 enough needed lent = leb needed lent
 
--- 15: "a candidate isn't a < b < c < n"
+-- a < b < c < n (rule 4.15)
 unfoldable pub ascends : ℕ → ℕ → ℕ → ℕ → Bool
 ascends n a b c = both (ltb a b) (both (ltb b c) (ltb c n))
 
@@ -25,14 +25,14 @@ ascends n a b c = both (ltb a b) (both (ltb b c) (ltb c n))
 abbrev pub lexicographic : ℕ → ℕ → Bool → Bool
 lexicographic x y rest = either (ltb x y) (both (eqb x y) rest)
 
--- "ascending order of a, then b, then c": candidate s is strictly before candidate t
+-- candidate s is strictly before candidate t: by rising a, then b, then c (rule 2.4)
 unfoldable pub before : List ℕ → List ℕ → Bool
 before s t =
     lexicographic (vertexA s) (vertexA t)
     (lexicographic (vertexB s) (vertexB t)
     (ltb (vertexC s) (vertexC t)))
 
--- 15: candidate i is a < b < c < n, "or isn't strictly after the one before it"
+-- candidate i is a < b < c < n and strictly after the one before it (rule 4.15)
 unfoldable pub candidateFits : ℕ → List (List ℕ) → ℕ → Bool
 candidateFits n candidates i =
     both (ascends n (vertexA (entryAt candidates i)) (vertexB (entryAt candidates i)) (vertexC (entryAt candidates i)))
@@ -45,23 +45,23 @@ candidatesFit n candidates = every 0 (length candidates) (candidateFits n candid
 abbrev pub sameEdge : ℕ → ℕ → ℕ → ℕ → Bool
 sameEdge i j k l = both (eqb i k) (eqb j l)
 
--- "Candidate t hangs on candidate u if t's edge (a, c) is u's (a, b) or u's (b, c)"
+-- candidate t hangs on candidate u: its edge (a, c) is the edge (a, b) or (b, c) of u (rule 2.9)
 unfoldable pub hangs : List ℕ → List ℕ → Bool
 hangs t u =
     either (sameEdge (vertexA t) (vertexC t) (vertexA u) (vertexB u))
     (sameEdge (vertexA t) (vertexC t) (vertexB u) (vertexC u))
 
--- 16: "a row names no candidate, or its inner doesn't hang on its outer"
+-- o and i are numbers of candidates, and i hangs on o (rule 4.16)
 unfoldable pub namesPair : List (List ℕ) → ℕ → ℕ → Bool
 namesPair candidates o i =
     both (ltb o (length candidates))
     (both (ltb i (length candidates)) (hangs (entryAt candidates i) (entryAt candidates o)))
 
--- "Rows .. ascend by outer, then inner": row r is strictly before row s
+-- row r is strictly before row s: by rising outer, then inner (rule 2.13)
 unfoldable pub rowBefore : List ℕ → List ℕ → Bool
 rowBefore r s = lexicographic (outer r) (outer s) (ltb (inner r) (inner s))
 
--- 16: row i names a hanging pair, "or the row isn't strictly after the one before it"
+-- row i names a hanging pair and is strictly after the row before it (rule 4.16)
 unfoldable pub rowFits : List (List ℕ) → List (List ℕ) → ℕ → Bool
 rowFits candidates rows i =
     both (namesPair candidates (outer (entryAt rows i)) (inner (entryAt rows i)))
@@ -70,11 +70,11 @@ rowFits candidates rows i =
 abbrev pub rowsFit : List (List ℕ) → List (List ℕ) → Bool
 rowsFit candidates rows = every 0 (length rows) (rowFits candidates rows)
 
--- 17: "the weight of a candidate .. is over 2,000,000,000"; only the first places of the table are weights of candidates
+-- no weight of a candidate is over the limit (rule 4.17); only the first places of the table are weights of candidates
 abbrev pub weightsFit : List ℕ → ℕ → Bool
 weightsFit weights count = every 0 count (λ i. leb (getD weights i 0) maxWeight)
 
--- 17: "or of a row"
+-- nor one of a row
 abbrev pub rowWeightsFit : List (List ℕ) → Bool
 rowWeightsFit rows = every 0 (length rows) (λ i. leb (rowWeight (entryAt rows i)) maxWeight)
 
@@ -82,11 +82,11 @@ rowWeightsFit rows = every 0 (length rows) (λ i. leb (rowWeight (entryAt rows i
 abbrev pub unless : Bool → ℕ → ℕ → ℕ
 unless test number next = cond test next number
 
--- "For a direct job: 14, 13, 15, 16, 17": the first of them that is due, 0 where none is.
--- First 14 alone; then 13 for the weights, 15, 16 and 17, all that a job's lists are tested for.
+-- 14 alone, or 0
 abbrev pub countCode : ℕ → ℕ
 countCode n = unless (countFits n) 14 0
 
+-- 13 for the weights, 15, 16 and 17: all that a job's lists are tested for
 unfoldable pub listsCode : ℕ → List (List ℕ) → List ℕ → List (List ℕ) → ℕ
 listsCode n candidates weights rows =
     unless (enough (length candidates) (length weights)) 13
@@ -94,7 +94,7 @@ listsCode n candidates weights rows =
     (unless (rowsFit candidates rows) 16
     (unless (both (weightsFit weights (length candidates)) (rowWeightsFit rows)) 17 0)))
 
--- The tiler's: "13 .. (triangles n − 2; one place per candidate in the .. weight and work tables)"
+-- the number of a job and of the places lent with it, 0 where it is accepted: that it is the first number due is proved (Due.antt)
 unfoldable pub jobCode : ℕ → List (List ℕ) → List ℕ → List (List ℕ) → ℕ → ℕ → ℕ
 jobCode n candidates weights rows trianglePlaces workPlaces =
     unless (countFits n) 14

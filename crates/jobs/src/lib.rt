@@ -1,4 +1,4 @@
-// The tests of a direct job: 14, 13, 15, 16, 17 of document 01, in that order, each over the whole job before the next.
+// The tests of a direct job: 14, 13, 15, 16, 17, each over the whole job before the next (rule 4.32).
 mod candidates;
 mod rows;
 mod weights;

@@ -1,5 +1,5 @@
 -- The answer is what the recursion has beneath the edge (0, n − 1), under a number that no row names; and the work table is cleared.
-use Prim.Native.Nat.{ℕ, _+_, _-_, _^_, _≤_, _<_}
+use Prim.Native.Nat.{ℕ, _+_, _-_, _≤_, _<_}
 use mathlib.Core.Path.{_≡_, sym, ap, _∙_}
 use mathlib.Core.Logic.{_⊎_, inl, inr, ⊎-elim}
 use mathlib.Core.List.{List, [], _++_}
@@ -8,7 +8,7 @@ use lib.ListN.{length, drop, replicate, length-replicate}
 use Rattle.lists.specs.Lists.{filled}
 use Rattle.triangulation.specs.Triangulations.{Job, bestKey}
 use Rattle.triangulation.specs.Jobs.{jobOf}
-use Rattle.triangulation.specs.Recursion.{bestUnder, costOf}
+use Rattle.triangulation.specs.Recursion.{bestUnder, costOf, noTotal, maxTotal}
 use Rattle.triangulation.proofs.Recursion.{best-edge}
 use Rattle.triangulation.proofs.Bounds.{edge-light}
 use Rattle.minimum_weight.specs.Tables.{WellFormed, Filled}
@@ -20,12 +20,12 @@ module _ (n : ℕ) (candidates : List (List ℕ)) (weights : List ℕ) (rows : L
   pub answer-whole : bestKey jobHere ≡ bestUnder jobHere n (length candidates) 0 (n - 1)
   answer-whole = best-edge jobHere (ok .valid) (length candidates) (ok .no-row) n (omega arith)
 
-  pub answer-none : 2 ^ 63 ≤ costOf (bestUnder jobHere n (length candidates) 0 (n - 1)) → bestKey jobHere ≡ []
+  pub answer-none : noTotal ≤ costOf (bestUnder jobHere n (length candidates) 0 (n - 1)) → bestKey jobHere ≡ []
   answer-none h = answer-whole ∙ ⊎-elim (λ e. e) (λ q. absurd (omega arith)) (edge-light jobHere (ok .valid) (ok .bounded) (length candidates) 0 (n - 1) (omega (arith, ok .valid .n3)) (omega (arith, ok .valid .n3)))
 
   -- a total is far below 2^63
-  pub answer-light : (bestKey jobHere ≡ []) ⊎ (costOf (bestKey jobHere) < 2 ^ 63)
-  answer-light = ⊎-elim (λ e. inl (answer-whole ∙ e)) (λ (q : costOf (bestUnder jobHere n (length candidates) 0 (n - 1)) ≤ 256000000000). inr (omega (arith, ap costOf answer-whole)))
+  pub answer-light : (bestKey jobHere ≡ []) ⊎ (costOf (bestKey jobHere) < noTotal)
+  answer-light = ⊎-elim (λ e. inl (answer-whole ∙ e)) (λ (q : costOf (bestUnder jobHere n (length candidates) 0 (n - 1)) ≤ maxTotal). inr (omega (arith, ap costOf answer-whole)))
       (edge-light jobHere (ok .valid) (ok .bounded) (length candidates) 0 (n - 1) (omega (arith, ok .valid .n3)) (omega (arith, ok .valid .n3)))
 
 pub cleared : (job : Job) {before work new : List ℕ} → Filled job before 0 work → new ≡ filled (replicate (job .size) 0) work → new ≡ filled (replicate (job .size) 0) before

@@ -1,5 +1,5 @@
 -- The best candidate on an edge, the first of equal ones, starts the least key beneath the edge.
-use Prim.Native.Nat.{ℕ, zero, suc, _+_, _^_, _≤_, _<_}
+use Prim.Native.Nat.{ℕ, zero, suc, _+_, _≤_, _<_}
 use mathlib.Core.Path.{_≡_, refl, sym, ap, ap₂, _∙_}
 use mathlib.Core.Bool.{Bool, true, false, cond, _&&_, false≢true}
 use mathlib.Core.Logic.{_⊎_, inl, inr, ⊎-elim, _≢_}
@@ -12,7 +12,7 @@ use borrow.Author.Tests.{eqb-true, eqb-false, ltb-true, ltb-false, lt-leb}
 use Rattle.terms.specs.Limits.{maxWeight}
 use Rattle.triangulation.specs.Triangulations.{Job, Valid, keep, upFrom, least, noLater, longEdge}
 use Rattle.triangulation.specs.Jobs.{Bounded, jobOf}
-use Rattle.triangulation.specs.Recursion.{addRow, join, bestUnder, bestFrom, costOf}
+use Rattle.triangulation.specs.Recursion.{addRow, join, bestUnder, bestFrom, costOf, noTotal, maxTotal}
 use Rattle.triangulation.proofs.SetParts.{both-eq}
 use Rattle.triangulation.proofs.Sums.{Mem, mem-keep, keep-mem}
 use Rattle.triangulation.proofs.PartsToSets.{mem-upFrom, upFrom-mem}
@@ -27,8 +27,8 @@ use Rattle.lists.proofs.Choice.{yes, no}
 module _ (on : ℕ → Bool) (rk : ℕ → List ℕ) (r : ℕ → ℕ) where
   -- what holds of the pick from the first k candidates
   pub data Picked (k : ℕ) (p : Pick) : Type 0 where
-    none : p .cost ≡ 2 ^ 63 → ((u : ℕ) → u < k → on u ≡ true → rk u ≡ []) → Picked k p
-    some : (x : ℕ) (l : List ℕ) → p .at < k → on (p .at) ≡ true → rk (p .at) ≡ x ∷ p .at ∷ l → p .cost ≡ x + r (p .at) → p .cost < 2 ^ 63
+    none : p .cost ≡ noTotal → ((u : ℕ) → u < k → on u ≡ true → rk u ≡ []) → Picked k p
+    some : (x : ℕ) (l : List ℕ) → p .at < k → on (p .at) ≡ true → rk (p .at) ≡ x ∷ p .at ∷ l → p .cost ≡ x + r (p .at) → p .cost < noTotal
         → ((u : ℕ) → u < k → on u ≡ true → (y : ℕ) (m : List ℕ) → rk u ≡ y ∷ u ∷ m → (p .cost < y + r u) ⊎ ((p .cost ≡ y + r u) × (p .at ≤ u))) → Picked k p
 
   module _ (d : ℕ → ℕ) (light : (u : ℕ) → r u ≤ maxWeight) where
@@ -45,7 +45,7 @@ module _ (on : ℕ → Bool) (rk : ℕ → List ℕ) (r : ℕ → ℕ) where
         (below-suc (λ u. on u ≡ true → (y : ℕ) (m : List ℕ) → rk u ≡ y ∷ u ∷ m → (p .cost < y + r u) ⊎ ((p .cost ≡ y + r u) × (p .at ≤ u))) k h
         (λ t y m q. absurd (cons≢nil (sym q ∙ z t))))
 
-    take-it : (k : ℕ) (p : Pick) (x : ℕ) (l : List ℕ) → Picked k p → on k ≡ true → rk k ≡ x ∷ k ∷ l → x + r k < 2 ^ 63 → x + r k < p .cost → Picked (suc k) (record { cost = x + r k; at = k })
+    take-it : (k : ℕ) (p : Pick) (x : ℕ) (l : List ℕ) → Picked k p → on k ≡ true → rk k ≡ x ∷ k ∷ l → x + r k < noTotal → x + r k < p .cost → Picked (suc k) (record { cost = x + r k; at = k })
     take-it k p x l q o e b c = some x l (omega arith) o e refl b
         (below-suc (λ u. on u ≡ true → (y : ℕ) (m : List ℕ) → rk u ≡ y ∷ u ∷ m → (x + r k < y + r u) ⊎ ((x + r k ≡ y + r u) × (k ≤ u))) k (old q)
         (λ t y m z. inr (ap (λ v. v + r k) (head-eq-of-cons-eq (sym e ∙ z)), omega arith)))
@@ -54,7 +54,7 @@ module _ (on : ℕ → Bool) (rk : ℕ → List ℕ) (r : ℕ → ℕ) where
         old (none e h) u l t y m z = absurd (cons≢nil (sym z ∙ h u l t))
         old (some _ _ a o e c′ b h) u l t y m z = inl (⊎-elim (λ g. omega arith) (λ g. omega arith) (h u l t y m z))
 
-    leave : (k : ℕ) (p : Pick) (x : ℕ) (l : List ℕ) → Picked k p → on k ≡ true → rk k ≡ x ∷ k ∷ l → x + r k < 2 ^ 63 → p .cost ≤ x + r k → Picked (suc k) p
+    leave : (k : ℕ) (p : Pick) (x : ℕ) (l : List ℕ) → Picked k p → on k ≡ true → rk k ≡ x ∷ k ∷ l → x + r k < noTotal → p .cost ≤ x + r k → Picked (suc k) p
     leave k p x l (none e h) o q b c = absurd (omega arith)
     leave k p x l (some x′ l′ a o′ e c′ b′ h) o q b c = some x′ l′ (omega arith) o′ e c′ b′
         (below-suc (λ u. on u ≡ true → (y : ℕ) (m : List ℕ) → rk u ≡ y ∷ u ∷ m → (p .cost < y + r u) ⊎ ((p .cost ≡ y + r u) × (p .at ≤ u))) k h
@@ -65,17 +65,17 @@ module _ (on : ℕ → Bool) (rk : ℕ → List ℕ) (r : ℕ → ℕ) where
     unfolding betterOf
     step k p q sh dk = go (on k) refl
       where
-        test : (x y : Bool) → on k ≡ true → Shape k (rk k) → d k ≡ costOf (rk k) → ltb (d k) (2 ^ 63) ≡ x → ltb (d k + r k) (p .cost) ≡ y
+        test : (x y : Bool) → on k ≡ true → Shape k (rk k) → d k ≡ costOf (rk k) → ltb (d k) noTotal ≡ x → ltb (d k + r k) (p .cost) ≡ y
             → Picked (suc k) (cond (x && y) (record { cost = d k + r k; at = k }) p)
-        test true y o (nil z) e f g = absurd (omega (arith, ltb-true (d k) (2 ^ 63) f, ap costOf z))
+        test true y o (nil z) e f g = absurd (omega (arith, ltb-true (d k) noTotal f, ap costOf z))
         test false y o (nil z) e f g = skip k p q (λ t. z)
-        test false y o (cons x l z b) e f g = absurd (omega (arith, ltb-false (d k) (2 ^ 63) f, ap costOf z))
+        test false y o (cons x l z b) e f g = absurd (omega (arith, ltb-false (d k) noTotal f, ap costOf z))
         test true true o (cons x l z b) e f g = rw (e ∙ ap costOf z) (take-it k p x l q o z (omega (arith, light k)) (omega (arith, ltb-true (d k + r k) (p .cost) g, ap costOf z)))
         test true false o (cons x l z b) e f g = leave k p x l q o z (omega (arith, light k)) (omega (arith, ltb-false (d k + r k) (p .cost) g, ap costOf z))
 
         go : (b : Bool) → on k ≡ b → Picked (suc k) (betterOf p k b (d k) (r k))
         go false e = skip k p q (λ t. absurd (false≢true (sym e ∙ t)))
-        go true e = test (ltb (d k) (2 ^ 63)) (ltb (d k + r k) (p .cost)) e (sh e) (dk e) refl refl
+        go true e = test (ltb (d k) noTotal) (ltb (d k + r k) (p .cost)) e (sh e) (dk e) refl refl
 
     pub picked : (k : ℕ) → ((u : ℕ) → u < k → on u ≡ true → Shape u (rk u)) → ((u : ℕ) → u < k → on u ≡ true → d u ≡ costOf (rk u)) → Picked k (pickBelow on d r k)
     picked zero sh dk = none refl (λ u l. absurd (omega arith))
@@ -152,22 +152,22 @@ module _ (n : ℕ) (candidates : List (List ℕ)) (weights : List ℕ) (rows : L
 
 -- the total of a triangle over its parts
 Light : List ℕ → Type 0
-Light k = (k ≡ []) ⊎ (costOf k ≤ 256000000000)
+Light k = (k ≡ []) ⊎ (costOf k ≤ maxTotal)
 
 light-cost : (k : List ℕ) (x : ℕ) → x ≡ costOf k → Light k → Cost x
 unfolding Light
 light-cost k x e (inl z) = inl (e ∙ ap costOf z)
 light-cost k x e (inr z) = inr (omega arith)
 
-light-cons : (x : ℕ) (l : List ℕ) → Light (x ∷ l) → x < 2 ^ 63
+light-cons : (x : ℕ) (l : List ℕ) → Light (x ∷ l) → x < noTotal
 unfolding Light
 light-cons x l (inl z) = absurd (cons≢nil z)
 light-cons x l (inr z) = omega arith
 
 join-is : (w u : ℕ) (k k′ : List ℕ) → Light k → Light k′ → joinCost w (costOf k) (costOf k′) ≡ costOf (join w u k k′)
 join-is w u [] k′ p q = refl
-join-is w u (x ∷ l) [] p q = rw (lt-leb (2 ^ 63) x (light-cons x l p))
-join-is w u (x ∷ l) (y ∷ r) p q = rw (lt-leb (2 ^ 63) x (light-cons x l p), lt-leb (2 ^ 63) y (light-cons y r q))
+join-is w u (x ∷ l) [] p q = rw (lt-leb noTotal x (light-cons x l p))
+join-is w u (x ∷ l) (y ∷ r) p q = rw (lt-leb noTotal x (light-cons x l p), lt-leb noTotal y (light-cons y r q))
 
 module _ (job : Job) (good : Valid job) (bound : Bounded job) where
   edge-Light : (t i j : ℕ) → i < j → j < job .n → Light (bestUnder job (job .n) t i j)

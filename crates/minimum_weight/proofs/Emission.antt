@@ -1,5 +1,5 @@
 -- Writing a key's triangles in preorder with a stack of parts.
-use Prim.Native.Nat.{ℕ, zero, suc, _+_, _-_, _*_, _^_, _≤_, _<_}
+use Prim.Native.Nat.{ℕ, zero, suc, _+_, _-_, _*_, _≤_, _<_}
 use mathlib.Core.Path.{_≡_, refl, sym, ap, ap₂, _∙_, subst}
 use mathlib.Core.Logic.{_⊎_, ⊎-elim, _≢_}
 use mathlib.Core.List.{List, [], _∷_, _++_, append-assoc, append-nil, cons≢nil}
@@ -14,7 +14,7 @@ use Rattle.lists.proofs.Writing as W
 use Rattle.lists.proofs.Writing.{Writing}
 use Rattle.triangulation.specs.Triangulations.{Job, Valid}
 use Rattle.triangulation.specs.Jobs.{Bounded}
-use Rattle.triangulation.specs.Recursion.{addRow, join, bestUnder, bestFrom, costOf, restOf}
+use Rattle.triangulation.specs.Recursion.{addRow, join, bestUnder, bestFrom, costOf, restOf, noTotal}
 use Rattle.triangulation.proofs.Parts.{part-length}
 use Rattle.triangulation.proofs.Recursion.{Best, none, some, edge-best, edge-step}
 use Rattle.triangulation.proofs.Bounds.{edge-light}
@@ -32,7 +32,7 @@ extent stack zero = 0
 extent stack (suc k) = (at stack k .last - at stack k .first) + extent stack k
 
 -- the parts of a joined key that is no 'none'
-split-key : (w u r : ℕ) (k k′ : List ℕ) → costOf (addRow r (join w u k k′)) < 2 ^ 63 → (k ≢ []) × (k′ ≢ []) × (restOf (addRow r (join w u k k′)) ≡ u ∷ (restOf k ++ restOf k′))
+split-key : (w u r : ℕ) (k k′ : List ℕ) → costOf (addRow r (join w u k k′)) < noTotal → (k ≢ []) × (k′ ≢ []) × (restOf (addRow r (join w u k k′)) ≡ u ∷ (restOf k ++ restOf k′))
 split-key w u r [] k′ h = absurd (omega arith)
 split-key w u r (x ∷ l) [] h = absurd (omega arith)
 split-key w u r (x ∷ l) (y ∷ m) h = (cons≢nil, cons≢nil, refl)
@@ -42,7 +42,7 @@ module _ (job : Job) where
   pub record Whole (p : Part) : Type 0 where
     pub order : p .first < p .last
     pub within : p .last < job .n
-    pub some : costOf (bestUnder job (job .n) (p .outer) (p .first) (p .last)) < 2 ^ 63
+    pub some : costOf (bestUnder job (job .n) (p .outer) (p .first) (p .last)) < noTotal
 
   abbrev pub listOf : Part → List ℕ
   listOf p = restOf (bestUnder job (job .n) (p .outer) (p .first) (p .last))
@@ -69,11 +69,11 @@ module _ (job : Job) where
   pub record Emitting (total before : List ℕ) (stack : List Part) (height count : ℕ) (out : List ℕ) : Type 0 where
     pub writing : Writing total (pending stack height) before 0 out count
     pub whole : (k : ℕ) → k < height → Whole (at stack k)
-    pub room : extent stack height ≤ 63
+    pub room : extent stack height < maxVertices
     pub size : length stack ≡ maxVertices
 
 module _ (job : Job) (good : Valid job) (bound : Bounded job) where
-  edge-some : (t i j : ℕ) → i < j → j < job .n → bestUnder job (job .n) t i j ≢ [] → costOf (bestUnder job (job .n) t i j) < 2 ^ 63
+  edge-some : (t i j : ℕ) → i < j → j < job .n → bestUnder job (job .n) t i j ≢ [] → costOf (bestUnder job (job .n) t i j) < noTotal
   edge-some t i j h k z = ⊎-elim (λ e. absurd (z e)) (λ q. omega arith) (edge-light job good bound t i j h k)
 
   -- a part from i to j has a triangle for each vertex between
@@ -121,7 +121,7 @@ module _ (job : Job) (good : Valid job) (bound : Bounded job) where
 
   module _ {total before : List ℕ} {stack : List Part} {height count : ℕ} {out : List ℕ} (e : Emitting job total before stack height count out) where
     -- the height, and how much is left to do
-    pub height-ok : height ≤ 63
+    pub height-ok : height < maxVertices
     height-ok = omega (arith, extent-ge stack height (e .whole), e .room)
 
     pub height-le : height ≤ extent stack height

@@ -1,5 +1,5 @@
 -- Choosing the best of some candidates one by one.
-use Prim.Native.Nat.{ℕ, zero, suc, _+_, _^_, _≤_, _<_}
+use Prim.Native.Nat.{ℕ, zero, suc, _+_, _≤_, _<_}
 use mathlib.Core.Path.{_≡_, refl, sym, ap, _∙_}
 use mathlib.Core.Bool.{Bool, true, false, cond, _&&_}
 use mathlib.Core.Logic.{⊎-elim}
@@ -11,6 +11,7 @@ use lib.ListN.{length, getD}
 use lib.Dec.{ltb, eqb}
 use borrow.Author.Tests.{lt-ltb, le-ltb, ltb-true, eq-eqb, ne-eqb}
 use Rattle.lists.proofs.Choice.{yes, no}
+use Rattle.triangulation.specs.Recursion.{noTotal}
 use Rattle.minimum_weight.specs.declared.choice.Pick.{Pick}
 use Rattle.blocks.specs.Blocks.{Starts}
 use Rattle.terms.specs.Limits.{maxVertices}
@@ -26,31 +27,31 @@ module _ (p : Pick) (u : ℕ) where
   -- candidate u is not on the edge, or its own total is not lower, or its total with the row is not, or it is
   pub off-edge : (on : Bool) (d w : ℕ) → on ≡ false → p ≡ betterOf p u on d w
   unfolding taken betterOf
-  off-edge on d w e = sym (no (taken d w) p (and-no (ltb d (2 ^ 63) && ltb (d + w) (p .cost)) e))
+  off-edge on d w e = sym (no (taken d w) p (and-no (ltb d noTotal && ltb (d + w) (p .cost)) e))
 
   pub no-lower : (on : Bool) (d w : ℕ) → p .cost ≤ d → p ≡ betterOf p u on d w
   unfolding taken betterOf
-  no-lower on d w h = sym (no (taken d w) p (and-last on (and-last (ltb d (2 ^ 63)) (le-ltb (d + w) (p .cost) (omega arith)))))
+  no-lower on d w h = sym (no (taken d w) p (and-last on (and-last (ltb d noTotal) (le-ltb (d + w) (p .cost) (omega arith)))))
 
-  pub no-better : (on : Bool) (d w r : ℕ) → on ≡ true → d < 2 ^ 63 → r ≡ w → p .cost ≤ d + r → p ≡ betterOf p u on d w
+  pub no-better : (on : Bool) (d w r : ℕ) → on ≡ true → d < noTotal → r ≡ w → p .cost ≤ d + r → p ≡ betterOf p u on d w
   unfolding taken betterOf
-  no-better on d w r e h q l = sym (no (taken d w) p (and-yes _ e ∙ and-yes _ (lt-ltb d (2 ^ 63) h) ∙ le-ltb (d + w) (p .cost) (omega arith)))
+  no-better on d w r e h q l = sym (no (taken d w) p (and-yes _ e ∙ and-yes _ (lt-ltb d noTotal h) ∙ le-ltb (d + w) (p .cost) (omega arith)))
 
-  pub is-better : (on : Bool) (d w r : ℕ) → on ≡ true → d < 2 ^ 63 → r ≡ w → d + r < p .cost → record { cost = d + r; at = u } ≡ betterOf p u on d w
+  pub is-better : (on : Bool) (d w r : ℕ) → on ≡ true → d < noTotal → r ≡ w → d + r < p .cost → record { cost = d + r; at = u } ≡ betterOf p u on d w
   unfolding taken betterOf
-  is-better on d w r e h q l = ap (taken d) q ∙ sym (yes (taken d w) p (and-yes _ e ∙ and-yes _ (lt-ltb d (2 ^ 63) h) ∙ lt-ltb (d + w) (p .cost) (omega arith)))
+  is-better on d w r e h q l = ap (taken d) q ∙ sym (yes (taken d w) p (and-yes _ e ∙ and-yes _ (lt-ltb d noTotal h) ∙ lt-ltb (d + w) (p .cost) (omega arith)))
 
-  pub better-bounded : (on : Bool) (d w : ℕ) → p .cost ≤ 2 ^ 63 → betterOf p u on d w .cost ≤ 2 ^ 63
+  pub better-bounded : (on : Bool) (d w : ℕ) → p .cost ≤ noTotal → betterOf p u on d w .cost ≤ noTotal
   unfolding taken betterOf
-  better-bounded on d w h = go (on && (ltb d (2 ^ 63) && ltb (d + w) (p .cost))) refl
+  better-bounded on d w h = go (on && (ltb d noTotal && ltb (d + w) (p .cost))) refl
     where
-      go : (b : Bool) → (on && (ltb d (2 ^ 63) && ltb (d + w) (p .cost))) ≡ b → cond b (taken d w) p .cost ≤ 2 ^ 63
-      go true e = let l = ltb-true (d + w) (p .cost) (and-right (ltb d (2 ^ 63)) _ (and-right on _ e)) in omega arith
+      go : (b : Bool) → (on && (ltb d noTotal && ltb (d + w) (p .cost))) ≡ b → cond b (taken d w) p .cost ≤ noTotal
+      go true e = let l = ltb-true (d + w) (p .cost) (and-right (ltb d noTotal) _ (and-right on _ e)) in omega arith
       go false e = h
 
 -- no total is above 'none'
-pub pick-bounded : (on : ℕ → Bool) (d w : ℕ → ℕ) (k : ℕ) → pickBelow on d w k .cost ≤ 2 ^ 63
-pick-bounded on d w zero = le-refl (2 ^ 63)
+pub pick-bounded : (on : ℕ → Bool) (d w : ℕ → ℕ) (k : ℕ) → pickBelow on d w k .cost ≤ noTotal
+pick-bounded on d w zero = le-refl noTotal
 pick-bounded on d w (suc k) = better-bounded (pickBelow on d w k) k (on k) (d k) (w k) (pick-bounded on d w k)
 
 -- candidates off the edge are passed over
@@ -65,7 +66,7 @@ module _ (candidates : List (List ℕ)) (starts : List ℕ) (i j : ℕ) (d w : �
   pickOf = pickBelow (onEdge candidates i j) d w
 
   -- only candidates of the block of i are on an edge (i, j)
-  pub block-start : record { cost = 2 ^ 63; at = 0 } ≡ pickOf (getD starts i 0)
+  pub block-start : record { cost = noTotal; at = 0 } ≡ pickOf (getD starts i 0)
   block-start = sym (pick-skip (onEdge candidates i j) d w 0 (getD starts i 0) (omega arith)
       (λ u x y. and-no (eqb (vertexC (entryAt candidates u)) j) (ne-eqb (vertexA (entryAt candidates u)) i (λ e. omega (arith, b .at i (omega arith) .below u y)))))
 

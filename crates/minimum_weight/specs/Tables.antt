@@ -1,5 +1,5 @@
 -- What the dynamic programme computes from the tables of a job. Contracts of inner functions cite this file; no reader has to believe it.
-use Prim.Native.Nat.{ℕ, zero, suc, _+_, _-_, _^_, _≤_, _<_}
+use Prim.Native.Nat.{ℕ, zero, suc, _+_, _-_, _≤_, _<_}
 use mathlib.Core.Path.{_≡_}
 use mathlib.Core.Logic.{_≢_, _⊎_}
 use mathlib.Core.Bool.{Bool, true, false, cond, _&&_, _||_}
@@ -7,11 +7,12 @@ use mathlib.Core.List.{List, []}
 use lib.ListN.{getD, length, drop}
 use lib.Dec.{eqb, ltb, leb}
 use Rattle.minimum_weight.specs.declared.choice.Pick.{Pick}
+use Rattle.terms.specs.Limits.{maxTriples}
 use Rattle.terms.specs.Entries.{entryAt, vertexA, vertexB, vertexC, outer, inner, rowWeight}
 use Rattle.blocks.specs.Blocks.{ByFirst}
 use Rattle.triangulation.specs.Triangulations.{Job, Valid}
 use Rattle.triangulation.specs.Jobs.{Bounded, pairWeight, jobOf}
-use Rattle.triangulation.specs.Recursion.{addRow, bestUnder, bestFrom, costOf}
+use Rattle.triangulation.specs.Recursion.{addRow, bestUnder, bestFrom, costOf, noTotal, maxTotal}
 
 -- candidates ascend by a, then b
 pub record Ascending (candidates : List (List ℕ)) : Type 0 where
@@ -44,11 +45,11 @@ pub record Run (rows : List (List ℕ)) (t : ℕ) (run : List (List ℕ)) : Type
 
 -- p, or candidate u where it is on the edge and its total with the row's weight is lower: d is its own total, w the row's weight
 unfoldable pub betterOf : Pick → ℕ → Bool → ℕ → ℕ → Pick
-betterOf p u on d w = cond (on && (ltb d (2 ^ 63) && ltb (d + w) (p .cost))) (record { cost = d + w; at = u }) p
+betterOf p u on d w = cond (on && (ltb d noTotal && ltb (d + w) (p .cost))) (record { cost = d + w; at = u }) p
 
 -- the best of the first k candidates that are `on` the edge, the first of equal ones: d is a candidate's own total, w its row's weight
 abbrev pub pickBelow : (ℕ → Bool) → (ℕ → ℕ) → (ℕ → ℕ) → ℕ → Pick
-pickBelow on d w zero = record { cost = 2 ^ 63; at = 0 }
+pickBelow on d w zero = record { cost = noTotal; at = 0 }
 pickBelow on d w (suc k) = betterOf (pickBelow on d w k) k (on k) (d k) (w k)
 
 -- (i, j) is candidate k's edge (a, c)
@@ -63,13 +64,13 @@ pickUnder candidates work rows t i j = pickBelow (onEdge candidates i j) (λ k. 
 abbrev pub pickAtEdge : List (List ℕ) → List ℕ → List (List ℕ) → ℕ → ℕ → ℕ → Pick
 pickAtEdge candidates work rows t i j = cond (eqb j (i + 1)) (record { cost = 0; at = 0 }) (pickUnder candidates work rows t i j)
 
--- a total: the number for 'none', or far below it
+-- a total, or the number that stands for 'none'
 abbrev pub Cost : ℕ → Type 0
-Cost x = (x ≡ 2 ^ 63) ⊎ (x ≤ 256000000000)
+Cost x = (x ≡ noTotal) ⊎ (x ≤ maxTotal)
 
 -- the total of a triangle of weight w over parts of totals l and r
 abbrev pub joinCost : ℕ → ℕ → ℕ → ℕ
-joinCost w l r = cond (leb (2 ^ 63) l) (2 ^ 63) (cond (leb (2 ^ 63) r) (2 ^ 63) (w + l + r))
+joinCost w l r = cond (leb noTotal l) noTotal (cond (leb noTotal r) noTotal (w + l + r))
 
 -- what the dynamic programme needs of a job and its weight table
 pub record WellFormed (n : ℕ) (candidates : List (List ℕ)) (weights : List ℕ) (rows : List (List ℕ)) : Type 0 where
@@ -77,7 +78,7 @@ pub record WellFormed (n : ℕ) (candidates : List (List ℕ)) (weights : List �
   pub bounded : Bounded (jobOf n candidates weights rows)
   pub ascending : Ascending candidates
   pub weights-there : length candidates ≤ length weights
-  pub few : length candidates ≤ 65536
+  pub few : length candidates ≤ maxTriples
   pub rows-ascend : RowsAscend rows
   -- no row has the first number after the candidates for its outer
   pub no-row : (u : ℕ) → pairWeight rows (length candidates) u ≡ 0
@@ -103,4 +104,4 @@ pub record Filled (job : Job) (before : List ℕ) (low : ℕ) (work : List ℕ) 
 -- what is found for the edge (i, j) of t: the best total beneath it with the row to t, and the triangle that starts it
 pub record Found (job : Job) (t i j : ℕ) (p : Pick) : Type 0 where
   pub cost : p .cost ≡ costOf (bestUnder job (job .n) t i j)
-  pub at : j ≢ i + 1 → p .cost < 2 ^ 63 → (p .at < job .size) × (job .a (p .at) ≡ i) × (job .c (p .at) ≡ j) × (bestUnder job (job .n) t i j ≡ addRow (job .row t (p .at)) (bestFrom job (job .n) (p .at)))
+  pub at : j ≢ i + 1 → p .cost < noTotal → (p .at < job .size) × (job .a (p .at) ≡ i) × (job .c (p .at) ≡ j) × (bestUnder job (job .n) t i j ≡ addRow (job .row t (p .at)) (bestFrom job (job .n) (p .at)))

@@ -2,13 +2,14 @@
 use crate::NONE;
 use crate::rows::row_weight;
 ghost use mathlib.Core.Path.{_≡_};
-ghost use Prim.Native.Nat.{_^_, _<_, _≤_};
+ghost use Prim.Native.Nat.{_<_, _≤_};
 ghost use lib.ListN.{length, getD};
 ghost use lib.Dec.{eqb};
 ghost use Rattle.triangulation.specs.Jobs.{pairWeight};
 ghost use Rattle.blocks.specs.Blocks.{Starts};
 ghost use Rattle.terms.specs.Limits.{maxVertices};
 ghost use Rattle.terms.specs.Entries.{entryAt, vertexC};
+ghost use Rattle.triangulation.specs.Recursion.{noTotal};
 ghost use Rattle.minimum_weight.specs.Tables.{RowsAscend, betterOf, pickUnder, pickAtEdge};
 
 // A total and the candidate that starts it.
@@ -28,7 +29,7 @@ fn better(
     j: u8,
     u: usize,
 ) -> Pick
-    requires { ⌜ (u < length (now candidates)) × (length (now candidates) ≤ length (now work)) × RowsAscend (now rows) × (p .cost ≤ 2 ^ 63) ⌝ }
+    requires { ⌜ (u < length (now candidates)) × (length (now candidates) ≤ length (now work)) × RowsAscend (now rows) × (p .cost ≤ noTotal) ⌝ }
     ensures { λ r. ⌜ r ≡ betterOf p u (eqb (vertexC (entryAt (now (candidates .entry)) u)) j) (getD (now (work .entry)) u 0) (pairWeight (now (rows .entry)) t u) ⌝ }
 {
     let triangle = candidates[u];

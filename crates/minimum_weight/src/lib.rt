@@ -14,7 +14,7 @@ ghost use Rattle.triangulation.specs.Jobs.{jobOf};
 ghost use Rattle.triangulation.specs.Recursion.{costOf, restOf};
 ghost use Rattle.minimum_weight.specs.Tables.{WellFormed};
 
-// Stands for 'none': above every total.
+// Stands for 'none', above every total: `noTotal` of the contracts.
 pub const NONE: u64 = 0x8000_0000_0000_0000;
 
 // Zero in the first n places.

@@ -1,6 +1,7 @@
 // Rows found by bisection: they ascend by outer, then inner.
 ghost use mathlib.Core.Path.{_≡_};
 ghost use Prim.Native.Nat.{_+_, _<_, _≤_};
+ghost use Rattle.terms.specs.Limits.{maxTriples};
 ghost use Rattle.triangulation.specs.Jobs.{pairWeight};
 ghost use Rattle.minimum_weight.specs.Tables.{RowsAscend, rowIsBefore, rowOrZero, Cut};
 
@@ -54,7 +55,7 @@ pub fn lower_bound(rows: &[[u32; 3]], outer: usize, inner: usize) -> usize
 
 // Where the rows of an outer end: they are one run.
 pub fn run_end(rows: &[[u32; 3]], start: usize, outer: usize) -> usize
-    requires { ⌜ RowsAscend (now rows) × Cut (now rows) outer 0 start start × (outer < 65536) ⌝ }
+    requires { ⌜ RowsAscend (now rows) × Cut (now rows) outer 0 start start × (outer < maxTriples) ⌝ }
     ensures { λ r. ⌜ Cut (now (rows .entry)) (outer + 1) 0 r r × (start ≤ r) ⌝ }
 {
     let mut end = start;

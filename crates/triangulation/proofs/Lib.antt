@@ -8,4 +8,3 @@ pub mod Least
 pub mod Recursion
 pub mod Bounds
 pub mod Demand3
-pub mod Cases

@@ -1,5 +1,4 @@
 pub mod Triangulations
 pub mod Jobs
 pub mod Demand3
-pub mod Cases
 pub mod Recursion

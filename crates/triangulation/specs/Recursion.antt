@@ -1,8 +1,9 @@
 -- The recursion that the dynamic programme computes. That it gives the answer is proved: no reader has to believe this file.
-use Prim.Native.Nat.{ℕ, zero, suc, _+_, _^_}
+use Prim.Native.Nat.{ℕ, zero, suc, _+_, _*_, _^_}
 use mathlib.Core.Bool.{cond}
 use mathlib.Core.List.{List, [], _∷_, _++_, map}
 use lib.Dec.{eqb}
+use Rattle.terms.specs.Limits.{maxVertices, maxWeight}
 use Rattle.triangulation.specs.Triangulations.{Job, keep, upFrom, least, longEdge}
 
 -- a key whose total has a row's weight added
@@ -16,9 +17,17 @@ join w u [] k = []
 join w u (x ∷ l) [] = []
 join w u (x ∷ l) (y ∷ r) = (w + x + y) ∷ u ∷ (l ++ r)
 
--- a key's total, or 2^63 for 'none'
+-- above every total: a triangle for each vertex, and a row for each, of the largest weight
+abbrev pub maxTotal : ℕ
+maxTotal = 2 * maxWeight * maxVertices
+
+-- stands for the total of 'none': above that
+abbrev pub noTotal : ℕ
+noTotal = 2 ^ 63
+
+-- a key's total
 abbrev pub costOf : List ℕ → ℕ
-costOf [] = 2 ^ 63
+costOf [] = noTotal
 costOf (x ∷ l) = x
 
 -- a key's triangles

@@ -1,12 +1,12 @@
--- What a triangulation of a polygon is, and which one is the answer: the file that a reader has to believe.
--- Document 01, section "Tilings"; a tiling is called a triangulation here, and walk order preorder.
+-- What a tiling is, and which one is the answer (rules 3.1 to 3.7): the file that a reader has to believe. Definitions only.
+-- A tiling is called a triangulation here, and walk order preorder.
 use Prim.Native.Nat.{ℕ, zero, suc, _+_, _-_, _≤_, _<_}
 use mathlib.Core.Bool.{Bool, true, false, cond, _&&_, _||_}
 use mathlib.Core.List.{List, [], _∷_, _++_, map}
 use lib.Dec.{ltb, eqb}
 
--- A job has n vertices and `size` candidates, numbered from 0. Candidate k is the triangle (a k, b k, c k).
--- `row o i` is the weight of the row with outer o and inner i, and 0 where there is none ("a pair with no row adds 0").
+-- A job has n vertices and `size` candidates, numbered from 0 (rule 3.1). Candidate k is the triangle (a k, b k, c k) and weighs `weight k`.
+-- `row o i` is the weight of the row with outer o and inner i, and 0 where there is none (rule 3.4).
 pub record Job : Type 0 where
   pub n : ℕ
   pub size : ℕ
@@ -16,14 +16,14 @@ pub record Job : Type 0 where
   pub weight : ℕ → ℕ
   pub row : ℕ → ℕ → ℕ
 
--- What the theorems assume of a job: at least three vertices, and a < b < c < n for each candidate.
+-- what the theorems ask of a job: at least three vertices, and a < b < c < n for each candidate; an accepted job and a rim's have it
 pub record Valid (job : Job) : Type 0 where
   pub n3 : 3 ≤ job .n
   pub ab : (k : ℕ) → k < job .size → job .a k < job .b k
   pub bc : (k : ℕ) → k < job .size → job .b k < job .c k
   pub cn : (k : ℕ) → k < job .size → job .c k < job .n
 
--- 'None', or a patch with its total and its triangles (candidate numbers) in preorder.
+-- 'none', or a patch with its total and its triangles (candidate numbers) in preorder
 pub data Answer : Type 0 where
   none : Answer
   patch : ℕ → List ℕ → Answer
@@ -63,8 +63,7 @@ abbrev pub subsets : List ℕ → List (List ℕ)
 subsets [] = [] ∷ []
 subsets (x ∷ xs) = map (λ s. x ∷ s) (subsets xs) ++ subsets xs
 
--- Whether xs is ys or has the smaller number at the first difference ("the earlier is the one with the smaller candidate number at the first
--- difference"). The empty list stands for 'none' and comes last.
+-- whether xs is ys, or has the smaller number where the two first differ (rule 3.6); the empty list stands for 'none' and comes last
 abbrev pub noLater : List ℕ → List ℕ → Bool
 noLater xs [] = true
 noLater [] (y ∷ ys) = false
@@ -97,35 +96,34 @@ module _ (job : Job) where
   unfoldable pub countOutside : List ℕ → ℕ → ℕ → ℕ
   countOutside s i j = sum (λ k. only (shortEdge i j k) 1) s
 
-  -- a rim edge: "(i, i + 1), and (0, n − 1)"
+  -- a rim edge (rule 3.2)
   abbrev pub isBoundary : ℕ → ℕ → Bool
   isBoundary i j = eqb j (i + 1) || eqb i 0 && eqb j (job .n - 1)
 
-  -- "each rim edge is in exactly one triangle. Every other edge used is in exactly two, one with its third vertex between the edge's ends and one
-  -- with it outside"
+  -- an edge with x triangles on the one side and y on the other: a rim edge has one in all, any other has none, or one on each side (rule 3.3)
   abbrev pub edgeOk : Bool → ℕ → ℕ → Bool
   edgeOk true x y = eqb (x + y) 1
   edgeOk false x y = eqb (x + y) 0 || eqb x 1 && eqb y 1
 
-  -- a set s of candidates is a triangulation (tiling): so it is for every edge (i, j), i < j < n
+  -- a set s of candidates is a triangulation: so it is for every edge (i, j), i < j < n (rule 3.3)
   unfoldable pub isTriangulation : List ℕ → Bool
   isTriangulation s = allBelow (job .n) (λ j. allBelow j (λ i. edgeOk (isBoundary i j) (countBetween s i j) (countOutside s i j)))
 
-  -- "the weights of its triangles, plus the row weight of each of its hanging pairs": i hangs on o if i's edge (a, c) is o's (a, b) or (b, c)
+  -- the total: for each triangle o its weight, and the row weight of each triangle i of s that hangs on it (rules 2.9, 3.4)
   unfoldable pub totalWeight : List ℕ → ℕ
   totalWeight s = sum (λ o. job .weight o + sum (λ i. only (shortEdge (job .a i) (job .c i) o) (job .row o i)) s) s
 
-  -- the triangles of s from i to j in preorder: the triangle (i, b, j), then the part from i to b, then the part from b to j; a rim edge adds
-  -- nothing. The first argument bounds the depth.
+  -- the triangles of s from i to j in preorder: the triangle (i, b, j), then the part from i to b, then the part from b to j; no triangle is on
+  -- a rim edge (rule 3.5). The first argument bounds the depth.
   unfoldable pub preorderFrom : ℕ → List ℕ → ℕ → ℕ → List ℕ
   preorderFrom zero s i j = []
   preorderFrom (suc f) s i j = joined (λ k. k ∷ (preorderFrom f s i (job .b k) ++ preorderFrom f s (job .b k) j)) (keep (longEdge i j) s)
 
-  -- walk order: "the triangle on (0, n − 1), .. then the part from 0 to b, then the part from b to n − 1, each in the same way"
+  -- walk order: the part from 0 to n - 1 (rule 3.5)
   abbrev pub preorder : List ℕ → List ℕ
   preorder s = preorderFrom (job .n) s 0 (job .n - 1)
 
-  -- the total and then the triangles: what triangulations are compared by
+  -- the total and then the triangles: what triangulations are compared by (rule 3.7)
   unfoldable pub key : List ℕ → List ℕ
   unfolding totalWeight preorderFrom
   key s = totalWeight s ∷ preorder s
@@ -134,7 +132,7 @@ module _ (job : Job) where
   abbrev pub triangulations : List (List ℕ)
   triangulations = keep isTriangulation (subsets (upFrom 0 (job .size)))
 
-  -- the least total and, among equal ones, the earliest in preorder, over all triangulations; [] where there is none
+  -- of all triangulations the least total, and of several the earliest in preorder; [] where there is none (rule 3.7)
   unfoldable pub bestKey : List ℕ
   unfolding isTriangulation key
   bestKey = least (map key triangulations)

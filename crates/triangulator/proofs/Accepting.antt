@@ -16,7 +16,7 @@ use Rattle.terms.specs.Entries.{entryAt, vertexA, vertexB, outer, inner, rowWei
 use Rattle.jobs.specs.Job.{jobCode}
 use Rattle.jobs.proofs.Order.{Before, by-a, by-b, by-c, RowBefore, by-outer, by-inner}
 use Rattle.jobs.proofs.Count.{candidates-bounded}
-use Rattle.jobs.proofs.Acceptance.{ListsAccepted, accepted}
+use Rattle.jobs.proofs.Acceptance.{ListsAccepted, fitting}
 use Rattle.minimum_weight.specs.Tables.{WellFormed, rowIsBefore}
 use Rattle.minimum_weight.proofs.RowSearch.{is-before, names-false, none}
 
@@ -60,7 +60,7 @@ module _ (n : ℕ) (candidates : List (List ℕ)) (weights : List ℕ) (rows : L
 
   pub accepted-well-formed : (places work-places : ℕ) → jobCode n candidates weights rows places work-places ≡ 0 → WellFormed n candidates weights rows × (length candidates ≤ work-places) × (n ≤ places + 2)
   accepted-well-formed places work-places e =
-      let a = accepted n candidates weights rows places work-places e in
+      let a = fitting n candidates weights rows places work-places e in
       (well-formed (a .at-least) (a .at-most) (a .lists), a .work-room, omega (arith, a .triangle-room))
 
   -- Demand 3 for every direct job on which no number is due.

@@ -12,7 +12,9 @@ use Rattle.triangulation.specs.Jobs.{jobOf}
 use Rattle.triangulation.specs.Demand3.{Optimal, Demand3}
 use Rattle.triangulation.proofs.Demand3.{demand3, handed-back}
 use Rattle.jobs.specs.Job.{jobCode}
-use Rattle.jobs.proofs.Acceptance.{FirstDue, Accepted, accepted-zero, first-due}
+use Rattle.jobs.specs.Due.{Due, FirstDue, Accepted}
+use Rattle.jobs.proofs.Acceptance.{accepted-zero, zero-accepted, code-due, due-code}
+use Rattle.triangulator.specs.declared.Outcome.{Outcome}
 use Rattle.triangulator.specs.declared.Outcome.the-variants.{None, Refused}
 use Rattle.triangulator.specs.Call.{Result, result, settled, triangulated, numberOf, partOf}
 use Rattle.triangulator.specs.Demands.{stated, Taken, a-patch, a-none, Handed, with-patch, with-none, with-refusal}
@@ -27,6 +29,10 @@ settled-states (patch total l) count triangles work = ap (patch total) (filled-t
 pub settled-taken : (a : Answer) (count : ℕ) (triangles work : List ℕ) → Taken (settled a count triangles work .outcome)
 settled-taken none count triangles work = a-none
 settled-taken (patch total l) count triangles work = a-patch
+
+not-taken : {o : Outcome} {k : ℕ} → o ≡ Refused k → Taken o → ⊥
+not-taken e a-patch = let z : _≡_ {A = ℕ} 0 1 = cc in omega arith
+not-taken e a-none = let z : _≡_ {A = ℕ} 0 1 = cc in omega arith
 
 -- the part handed back with that outcome and table is as promised
 pub settled-handed : (job : Job) → Valid job → (count : ℕ) (triangles work : List ℕ) →
@@ -57,34 +63,42 @@ module _ (n : ℕ) (candidates : List (List ℕ)) (weights : List ℕ) (rows : L
   unfolding call number triangulated
   refused-call k e = no _ _ (ne-eqb number 0 (λ z. omega (arith, e, z))) ∙ ap (λ (j : ℕ). result (Refused j) triangles work) e
 
-  -- "A .. direct job is accepted when no number is due on it or on the tables lent with it": it ends in a patch or 'none'
+  -- an accepted job ends in a patch or 'none', and no other does (rule 4.33)
   pub job-taken : Accepted n candidates weights rows (length triangles) (length work) → Taken (triangulated n candidates weights rows triangles work .outcome)
   unfolding call number
   job-taken a =
       subst (λ (r : Result). Taken (r .outcome)) (sym (settled-call (accepted-zero n candidates weights rows (length triangles) (length work) a)))
       (settled-taken (best (jobOf n candidates weights rows)) (length candidates) triangles work)
 
-  -- every other is refused with the first number due, and every table holds what it held
-  pub job-refused : (k : ℕ) → FirstDue n candidates weights rows (length triangles) (length work) (suc k) →
-      triangulated n candidates weights rows triangles work ≡ result (Refused (suc k)) triangles work
+  pub job-taken-only : Taken (triangulated n candidates weights rows triangles work .outcome) → Accepted n candidates weights rows (length triangles) (length work)
   unfolding call number
-  job-refused k d = refused-call k (Rattle.jobs.proofs.Acceptance.first-code n candidates weights rows (length triangles) (length work) d)
-
-  -- one of the two: the number that the call gives is the first due, 0 where none is
-  pub job-number : FirstDue n candidates weights rows (length triangles) (length work) (numberOf (triangulated n candidates weights rows triangles work .outcome))
-  unfolding call number
-  job-number = subst (λ (k : ℕ). FirstDue n candidates weights rows (length triangles) (length work) k) (sym (by number refl)) (first-due n candidates weights rows (length triangles) (length work))
+  job-taken-only t = by number refl
     where
-      by : (k : ℕ) → number ≡ k → numberOf (call .outcome) ≡ number
-      by zero e = ap (λ (r : Result). numberOf (r .outcome)) (settled-call e) ∙ settled-number (best (jobOf n candidates weights rows)) ∙ sym e
-        where
-          settled-number : (a : Answer) → numberOf (settled a (length candidates) triangles work .outcome) ≡ 0
-          settled-number none = refl
-          settled-number (patch total l) = refl
-      by (suc k) e = ap (λ (r : Result). numberOf (r .outcome)) (refused-call k e) ∙ sym e
+      by : (k : ℕ) → number ≡ k → Accepted n candidates weights rows (length triangles) (length work)
+      by zero e = zero-accepted n candidates weights rows (length triangles) (length work) e
+      by (suc k) e = absurd (not-taken (ap (λ (r : Result). r .outcome) (refused-call k e)) t)
 
-  -- Demand 3: the answer is a patch exactly when the candidates hold a tiling, and 'none' exactly when they hold none; the patch is a tiling in walk
-  -- order with its own total; every other tiling has at least this total, and each with an equal total comes later in walk order
+  -- every other is refused with the first number due, and every table holds what it held (rules 4.30, 4.32)
+  pub job-refused : (k : ℕ) → FirstDue n candidates weights rows (length triangles) (length work) k →
+      triangulated n candidates weights rows triangles work ≡ result (Refused k) triangles work
+  unfolding call number
+  job-refused k d = by k (due-code n candidates weights rows (length triangles) (length work) k d) (d .due)
+    where
+      by : (k : ℕ) → number ≡ k → Due n candidates weights rows (length triangles) (length work) k → call ≡ result (Refused k) triangles work
+      by zero e d = absurd (zero-accepted n candidates weights rows (length triangles) (length work) e 0 d)
+      by (suc k) e d = refused-call k e
+
+  pub job-refused-only : (k : ℕ) → triangulated n candidates weights rows triangles work .outcome ≡ Refused k → FirstDue n candidates weights rows (length triangles) (length work) k
+  unfolding call number
+  job-refused-only k r = by number refl
+    where
+      by : (j : ℕ) → number ≡ j → FirstDue n candidates weights rows (length triangles) (length work) k
+      by zero e = absurd (not-taken r (subst (λ (r : Result). Taken (r .outcome)) (sym (settled-call e)) (settled-taken (best (jobOf n candidates weights rows)) (length candidates) triangles work)))
+      by (suc j) e =
+          let q : suc j ≡ k = ap numberOf (sym (ap (λ (r : Result). r .outcome) (refused-call j e)) ∙ r) in
+          subst (λ (i : ℕ). FirstDue n candidates weights rows (length triangles) (length work) i) q (code-due n candidates weights rows (length triangles) (length work) j e)
+
+  -- the answer to an accepted job is the right one (rule 3.7)
   pub job-demand3 : Accepted n candidates weights rows (length triangles) (length work) →
       Demand3 (jobOf n candidates weights rows) (stated (triangulated n candidates weights rows triangles work .outcome) (triangulated n candidates weights rows triangles work .triangles))
   unfolding call number
@@ -94,7 +108,7 @@ module _ (n : ℕ) (candidates : List (List ℕ)) (weights : List ℕ) (rows : L
       (sym (ap (λ (r : Result). stated (r .outcome) (r .triangles)) (settled-call e) ∙ settled-states (best (jobOf n candidates weights rows)) (length candidates) triangles work))
       (accepted-demand3 n candidates weights rows (length triangles) (length work) e)
 
-  -- what the caller is handed back, after every call
+  -- what the caller is handed back, after every call (rules 3.8, 4.30)
   pub job-handed : Handed (jobOf n candidates weights rows) (partOf (triangulated n candidates weights rows triangles work .outcome) (triangulated n candidates weights rows triangles work .triangles)) (triangulated n candidates weights rows triangles work .outcome)
   unfolding call number
   job-handed = by number refl

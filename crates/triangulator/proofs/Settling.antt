@@ -1,5 +1,5 @@
 -- What a call answers and leaves, from what the dynamic programme returns and leaves.
-use Prim.Native.Nat.{ℕ, zero, suc, _-_, _^_, _≤_, _<_}
+use Prim.Native.Nat.{ℕ, zero, suc, _-_, _≤_, _<_}
 use mathlib.Core.Path.{_≡_, refl, sym, ap, ap₂, _∙_}
 use mathlib.Core.Bool.{cond}
 use mathlib.Core.Logic.{_⊎_, inl, inr}
@@ -12,13 +12,13 @@ use borrow.Author.Tests.{le-leb}
 use Rattle.lists.specs.Lists.{filled}
 use Rattle.lists.proofs.Choice.{yes}
 use Rattle.triangulation.specs.Triangulations.{Answer, answerOf}
-use Rattle.triangulation.specs.Recursion.{costOf, restOf}
+use Rattle.triangulation.specs.Recursion.{costOf, restOf, noTotal}
 use Rattle.triangulator.specs.declared.Outcome.{Outcome}
 use Rattle.triangulator.specs.declared.Outcome.the-variants.{Patch, None, Refused}
 use Rattle.triangulator.specs.Call.{trianglesOf, values, valuesOf, answerValues, dueValues, result, settled, partOf}
 
 module _ (n count : ℕ) (t w : List ℕ) {t′ w′ : List ℕ} where
-  pub settle-none : (k : List ℕ) → 2 ^ 63 ≤ costOf k → (k ≡ []) ⊎ (costOf k < 2 ^ 63) → t′ ≡ filled (restOf k) t → w′ ≡ filled (replicate count 0) w
+  pub settle-none : (k : List ℕ) → noTotal ≤ costOf k → (k ≡ []) ⊎ (costOf k < noTotal) → t′ ≡ filled (restOf k) t → w′ ≡ filled (replicate count 0) w
       → (result None t′ w′ ≡ settled (answerOf k) count t w) × (valuesOf None ≡ answerValues n (answerOf k))
   settle-none k h (inr q) e f = absurd (omega arith)
   settle-none k h (inl q) e f = (
@@ -26,7 +26,7 @@ module _ (n count : ℕ) (t w : List ℕ) {t′ w′ : List ℕ} where
     ap (λ l. answerValues n (answerOf l)) (sym q),
   )
 
-  pub settle-patch : (k : List ℕ) (total : ℕ) → total ≡ costOf k → total < 2 ^ 63 → ((x : ℕ) (l : List ℕ) → k ≡ x ∷ l → length l ≡ n - 2) → t′ ≡ filled (restOf k) t
+  pub settle-patch : (k : List ℕ) (total : ℕ) → total ≡ costOf k → total < noTotal → ((x : ℕ) (l : List ℕ) → k ≡ x ∷ l → length l ≡ n - 2) → t′ ≡ filled (restOf k) t
       → w′ ≡ filled (replicate count 0) w → (result (Patch (n - 2) total) t′ w′ ≡ settled (answerOf k) count t w) × (valuesOf (Patch (n - 2) total) ≡ answerValues n (answerOf k))
   settle-patch [] total q h m e f = absurd (omega arith)
   settle-patch (x ∷ l) total q h m e f = (

@@ -9,7 +9,7 @@ use lib.ListN.{length-append}
 use Rattle.lists.proofs.Counting.{Counting, count-start, count-turn, count-part, count-moved, count-all}
 use Rattle.faces.specs.Masks.{has}
 use Rattle.faces.proofs.Triples.{left1, left2, left3, into2, into3, out1, out2, out3}
-use Rattle.hinges.specs.Hinges.{beneath}
+use Rattle.hinges.specs.Hinges.{beneath, maxPairs}
 use Rattle.hinges.proofs.Counts.{hung, next-hung, pairs-count, pairs-bound}
 use Rattle.hinges.proofs.count_rows.Statement.{statement}
 use Rattle.hinges.proofs.count_rows.Tie as tie
@@ -85,7 +85,7 @@ module _ (s : tie.After-count-beneath2 Inv-loop3 μ-loop3 Inv-loop2 μ-loop2 Inv
       count-moved (ap (λ (k : ℕ). l .loop3 .count + k) ((λ i. s .before .count-beneath .ensures i + s .count-beneath2 .ensures i) ∙ sym (length-append on beside)))
       (count-part (on ++ beside) (count-turn (next-hung n P (u .loop .a) (m .loop2 .b) (l .loop3 .c) {t = true} (omega arith) (sym (s .before .before .if1 .taken) ∙ s .before .before .before .contains .ensures)) (l .loop3 .inv)))
 
-  few : l .loop3 .count + (s .before .count-beneath .result + s .count-beneath2 .result) ≤ 1735888896
+  few : l .loop3 .count + (s .before .count-beneath .result + s .count-beneath2 .result) ≤ maxPairs
   few = omega (arith, counted .sum, pairs-bound n P (u .before .pre))
 
 add-count : tie.Need-add-count Inv-loop3 μ-loop3 Inv-loop2 μ-loop2 Inv-loop μ-loop

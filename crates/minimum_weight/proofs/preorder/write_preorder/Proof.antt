@@ -5,6 +5,7 @@ use native.Mathlib.Nat.{le-antisymm}
 use native.Mathlib.Omega.{arith}
 use borrow.Author.Needs.{needs}
 use lib.ListN.{length}
+use Rattle.terms.specs.Limits.{maxVertices}
 use Rattle.triangulation.specs.Triangulations.{Job}
 use Rattle.triangulation.specs.Jobs.{jobOf}
 use Rattle.triangulation.specs.Recursion.{bestUnder, restOf}
@@ -46,7 +47,7 @@ sub-height : tie.Need-sub-height Inv-loop μ-loop
 sub-height c = search needs
 
 mul-part : tie.Need-mul-part Inv-loop μ-loop
-mul-part c = let s = c .before .before .before .before .before in let ok = s .pre .0 .0 in let v = ok .valid in let b = ok .bounded in let l = c .before .loop in let h : l .height - 1 < 64 = omega (arith, height-ok _ v b (l .inv)) in search needs
+mul-part c = let s = c .before .before .before .before .before in let ok = s .pre .0 .0 in let v = ok .valid in let b = ok .bounded in let l = c .before .loop in let h : l .height - 1 < maxVertices = omega (arith, height-ok _ v b (l .inv)) in search needs
 
 array-copy-out-part : tie.Need-array-copy-out-part Inv-loop μ-loop
 array-copy-out-part c = let s = c .before .before .before .before .before in let ok = s .pre .0 .0 in let v = ok .valid in let b = ok .bounded in let l = c .before .loop in omega (arith, height-ok _ v b (l .inv))
@@ -79,7 +80,7 @@ add-count : tie.Need-add-count Inv-loop μ-loop
 add-count c = let s = c .before .before .before .before .before .before .before .before .before in let ok = s .pre .0 .0 in let v = ok .valid in let b = ok .bounded in let l = c .before .before .before .before .before .loop in let u = c .before .best-under .result .at in let d = beneath (c .before) in let h : l .count < length (l .triangles) = turn-place _ v b (l .stack) (l .height) (l .count) (l .triangles) (c .before .before .before .before .loop-test .taken) (l .inv) u d in omega (arith, h, l .inv .writing .long, s .good)
 
 mul-stack : tie.Need-mul-stack Inv-loop μ-loop
-mul-stack c = let s = c .before .before .before .before .before .before .before .before .before in let ok = s .pre .0 .0 in let v = ok .valid in let b = ok .bounded in let l = c .before .before .before .before .before .loop in let h : l .height - 1 < 64 = omega (arith, height-ok _ v b (l .inv)) in search needs
+mul-stack c = let s = c .before .before .before .before .before .before .before .before .before in let ok = s .pre .0 .0 in let v = ok .valid in let b = ok .bounded in let l = c .before .before .before .before .before .loop in let h : l .height - 1 < maxVertices = omega (arith, height-ok _ v b (l .inv)) in search needs
 
 array-set-from-stack : tie.Need-array-set-from-stack Inv-loop μ-loop
 array-set-from-stack c = let s = c .before .before .before .before .before .before .before .before .before in let ok = s .pre .0 .0 in let v = ok .valid in let b = ok .bounded in let l = c .before .before .before .before .before .loop in omega (arith, height-ok _ v b (l .inv))
@@ -88,7 +89,7 @@ add-stack : tie.Need-add-stack Inv-loop μ-loop
 add-stack c = let s = c .before .before .before .before .before .before .before .before .before in let ok = s .pre .0 .0 in let v = ok .valid in let b = ok .bounded in let l = c .before .before .before .before .before .loop in omega (arith, height-ok _ v b (l .inv))
 
 mul-stack-2 : tie.Need-mul-stack-2 Inv-loop μ-loop
-mul-stack-2 c = let s = c .before .before .before .before .before .before .before .before .before in let ok = s .pre .0 .0 in let v = ok .valid in let b = ok .bounded in let l = c .before .before .before .before .before .loop in let h : l .height - 1 + 1 < 64 = omega (arith, height-ok _ v b (l .inv)) in search needs
+mul-stack-2 c = let s = c .before .before .before .before .before .before .before .before .before in let ok = s .pre .0 .0 in let v = ok .valid in let b = ok .bounded in let l = c .before .before .before .before .before .loop in let h : l .height - 1 + 1 < maxVertices = omega (arith, height-ok _ v b (l .inv)) in search needs
 
 array-set-from-stack-2 : tie.Need-array-set-from-stack-2 Inv-loop μ-loop
 array-set-from-stack-2 c = let s = c .before .before .before .before .before .before .before .before .before in let ok = s .pre .0 .0 in let v = ok .valid in let b = ok .bounded in let l = c .before .before .before .before .before .loop in omega (arith, height-ok _ v b (l .inv))
