@@ -35,10 +35,13 @@ pub past-limit : (s : List ℕ) (i : ℕ) → maxVertices ≤ i → positionCode
 unfolding positionCode
 past-limit s i h e = by (ltb (recordCount s) (chain.link s i)) (metBefore s i (chain.link s i)) refl refl
   where
+    many : leb maxVertices i ≡ true
+    many = le-leb maxVertices i h
+
     by : (a b : Bool) → ltb (recordCount s) (chain.link s i) ≡ a → metBefore s i (chain.link s i) ≡ b → ⊥
-    by true b p q = omega (arith, sym (yes 3 _ p) ∙ e)
-    by false true p q = omega (arith, sym (no 3 _ p ∙ yes 4 _ q) ∙ e)
-    by false false p q = omega (arith, sym (no 3 _ p ∙ no 4 _ q ∙ yes 5 _ (le-leb maxVertices i h)) ∙ e)
+    by true b p q = omega (arith, simp (p, q, many) at e)
+    by false true p q = omega (arith, simp (p, q, many) at e)
+    by false false p q = omega (arith, simp (p, q, many) at e)
 
 -- what no number from position i on says of one position
 pub record Passed (s : List ℕ) (i k : ℕ) : Type 0 where

@@ -2,6 +2,7 @@ pub mod Numbers
 pub mod Vertices
 pub mod Lengths
 pub mod Walking
+pub mod Following
 pub mod Answers
 pub mod Order
 pub mod Floats

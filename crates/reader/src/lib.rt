@@ -8,6 +8,11 @@ ghost use Rattle.reader.specs.Reading.{refusal, readingOf, statusNumber,
 use grid::GridPoint;
 use polygon::Polygon;
 
+// The most records of a file, and the record numbers with 0, which ends the chain.
+const MAX_RECORDS: usize = 256;
+
+const MARKS: usize = MAX_RECORDS + 1;
+
 // The coordinates of a point, in millimetres.
 struct Coordinates {
     pub x: f32,
@@ -34,6 +39,18 @@ enum Vertex {
     Refused(u32),
 }
 
+// The walk along the chain, carried by value from position to position: the number that stops it, 0 while none does; a mark for each record number,
+// set where the record was met; the height that a level point takes here; the vertex of the position before; how many positions are behind, and the
+// link that leads on. The vertices are listed beside it, so that a step does not copy them.
+struct Progress {
+    pub code: u32,
+    pub met: [bool; MARKS],
+    pub height: Height,
+    pub vertex: GridPoint,
+    pub n: usize,
+    pub link: usize,
+}
+
 // The chain followed to its end: its vertices, or a number and none.
 struct Chain {
     pub code: u32,
@@ -47,7 +64,7 @@ pub enum Status {
 }
 
 impl Status {
-    // Document 01's number, 0 where the file is read.
+    // The number of the case, 0 where the file is read.
     pub fn number(self) -> u32
         ensures { λ r. ⌜ r ≡ statusNumber self ⌝ }
     {
