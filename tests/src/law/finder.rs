@@ -1,4 +1,4 @@
-//! Candidates, weights and rows of a rim, or number 12.
+//! Candidates, weights and rows of a rim (rules 2.1 to 2.13), or number 12.
 
 use super::reader::{Point, Rim};
 use crate::calls::{Row, Triangle};

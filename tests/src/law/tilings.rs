@@ -1,4 +1,4 @@
-//! Tilings as sets of candidates, judged by edge counts.
+//! Tilings as sets of candidates, judged by edge counts (rules 3.2 to 3.7).
 
 use super::finder::hangs_on;
 use crate::calls::{Job, Triangle};
