@@ -2,7 +2,7 @@
 //! place it is due at. The library decides the number; this only says where to look.
 
 use crate::rim_file::{grid_number, header, records, Header, Record};
-use crate::rim_file::{HEADER, LEVEL_POINT, LIMIT, MAX_AREA_FACTOR, POINT, RECORD};
+use crate::rim_file::{HEADER, LEVEL_POINT, LIMIT, MAX_AREA_FACTOR, MAX_RECORDS, POINT, RECORD};
 use patch_box::{Number, MAX_VERTICES};
 
 /// A vertex of the rim.
@@ -51,12 +51,18 @@ fn judge(file: &[u8], vertices: &mut Vec<Vertex>) -> Result<(), Due> {
 
 fn check_length(file: &[u8]) -> Result<Header, Due> {
     let length = file.len();
-    let wrong = |place| Due { number: Number::Length, place };
+    let wrong = |place: String| {
+        // A rim file has small bytes in its header; text has none.
+        let text = length > 0 && file.iter().all(|&byte| byte >= b'\t');
+        let hint =
+            if text { "; this looks like text, ./rim make takes a list of points" } else { "" };
+        Due { number: Number::Length, place: place + hint }
+    };
     let Some(header) = header(file) else {
         return Err(wrong(format!("{length} bytes are too few for a header of {HEADER}")));
     };
     let needed = HEADER + RECORD * header.records as usize;
-    if header.records > 256 {
+    if header.records > MAX_RECORDS {
         return Err(wrong(format!("the header says {} records", header.records)));
     }
     if length != needed {

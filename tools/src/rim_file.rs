@@ -2,6 +2,7 @@
 
 pub const HEADER: usize = 8;
 pub const RECORD: usize = 16;
+pub const MAX_RECORDS: u16 = 256;
 
 /// Rule 1.9: a coordinate is from -LIMIT to LIMIT, in millimetres.
 pub const LIMIT: f32 = 125.0;

@@ -2,7 +2,7 @@
 
 use crate::diagnosis::{diagnose, float, Diagnosis, Vertex};
 use crate::patch::{close, Patch};
-use crate::rim_file::{header, millimetres, records, Record, LEVEL_POINT, POINT};
+use crate::rim_file::{header, millimetres, records, Record, LEVEL_POINT, MAX_RECORDS, POINT};
 use patch_box::Number;
 use std::fmt::Write;
 
@@ -11,7 +11,10 @@ pub fn show(file: &[u8]) -> (String, bool) {
     let diagnosis = diagnose(file);
     let outcome = close(file);
     let mut text = shown_header(file);
-    text += &shown_records(&records(file));
+    // What a file of another kind holds are no records.
+    if header(file).is_some_and(|header| header.records <= MAX_RECORDS) {
+        text += &shown_records(&records(file));
+    }
     text += &shown_vertices(&diagnosis.vertices);
     text += &match &outcome {
         Ok(patch) => shown_patch(patch),

@@ -95,6 +95,10 @@ fn every_number_of_a_file_with_its_place() {
         let text = shown.text();
         assert_eq!(text.lines().last(), Some(format!("{number}: {place}").as_str()));
     }
+    let list = run(&["show", "-"], &bytes_of("gap.txt")).text();
+    let hint = "this looks like text, ./rim make takes a list of points";
+    assert!(list.ends_with(&format!("the header says 8257 records; {hint}\n")), "{list}");
+    assert_eq!(list.lines().count(), 3, "{list}");
     let cube = run(&["show", "-"], &bytes_of("cube5.rim")).text();
     let place = "vertices 0, 1, 2, 4 and then 3; moving one of the five by 0.125 mm can help";
     assert!(cube.ends_with(&format!("{}: {place}\n", Number::Cospherical)), "{cube}");
