@@ -47,26 +47,13 @@ static void release(struct tables *t)
     free(t->work);
 }
 
-/* Does t's edge (a, c) lie on the other's edge (a, b) or (b, c)? */
-static int hangs_on(patch_box_candidate t, patch_box_candidate outer)
-{
-    return (t.a == outer.a && t.c == outer.b) || (t.a == outer.b && t.c == outer.c);
-}
-
-static uint32_t row_weight(const struct tables *t, uint16_t outer, uint16_t inner)
-{
-    for (size_t k = 0; k < t->sizes.rows; k++)
-        if (t->rows[k].outer == outer && t->rows[k].inner == inner)
-            return t->rows[k].weight;
-    return 0;
-}
-
-/* The weight of the row to the triangle, earlier in walk order, that the i-th triangle of the patch hangs on. */
+/* The weight of the row to the triangle, earlier in walk order, that the i-th triangle of the patch hangs on; 0 for the first. */
 static uint32_t bend_weight(const struct tables *t, size_t i)
 {
-    for (size_t k = 0; k < i; k++)
-        if (hangs_on(t->candidates[t->triangles[i]], t->candidates[t->triangles[k]]))
-            return row_weight(t, t->triangles[k], t->triangles[i]);
+    for (size_t r = 0; r < t->sizes.rows; r++)
+        for (size_t k = 0; k < i; k++)
+            if (t->rows[r].inner == t->triangles[i] && t->rows[r].outer == t->triangles[k])
+                return t->rows[r].weight;
     return 0;
 }
 

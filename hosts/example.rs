@@ -4,73 +4,38 @@
 
 #![forbid(unsafe_code)]
 
-use patch_box::{Candidate, Number, Outcome, Row, Sizes};
+use patch_box::{Number, Outcome, OwnedTables};
 use std::fmt::Write as _;
 use std::io::{Read, Write as _};
 use std::process::ExitCode;
 
-/// The host's own memory for the tables of one call.
-struct Tables {
-    triangles: Vec<u16>,
-    candidates: Vec<Candidate>,
-    weights: Vec<u32>,
-    rows: Vec<Row>,
-    work: Vec<u64>,
+/// The weight of the row to the triangle, earlier in walk order, that the i-th triangle of the patch
+/// hangs on; 0 for the first.
+fn bend_weight(tables: &OwnedTables, i: usize) -> u32 {
+    let inner = tables.triangles[i] as u32;
+    let earlier = &tables.triangles[..i];
+    let mut rows = tables.rows.iter();
+    let row = rows.find(|row| row[1] == inner && earlier.iter().any(|&t| t as u32 == row[0]));
+    row.map_or(0, |row| row[2])
 }
 
-impl Tables {
-    fn new(sizes: Sizes) -> Tables {
-        Tables {
-            triangles: vec![0; sizes.triangles],
-            candidates: vec![[0; 3]; sizes.candidates],
-            weights: vec![0; sizes.weights],
-            rows: vec![[0; 3]; sizes.rows],
-            work: vec![0; sizes.work],
-        }
+fn shown(tables: &OwnedTables, triangles: usize, total: u64) -> String {
+    let mut text = format!("patch {} {triangles} {total}\n", triangles + 2);
+    for (i, &number) in tables.triangles[..triangles].iter().enumerate() {
+        let [a, b, c] = tables.candidates[number as usize];
+        let weight = tables.weights[number as usize];
+        let bend = bend_weight(tables, i);
+        writeln!(text, "{a} {b} {c} {weight} {bend}").expect("a string takes any text");
     }
-
-    fn lent(&mut self) -> patch_box::Tables<'_> {
-        patch_box::Tables {
-            triangles: &mut self.triangles,
-            candidates: &mut self.candidates,
-            weights: &mut self.weights,
-            rows: &mut self.rows,
-            work: &mut self.work,
-        }
-    }
-
-    /// Does t's edge (a, c) lie on the other's edge (a, b) or (b, c)?
-    fn hangs_on(&self, t: u16, outer: u16) -> bool {
-        let [first, _, last] = self.candidates[t as usize];
-        let [a, b, c] = self.candidates[outer as usize];
-        (first, last) == (a, b) || (first, last) == (b, c)
-    }
-
-    fn row_weight(&self, outer: u16, inner: u16) -> u32 {
-        let mut rows = self.rows.iter();
-        rows.find(|row| row[..2] == [outer as u32, inner as u32]).map_or(0, |row| row[2])
-    }
-
-    fn shown(&self, triangles: usize, total: u64) -> String {
-        let mut text = format!("patch {} {triangles} {total}\n", triangles + 2);
-        let patch = &self.triangles[..triangles];
-        for (place, &t) in patch.iter().enumerate() {
-            let [a, b, c] = self.candidates[t as usize];
-            let outer = patch[..place].iter().find(|&&outer| self.hangs_on(t, outer));
-            let row = outer.map_or(0, |&outer| self.row_weight(outer, t));
-            let weight = self.weights[t as usize];
-            writeln!(text, "{a} {b} {c} {weight} {row}").expect("a string takes any text");
-        }
-        text
-    }
+    text
 }
 
 /// What the bench program prints for a patch or 'none'.
 fn close(file: &[u8]) -> Result<String, Number> {
-    let mut tables = Tables::new(patch_box::sizes(file)?);
-    Ok(match patch_box::rim(file, tables.lent())? {
+    let mut tables = OwnedTables::new(patch_box::sizes(file)?);
+    Ok(match patch_box::rim(file, tables.lend())? {
         Outcome::None => String::from("none\n"),
-        Outcome::Patch { triangles, total } => tables.shown(triangles, total),
+        Outcome::Patch { triangles, total } => shown(&tables, triangles, total),
     })
 }
 

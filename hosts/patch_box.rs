@@ -2,12 +2,36 @@
 //! aligned do not compile. patch_box.h says what each call does to the tables; README.md and
 //! docs/SPECIFICATION.md describe the rules and the rim file.
 //!
+//! ```no_run
+//! use patch_box::{Number, Outcome, OwnedTables};
+//!
+//! fn close(file: &[u8]) -> Result<(), Number> {
+//!     let mut tables = OwnedTables::new(patch_box::sizes(file)?);
+//!     match patch_box::rim(file, tables.lend())? {
+//!         Outcome::None => println!("no triangulation"),
+//!         Outcome::Patch { triangles, total } => {
+//!             println!("total {total}");
+//!             for &number in &tables.triangles[..triangles] {
+//!                 println!("{:?}", tables.candidates[number as usize]);
+//!             }
+//!         }
+//!     }
+//!     Ok(())
+//! }
+//! ```
+//!
 //! This is the one file of a Rust host with `unsafe`: the calls of the archive are declared here.
 
 #![no_std]
 
+#[cfg(feature = "alloc")]
+extern crate alloc;
+
 use core::error::Error;
 use core::fmt;
+
+#[cfg(feature = "alloc")]
+pub use owned::OwnedTables;
 
 /// Bytes of the longest rim file.
 pub const MAX_FILE: usize = 8 + 16 * 256;
@@ -241,6 +265,44 @@ impl archive::Patch {
             (0, 0) => Ok(Outcome::None),
             (0, _) => panic!("the archive and patch_box.rs differ: none with total {total}"),
             _ => Ok(Outcome::Patch { triangles, total }),
+        }
+    }
+}
+
+#[cfg(feature = "alloc")]
+mod owned {
+    use super::{Candidate, Row, Sizes, Tables};
+    use alloc::{vec, vec::Vec};
+
+    /// Tables of a host's own, as long as a rim needs.
+    #[derive(Clone, Debug, PartialEq, Eq)]
+    pub struct OwnedTables {
+        pub triangles: Vec<u16>,
+        pub candidates: Vec<Candidate>,
+        pub weights: Vec<u32>,
+        pub rows: Vec<Row>,
+        pub work: Vec<u64>,
+    }
+
+    impl OwnedTables {
+        pub fn new(sizes: Sizes) -> OwnedTables {
+            OwnedTables {
+                triangles: vec![0; sizes.triangles],
+                candidates: vec![[0; 3]; sizes.candidates],
+                weights: vec![0; sizes.weights],
+                rows: vec![[0; 3]; sizes.rows],
+                work: vec![0; sizes.work],
+            }
+        }
+
+        pub fn lend(&mut self) -> Tables<'_> {
+            Tables {
+                triangles: &mut self.triangles,
+                candidates: &mut self.candidates,
+                weights: &mut self.weights,
+                rows: &mut self.rows,
+                work: &mut self.work,
+            }
         }
     }
 }

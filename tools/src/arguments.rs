@@ -1,9 +1,9 @@
 //! The words of the command line.
 
 use crate::output::Place;
-use crate::picture::View;
 use crate::points::Comma;
 use crate::rim_file::MAX_AREA_FACTOR;
+use crate::view::View;
 use std::path::PathBuf;
 
 pub const HELP: &str = "\

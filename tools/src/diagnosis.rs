@@ -3,6 +3,7 @@
 
 use crate::rim_file::{grid_number, header, records, Header, Record};
 use crate::rim_file::{HEADER, LEVEL_POINT, LIMIT, MAX_AREA_FACTOR, MAX_RECORDS, POINT, RECORD};
+use crate::vectors::{cross, dot, minus};
 use patch_box::{Number, MAX_VERTICES};
 
 /// A vertex of the rim.
@@ -164,18 +165,6 @@ fn check_distinct(vertices: &[Vertex]) -> Result<(), Due> {
 }
 
 type Vector = [i64; 3];
-
-fn minus(p: Vector, q: Vector) -> Vector {
-    [p[0] - q[0], p[1] - q[1], p[2] - q[2]]
-}
-
-fn dot(p: Vector, q: Vector) -> i64 {
-    p[0] * q[0] + p[1] * q[1] + p[2] * q[2]
-}
-
-fn cross(p: Vector, q: Vector) -> Vector {
-    [p[1] * q[2] - p[2] * q[1], p[2] * q[0] - p[0] * q[2], p[0] * q[1] - p[1] * q[0]]
-}
 
 /// The sphere through four points, seen from the first: volume |x|² = slope · x on it, and on the
 /// inner side the difference has the sign opposite to the volume's. Grid numbers keep all in 64 bits.

@@ -12,6 +12,8 @@ pub mod picture;
 pub mod points;
 pub mod rim_file;
 pub mod show;
+pub mod vectors;
+pub mod view;
 
 /// Why a command ended without what was asked for, in one line.
 #[derive(Clone, Debug, PartialEq, Eq)]

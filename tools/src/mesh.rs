@@ -2,6 +2,7 @@
 
 use crate::patch::{Patch, Triangle};
 use crate::rim_file::millimetres;
+use crate::vectors::unit_normal;
 use std::fmt::Write;
 
 fn words(numbers: [f64; 3]) -> String {
@@ -13,12 +14,9 @@ fn place(point: [i64; 3]) -> String {
     words(point.map(millimetres))
 }
 
-/// The normal (rule 2.6), of length 1, to six decimals. No candidate is on one line, so it has a length.
-fn unit_normal([p, q, r]: [[i64; 3]; 3]) -> [f64; 3] {
-    let [u, v] = [q, r].map(|s| [0, 1, 2].map(|k| (s[k] - p[k]) as f64));
-    let n = [u[1] * v[2] - u[2] * v[1], u[2] * v[0] - u[0] * v[2], u[0] * v[1] - u[1] * v[0]];
-    let length = n.iter().map(|x| x * x).sum::<f64>().sqrt();
-    n.map(|x| (x / length * 1e6).round() / 1e6 + 0.0)
+/// To six decimals, without minus zeros. No candidate is on one line.
+fn shown_normal(corners: [[i64; 3]; 3]) -> String {
+    words(unit_normal(corners).map(|x| (x * 1e6).round() / 1e6 + 0.0))
 }
 
 fn corners(patch: &Patch, triangle: &Triangle) -> [[i64; 3]; 3] {
@@ -30,7 +28,7 @@ pub fn stl(patch: &Patch) -> String {
     for triangle in &patch.triangles {
         let corners = corners(patch, triangle);
         let [a, b, c] = corners.map(place);
-        let normal = words(unit_normal(corners));
+        let normal = shown_normal(corners);
         write!(
             text,
             "facet normal {normal}\n  outer loop\n    vertex {a}\n    vertex {b}\n    vertex {c}\n  endloop\nendfacet\n"

@@ -3,138 +3,12 @@
 
 use crate::patch::Patch;
 use crate::rim_file::millimetres;
+use crate::vectors::{dot, unit_normal};
+use crate::view::{Camera, Flat, Scale, Vector, View, MARGIN, WIDTH};
 use std::fmt::Write;
 
-type Vector = [f64; 3];
-type Flat = [f64; 2];
-
-fn dot(p: Vector, q: Vector) -> f64 {
-    p[0] * q[0] + p[1] * q[1] + p[2] * q[2]
-}
-
-fn cross(p: Vector, q: Vector) -> Vector {
-    [p[1] * q[2] - p[2] * q[1], p[2] * q[0] - p[0] * q[2], p[0] * q[1] - p[1] * q[0]]
-}
-
-fn unit(p: Vector) -> Vector {
-    let length = dot(p, p).sqrt();
-    p.map(|x| x / length)
-}
-
-/// Where the patch is looked at from.
-#[derive(Clone, Copy, Debug, PartialEq)]
-pub struct View {
-    /// None is a direction without a name.
-    name: Option<&'static str>,
-    direction: Vector,
-}
-
-const NAMED: [View; 4] = [
-    View::TOP,
-    View { name: Some("front"), direction: [0.0, -1.0, 0.0] },
-    View { name: Some("side"), direction: [1.0, 0.0, 0.0] },
-    View { name: Some("corner"), direction: [1.0, -1.0, 1.0] },
-];
-
-impl View {
-    pub const TOP: View = View { name: Some("top"), direction: [0.0, 0.0, 1.0] };
-
-    /// The view of a name, or of a direction X,Y,Z.
-    pub fn named(word: &str) -> Result<View, String> {
-        if let Some(view) = NAMED.iter().find(|view| view.name == Some(word)) {
-            return Ok(*view);
-        }
-        let numbers: Vec<f64> =
-            word.split(',').filter_map(|part| part.trim().parse().ok()).collect();
-        let size = |direction: Vector| direction.iter().map(|x| x.abs()).fold(0.0, f64::max);
-        match numbers[..] {
-            [x, y, z] if word.split(',').count() == 3 && (1e-6..1e6).contains(&size([x, y, z])) => {
-                Ok(View { name: None, direction: [x, y, z] })
-            }
-            _ => Err(format!(
-                "--from takes top, front, side, corner or a direction X,Y,Z, not '{word}'"
-            )),
-        }
-    }
-
-    fn shown(&self) -> String {
-        match self.name {
-            Some(name) => format!("seen from the {name}"),
-            None => {
-                let [x, y, z] = self.direction;
-                format!("seen from ({x}, {y}, {z})")
-            }
-        }
-    }
-}
-
-/// The axes of the picture: to the right, up, and towards the viewer.
-struct Camera {
-    right: Vector,
-    up: Vector,
-    towards: Vector,
-}
-
-impl Camera {
-    /// The height goes up, or, seen from above or below, y.
-    fn new(view: View) -> Camera {
-        let towards = unit(view.direction);
-        let above = towards[0].abs().max(towards[1].abs()) < 1e-6;
-        let right = unit(cross(if above { [0.0, 1.0, 0.0] } else { [0.0, 0.0, 1.0] }, towards));
-        Camera { right, up: cross(towards, right), towards }
-    }
-
-    fn flat(&self, p: Vector) -> Flat {
-        [dot(self.right, p), dot(self.up, p)]
-    }
-
-    fn depth(&self, p: Vector) -> f64 {
-        dot(self.towards, p)
-    }
-}
-
-/// From millimetres of the view to pixels; up goes down there.
-struct Scale {
-    pixels: f64,
-    lowest: Flat,
-    highest: Flat,
-}
-
-const WIDTH: f64 = 640.0;
-const HEIGHT: f64 = 520.0;
-const MARGIN: f64 = 44.0;
+/// Pixels below the rim, for the scale and the caption.
 const CAPTION: f64 = 78.0;
-
-impl Scale {
-    fn fitting(points: &[Flat]) -> Scale {
-        let ends = |k: usize| {
-            let numbers = points.iter().map(|p| p[k]);
-            (
-                numbers.clone().fold(f64::INFINITY, f64::min),
-                numbers.fold(f64::NEG_INFINITY, f64::max),
-            )
-        };
-        let [(left, right), (bottom, top)] = [ends(0), ends(1)];
-        let step = 0.125;
-        let pixels = (WIDTH / (right - left).max(step)).min(HEIGHT / (top - bottom).max(step));
-        // Every picture has one width; a narrower rim stands in the middle.
-        let spare = (WIDTH / pixels - (right - left)) / 2.0;
-        Scale { pixels, lowest: [left - spare, bottom], highest: [right + spare, top] }
-    }
-
-    fn height(&self) -> f64 {
-        (self.highest[1] - self.lowest[1]) * self.pixels
-    }
-
-    fn origin(&self) -> Flat {
-        [MARGIN - self.lowest[0] * self.pixels, MARGIN + self.highest[1] * self.pixels]
-    }
-
-    fn pixel(&self, p: Flat) -> Flat {
-        let [x, y] = self.origin();
-        [x + p[0] * self.pixels, y - p[1] * self.pixels]
-    }
-}
 
 /// A number to at most so many decimals, without idle zeros.
 fn decimals(value: f64, places: usize) -> String {
@@ -233,9 +107,7 @@ impl Drawing<'_> {
 
     /// The cosine between the normal (rule 2.6) and the viewer: below zero the back is seen.
     fn facing(&self, t: usize) -> f64 {
-        let [p, q, r] = self.corners(t).map(|k| self.points[k]);
-        let side = |s: Vector| [0, 1, 2].map(|k| s[k] - p[k]);
-        dot(unit(cross(side(q), side(r))), self.camera.towards)
+        dot(unit_normal(self.corners(t).map(|k| self.patch.vertices[k])), self.camera.towards)
     }
 
     /// Sand in front, blue behind; darker where it is steep.

@@ -35,7 +35,7 @@ fn wrong_arguments() {
             run(&["make", word, value, "x"], b"").refused(2, &line);
         }
     }
-    for view in ["up", "", "1,2", "0,0,0", "1,2,3,4", "nan,0,0", "inf,0,1", "1,x,2"] {
+    for view in ["up", "", "1,2", "0,0,0", "1,2,3,4", "nan,0,1", "inf,0,1", "1,x,2"] {
         let line =
             format!("--from takes top, front, side, corner or a direction X,Y,Z, not '{view}'");
         run(&["draw", "--from", view, "x"], b"").refused(2, &line);
