@@ -7,7 +7,7 @@
  *   - the places lie in one object, and no two tables of a call overlap, nor does the file overlap a table;
  *   - places that a call does not fill keep what they held, and a refusal changes none.
  *
- * Calls may run at once in several threads, over tables of their own. Each uses less than 64 KB of stack.
+ * Calls may run at once in several threads, over tables of their own. Each uses less than 64 KiB of stack.
  *
  * Outcomes. The field `number` of an answer is 0, or says why the call refused; then every other field is 0. Of a patch_box_patch_answer:
  *   number 0 and triangles above 0   a patch
