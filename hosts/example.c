@@ -1,5 +1,5 @@
 /* A host in C: closes the rim of a rim file and prints what the bench program prints. Its tables are as long as the rim needs.
- * Status 0 after a patch or 'none', 1 after a refusal, 2 with one line on standard error where it could not run. */
+ * Status 0 where the rim is accepted, 1 where it is refused, 2 with one line on standard error where it could not run. */
 #include "patch_box.h"
 
 #include <errno.h>
@@ -47,7 +47,7 @@ static void release(struct tables *t)
     free(t->work);
 }
 
-/* The weight of the row to the triangle, earlier in walk order, that the i-th triangle of the patch hangs on; 0 for the first. */
+/* The weight of the row to the triangle, earlier in walk order, that the i-th triangle of the patch hangs on. */
 static uint32_t bend_weight(const struct tables *t, size_t i)
 {
     for (size_t r = 0; r < t->sizes.rows; r++)

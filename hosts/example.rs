@@ -1,6 +1,6 @@
 //! A host in Rust: closes the rim of a rim file and prints what the bench program prints. Its tables
-//! are as long as the rim needs. Status 0 after a patch or 'none', 1 after a refusal, 2 with one line
-//! on standard error where it could not run.
+//! are as long as the rim needs. Status 0 where the rim is accepted, 1 where it is refused, 2 with
+//! one line on standard error where it could not run.
 
 #![forbid(unsafe_code)]
 
@@ -10,7 +10,7 @@ use std::io::{Read, Write as _};
 use std::process::ExitCode;
 
 /// The weight of the row to the triangle, earlier in walk order, that the i-th triangle of the patch
-/// hangs on; 0 for the first.
+/// hangs on.
 fn bend_weight(tables: &OwnedTables, i: usize) -> u32 {
     let inner = tables.triangles[i] as u32;
     let earlier = &tables.triangles[..i];

@@ -34,27 +34,27 @@ enum {
 
 /* Why a call refused: the values of the field `number`. */
 enum {
-    PATCH_BOX_ACCEPTED = 0,            /* no number is due */
-    PATCH_BOX_LENGTH = 1,              /* the file's length is not 8 + 16 * records, or it has more than 256 records */
-    PATCH_BOX_AREA_FACTOR = 2,         /* the area factor is over 16 */
-    PATCH_BOX_LINK = 3,                /* the first record, or a next one, is past the last record */
-    PATCH_BOX_RECORD_REPEATED = 4,     /* the chain meets a record a second time */
-    PATCH_BOX_TOO_MANY_VERTICES = 5,   /* the chain meets a 65th record */
-    PATCH_BOX_KIND = 6,                /* a record's kind is not 1 or 2 */
-    PATCH_BOX_NO_HEIGHT = 7,           /* a level point has no point before it */
-    PATCH_BOX_NOT_FINITE = 8,          /* a coordinate is infinite or not a number, or a level point's last four bytes are not zero */
+    PATCH_BOX_ACCEPTED = 0,            /* not refused */
+    PATCH_BOX_LENGTH = 1,              /* the length of the file does not fit its record count, or the count is over 256 */
+    PATCH_BOX_AREA_FACTOR = 2,         /* the area factor is more than 16 */
+    PATCH_BOX_LINK = 3,                /* a link leads past the last record */
+    PATCH_BOX_RECORD_REPEATED = 4,     /* a link leads back to a record of the chain */
+    PATCH_BOX_TOO_MANY_VERTICES = 5,   /* the chain has more than 64 records */
+    PATCH_BOX_KIND = 6,                /* a record is neither a point nor a level point */
+    PATCH_BOX_NO_HEIGHT = 7,           /* a level point comes before any point */
+    PATCH_BOX_NOT_FINITE = 8,          /* a coordinate is not finite, or the unused bytes of a level point are not zero */
     PATCH_BOX_OUT_OF_RANGE = 9,        /* a coordinate is not from -125 to 125 mm */
     PATCH_BOX_TOO_FEW_VERTICES = 10,   /* the rim has fewer than 3 vertices */
     PATCH_BOX_VERTEX_REPEATED = 11,    /* two vertices are at one grid point */
-    PATCH_BOX_COSPHERICAL = 12,        /* four vertices that count have a fifth on their sphere */
-    PATCH_BOX_TABLE_TOO_SHORT = 13,    /* a lent table has too few places */
-    PATCH_BOX_VERTEX_COUNT = 14,       /* a direct job's n is not from 3 to 64 */
-    PATCH_BOX_CANDIDATE = 15,          /* a direct job's candidate is not a < b < c < n, or not after the one before it */
-    PATCH_BOX_ROW = 16,                /* a direct job's row names no hanging pair, or is not after the one before it */
-    PATCH_BOX_WEIGHT = 17              /* a direct job's weight is over 2,000,000,000 */
+    PATCH_BOX_COSPHERICAL = 12,        /* five vertices, not all in one plane, are on a sphere that has no vertex inside */
+    PATCH_BOX_TABLE_TOO_SHORT = 13,    /* a lent table is too short */
+    PATCH_BOX_VERTEX_COUNT = 14,       /* the n of a direct job is not from 3 to 64 */
+    PATCH_BOX_CANDIDATE = 15,          /* the candidates of a direct job are not vertices a < b < c < n in rising order */
+    PATCH_BOX_ROW = 16,                /* the rows of a direct job are not hanging pairs in rising order */
+    PATCH_BOX_WEIGHT = 17              /* a weight of a direct job is more than 2,000,000,000 */
 };
 
-/* Vertices a < b < c. Candidates rise by a, then b, then c, and are numbered from 0 in that order. */
+/* Vertices a < b < c. Candidates stand in rising order, and a candidate's number is its place, from 0. */
 typedef struct {
     uint8_t a, b, c;
 } patch_box_candidate;
@@ -94,9 +94,9 @@ typedef struct {
 /* The sizes of a rim file's tables: a number of 1 to 12, or what patch_box_rim needs at least. */
 patch_box_sizes_answer patch_box_sizes(const uint8_t *file, size_t file_len);
 
-/* The one call: closes the rim of a rim file. A number of 1 to 13, or a patch, or 'none'. After a patch or 'none' the candidate, weight and row tables
- * hold the rim's lists in their first places, and the work table holds 0 in one place for each candidate. After a patch the triangle table holds the
- * patch's candidate numbers in walk order. */
+/* The one call: closes the rim of a rim file. A number of 1 to 13, or a patch, or 'none'. Unless it refuses, it leaves the rim's lists in the first
+ * places of the tables for candidates, weights and rows, and zeros in the work table, as many as there are candidates. A patch fills the triangle table
+ * with the numbers of its candidates, in walk order. */
 patch_box_patch_answer patch_box_rim(const uint8_t *file, size_t file_len,
                                      uint16_t *triangles, size_t triangles_len,
                                      patch_box_candidate *candidates, size_t candidates_len,
@@ -104,8 +104,8 @@ patch_box_patch_answer patch_box_rim(const uint8_t *file, size_t file_len,
                                      patch_box_row *rows, size_t rows_len,
                                      uint64_t *work, size_t work_len);
 
-/* The tiler alone, for a direct job: n vertices, and every place of the candidate and row tables belongs to its lists. A number of 13 to 17, or a patch,
- * or 'none'. The triangle table needs n - 2 places, the weight and work tables one for each candidate; triangles and work are filled as by patch_box_rim. */
+/* The tiler alone, for a direct job of n vertices, whose lists are the whole tables of candidates and rows. A number of 13 to 17, or a patch, or 'none'.
+ * It needs n - 2 places for triangles, and for weights and work as many as there are candidates; triangles and work are left as by patch_box_rim. */
 patch_box_patch_answer patch_box_job(size_t n,
                                      const patch_box_candidate *candidates, size_t candidates_len,
                                      const uint32_t *weights, size_t weights_len,

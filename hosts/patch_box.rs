@@ -48,7 +48,7 @@ pub const MAX_CANDIDATES: usize = 64 * 63 * 62 / 6;
 /// Places that suffice for the rows of every rim: two for each four of 64 vertices.
 pub const MAX_ROWS: usize = 2 * (64 * 63 * 62 * 61 / 24);
 
-/// Vertices a < b < c. Candidates ascend, and are numbered from 0 in that order.
+/// Vertices a < b < c. Candidates stand in rising order, and a candidate's number is its place.
 pub type Candidate = [u8; 3];
 
 /// (outer, inner, weight): the weight of the pair in which candidate `inner` hangs on `outer`.
@@ -117,23 +117,23 @@ macro_rules! numbers {
 }
 
 numbers! {
-    Length = 1, "the file's length is not 8 + 16 * records, or it has more than 256 records";
-    AreaFactor = 2, "the area factor is over 16";
-    Link = 3, "the first record, or a next one, is past the last record";
-    RecordRepeated = 4, "the chain meets a record a second time";
-    TooManyVertices = 5, "the chain meets a 65th record";
-    Kind = 6, "a record's kind is not 1 or 2";
-    NoHeight = 7, "a level point has no point before it";
-    NotFinite = 8, "a coordinate is infinite or not a number, or a level point's last four bytes are not zero";
+    Length = 1, "the length of the file does not fit its record count, or the count is over 256";
+    AreaFactor = 2, "the area factor is more than 16";
+    Link = 3, "a link leads past the last record";
+    RecordRepeated = 4, "a link leads back to a record of the chain";
+    TooManyVertices = 5, "the chain has more than 64 records";
+    Kind = 6, "a record is neither a point nor a level point";
+    NoHeight = 7, "a level point comes before any point";
+    NotFinite = 8, "a coordinate is not finite, or the unused bytes of a level point are not zero";
     OutOfRange = 9, "a coordinate is not from -125 to 125 mm";
     TooFewVertices = 10, "the rim has fewer than 3 vertices";
     VertexRepeated = 11, "two vertices are at one grid point";
-    Cospherical = 12, "four vertices that count have a fifth on their sphere";
-    TableTooShort = 13, "a lent table has too few places";
-    VertexCount = 14, "a direct job's n is not from 3 to 64";
-    Candidate = 15, "a direct job's candidate is not a < b < c < n, or not after the one before it";
-    Row = 16, "a direct job's row names no hanging pair, or is not after the one before it";
-    Weight = 17, "a direct job's weight is over 2,000,000,000";
+    Cospherical = 12, "five vertices, not all in one plane, are on a sphere that has no vertex inside";
+    TableTooShort = 13, "a lent table is too short";
+    VertexCount = 14, "the n of a direct job is not from 3 to 64";
+    Candidate = 15, "the candidates of a direct job are not vertices a < b < c < n in rising order";
+    Row = 16, "the rows of a direct job are not hanging pairs in rising order";
+    Weight = 17, "a weight of a direct job is more than 2,000,000,000";
 }
 
 impl Number {

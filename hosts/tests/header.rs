@@ -1,10 +1,11 @@
-//! patch_box.h and patch_box.rs say the same.
+//! patch_box.h, patch_box.rs and README.md say the same.
 
 #![forbid(unsafe_code)]
 
 use patch_box::{Number, MAX_CANDIDATES, MAX_FILE, MAX_ROWS, MAX_TRIANGLES, MAX_VERTICES};
 
 const HEADER: &str = include_str!("../patch_box.h");
+const README: &str = include_str!("../../README.md");
 
 /// The value and the comment of a constant of the header.
 fn constant(name: &str) -> (usize, &'static str) {
@@ -34,6 +35,7 @@ fn numbers() {
     for number in Number::ALL {
         let name = shouted(&format!("{number:?}"));
         assert_eq!(constant(&name), (number.code() as usize, number.reason()));
+        assert!(README.contains(&format!("| {} | {} |\n", number.code(), number.reason())));
         assert_eq!(Number::of_code(number.code()), Some(*number));
         assert_eq!(number.to_string(), format!("refused {}: {}", number.code(), number.reason()));
     }

@@ -128,7 +128,7 @@ fn check_record(record: Record, height: Option<i64>) -> Result<[i64; 3], (Number
         return Err((Number::NotFinite, format!("{axis} is {value}")));
     }
     if record.kind == LEVEL_POINT && z.to_bits() != 0 {
-        return Err((Number::NotFinite, "the level point's last four bytes are not zero".into()));
+        return Err((Number::NotFinite, "a level point with a third number".into()));
     }
     if let Some((axis, value)) = named.iter().find(|(_, value)| value.abs() > LIMIT) {
         return Err((Number::OutOfRange, format!("{axis} = {}", float(*value))));
@@ -191,7 +191,7 @@ impl Sphere {
     }
 }
 
-/// The fifth vertex on the sphere of four that count.
+/// Another vertex on the sphere of four that count (rules 2.3 and 4.12).
 fn fifth(points: &[Vector], four: [usize; 4]) -> Option<usize> {
     let sphere = Sphere::through(four.map(|k| points[k]))?;
     let mut on = None;
@@ -214,8 +214,8 @@ fn check_spheres(vertices: &[Vertex]) -> Result<(), Due> {
                 for d in c + 1..n {
                     if let Some(e) = fifth(&points, [a, b, c, d]) {
                         let place = format!(
-                            "vertices {a}, {b}, {c}, {d} and then {e}; \
-                             moving one of the five by 0.125 mm can help"
+                            "vertices {a}, {b}, {c}, {d} and {e}; \
+                             moving one of them by 0.125 mm can help"
                         );
                         due(Number::Cospherical, place)?;
                     }

@@ -8,7 +8,7 @@ use patch_box::{Candidate, Number, Outcome, OwnedTables, Row};
 pub struct Triangle {
     pub vertices: Candidate,
     pub area_weight: u32,
-    /// Of the row to the triangle that it hangs on; 0 for the first.
+    /// Of the row to the triangle that it hangs on; the first hangs on none, and has 0.
     pub bend_weight: u32,
 }
 

@@ -74,7 +74,7 @@ fn every_number_of_a_file_with_its_place() {
         (
             damaged(42, &[2]),
             Number::NotFinite,
-            "record 3, vertex 2: the level point's last four bytes are not zero",
+            "record 3, vertex 2: a level point with a third number",
         ),
         (
             damaged(32, &(-125.5f32).to_le_bytes()),
@@ -100,7 +100,7 @@ fn every_number_of_a_file_with_its_place() {
     assert!(list.ends_with(&format!("the header says 8257 records; {hint}\n")), "{list}");
     assert_eq!(list.lines().count(), 3, "{list}");
     let cube = run(&["show", "-"], &bytes_of("cube5.rim")).text();
-    let place = "vertices 0, 1, 2, 4 and then 3; moving one of the five by 0.125 mm can help";
+    let place = "vertices 0, 1, 2, 4 and 3; moving one of them by 0.125 mm can help";
     assert!(cube.ends_with(&format!("{}: {place}\n", Number::Cospherical)), "{cube}");
 }
 
