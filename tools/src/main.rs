@@ -47,8 +47,7 @@ fn closed(place: &Place) -> Result<Patch, Failure> {
 /// The mesh of a patch that has triangles.
 fn milled(place: &Place, write: fn(&Patch) -> String) -> Result<Vec<u8>, Failure> {
     let patch = closed(place)?;
-    if patch.triangles.is_empty() {
-        let why = "none: the candidates hold no triangulation of the rim";
+    if let Some(why) = patch.none {
         return Err(Failure::Refused(format!("{}: {why}", place.name())));
     }
     Ok(write(&patch).into_bytes())

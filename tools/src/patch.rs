@@ -18,6 +18,26 @@ pub struct Patch {
     pub vertices: Vec<[i64; 3]>,
     pub triangles: Vec<Triangle>,
     pub total: u64,
+    /// Why there is nothing to mill, where that is so.
+    pub none: Option<String>,
+}
+
+/// Why the answer is 'none'. A rim has no candidates when it is flat (rule 2.5); a rim edge that is in
+/// no candidate cannot be closed (rule 3.3).
+fn why_none(vertices: usize, candidates: &[Candidate]) -> String {
+    if candidates.is_empty() {
+        return "none: the rim is flat, so it has no candidates".into();
+    }
+    let mut rim_edges = (0..vertices).map(|k| [k, (k + 1) % vertices]);
+    let open = rim_edges.find(|edge| {
+        !candidates.iter().any(|t| edge.iter().all(|&vertex| t.contains(&(vertex as u8))))
+    });
+    match open {
+        Some([i, j]) => format!(
+            "none: no candidate has the rim edge from {i} to {j}; a further point on it can help"
+        ),
+        None => "none: the candidates hold no triangulation of the rim".into(),
+    }
 }
 
 /// The i-th triangle of the patch. Its row is the one whose outer is in the patch too.
@@ -39,9 +59,11 @@ pub fn close(file: &[u8]) -> Result<Patch, Number> {
         Outcome::None => (0, 0),
         Outcome::Patch { triangles, total } => (triangles, total),
     };
+    let vertices: Vec<_> = diagnose(file).vertices.iter().map(|vertex| vertex.point).collect();
     Ok(Patch {
-        vertices: diagnose(file).vertices.iter().map(|vertex| vertex.point).collect(),
         triangles: (0..count).map(|i| triangle(&tables, i)).collect(),
         total,
+        none: (count == 0).then(|| why_none(vertices.len(), &tables.candidates)),
+        vertices,
     })
 }

@@ -189,10 +189,11 @@ impl Drawing<'_> {
         self.scale_bar(top);
         self.axes(top + 22.0);
         let (vertices, triangles) = (self.points.len(), self.patch.triangles.len());
-        let outcome = if triangles == 0 {
-            format!("{vertices} vertices; none: the candidates hold no triangulation")
-        } else {
-            format!("{vertices} vertices, {triangles} triangles, total {}", self.patch.total)
+        let outcome = match &self.patch.none {
+            Some(why) => format!("{vertices} vertices; {why}"),
+            None => {
+                format!("{vertices} vertices, {triangles} triangles, total {}", self.patch.total)
+            }
         };
         let back = (0..triangles).any(|t| self.facing(t) < 0.0);
         let back = if back { "; blue is the back" } else { "" };

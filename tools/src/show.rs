@@ -89,8 +89,8 @@ fn shown_vertices(vertices: &[Vertex]) -> String {
 }
 
 fn shown_patch(patch: &Patch) -> String {
-    if patch.triangles.is_empty() {
-        return String::from("none: the candidates hold no triangulation of the rim\n");
+    if let Some(why) = &patch.none {
+        return format!("{why}\n");
     }
     let mut text = format!(
         "patch of {} triangles, total {}\n\n     a      b      c  area weight  bend weight\n",

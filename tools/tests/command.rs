@@ -115,12 +115,17 @@ fn a_closed_pipe_is_a_failure() {
 
 #[test]
 fn rims_without_a_patch() {
-    let none = "standard input: none: the candidates hold no triangulation of the rim";
+    let none = "standard input: none: the rim is flat, so it has no candidates";
     for command in ["stl", "obj"] {
         run(&[command, "-"], &bytes_of("flat5.rim")).refused(1, none);
     }
     let picture = run(&["draw", "-"], &bytes_of("flat5.rim")).done().text();
-    assert!(picture.contains("none: the candidates hold no triangulation"));
+    assert!(picture.contains("5 vertices; none: the rim is flat, so it has no candidates"));
+    let list = b"-55 -65 30\n30 -8 31\n72 43 -53\n14 6 88\n34 95 -6\n51 -9 -7\n14 -58 93\n";
+    let rim = run(&["make", "-"], list).done().out;
+    let open = "none: no candidate has the rim edge from 1 to 2; a further point on it can help";
+    run(&["stl", "-"], &rim).refused(1, &format!("standard input: {open}"));
+    assert!(run(&["show", "-"], &rim).done().text().ends_with(&format!("\n{open}\n")));
     for command in ["draw", "stl", "obj"] {
         let line = "standard input: refused 9: a coordinate is not from -125 to 125 mm: record 4, vertex 3: y = 126";
         run(&[command, "-"], &bytes_of("out-of-range.rim")).refused(1, line);
