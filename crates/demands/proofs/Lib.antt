@@ -4,3 +4,4 @@ pub mod Demand1
 pub mod Demands
 pub mod Sizes
 pub mod Cases
+pub mod Starred

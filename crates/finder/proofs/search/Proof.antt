@@ -11,7 +11,7 @@ use Rattle.lists.proofs.Choice.{yes, no}
 use Rattle.polygon.specs.declared.Polygon.{Polygon}
 use Rattle.polygon.specs.Polygon.{codeOf, Valid}
 use Rattle.polygon.proofs.Validity.{code-valid}
-use Rattle.faces.specs.Faces.{has}
+use Rattle.faces.specs.Masks.{has}
 use Rattle.faces.proofs.Sets.{none-in}
 use Rattle.delaunay.proofs.Marking.{listed-are}
 use Rattle.finder.specs.Finding.{numberDue}
