@@ -114,7 +114,7 @@ answerP a c w r =
     let s = settled a (length c) (lentP .triangles) (lentP .work) in
     patching (s .outcome) (tables (s .triangles) (filled c (lentP .candidates)) (filled w (lentP .weights)) (filled r (lentP .rows)) (s .work))
 
-file-P : patchFile fileP lentP ≡ answerP (patch 469 (1 ∷ 3 ∷ [])) triplesP (80 ∷ 64 ∷ 80 ∷ 93 ∷ []) (triple 1 3 312 ∷ triple 2 0 360 ∷ [])
+pub file-P : patchFile fileP lentP ≡ answerP (patch 469 (1 ∷ 3 ∷ [])) triplesP (80 ∷ 64 ∷ 80 ∷ 93 ∷ []) (triple 1 3 312 ∷ triple 2 0 360 ∷ [])
 unfolding patchFile
 file-P =
     ap (λ (k : ℕ). patchBy k (polygonOf fileP) lentP) none-due
