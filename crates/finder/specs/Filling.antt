@@ -1,4 +1,4 @@
--- What the private functions say to each other: nothing here has to be believed. Definitions only.
+-- What the private functions say to each other; nobody has to believe it.
 use mathlib.Core.Path.{_≡_}
 use mathlib.Core.Bool.{cond, false}
 use mathlib.Core.List.{List}

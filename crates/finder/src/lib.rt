@@ -2,10 +2,9 @@
 use polygon::Polygon;
 ghost use mathlib.Core.Path.{_≡_};
 ghost use Prim.Native.Nat.{_≤_};
-ghost use lib.ListN.{replicate};
 ghost use Rattle.terms.specs.Limits.{minVertices, maxVertices};
 ghost use Rattle.faces.specs.Faces.{triplesOf};
-ghost use Rattle.faces.specs.Masks.{has};
+ghost use Rattle.faces.specs.Masks.{has, emptySet};
 ghost use Rattle.dihedrals.specs.Lists.{Solid};
 ghost use Rattle.finder.specs.Finding.{numberOf, candidateCountOf, rowCountOf, valuesOf, dueValues, finding, findNumber, findCall, besideNumber, findBesideCall};
 ghost use Rattle.finder.specs.Sizes.{sizesOf};
@@ -18,7 +17,7 @@ pub enum Found {
 }
 
 impl Found {
-    // The number of document 01; 0 where the lists were found.
+    // The number of a refusal; 0 where the lists were found.
     pub fn number(self) -> u32
         ensures { λ r. ⌜ r ≡ numberOf self ⌝ }
     {
@@ -70,8 +69,8 @@ pub enum Sizes {
 }
 
 // The number due on the polygon, then 12, else 0: then the candidates are in the set.
-fn search(p: Polygon, masks: &mut [u64; 4096]) -> u32
-    requires { ⌜ now masks ≡ replicate 4096 0 ⌝ }
+fn search(p: Polygon, masks: &mut [u64; faces::PAIRS]) -> u32
+    requires { ⌜ now masks ≡ emptySet ⌝ }
     ensures { λ r. ⌜ Searched p r (now (masks .exit)) ⌝ }
 {
     let code = polygon::polygon_code(p);
@@ -84,7 +83,7 @@ fn search(p: Polygon, masks: &mut [u64; 4096]) -> u32
     0
 }
 
-fn count_places(n: usize, masks: &[u64; 4096]) -> Places
+fn count_places(n: usize, masks: &[u64; faces::PAIRS]) -> Places
     requires { ⌜ (minVertices ≤ n) × (n ≤ maxVertices) ⌝ }
     ensures { λ r. ⌜ r ≡ placesFor n (triplesOf n (has (now (masks .entry)))) ⌝ }
 {
@@ -101,7 +100,7 @@ fn count_places(n: usize, masks: &[u64; 4096]) -> Places
 pub fn table_sizes(p: Polygon) -> Sizes
     ensures { λ r. ⌜ r ≡ sizesOf p ⌝ }
 {
-    let mut masks = [0u64; 4096];
+    let mut masks = [0u64; faces::PAIRS];
     let number = search(p, &mut masks);
     if number != 0 {
         return Sizes::Refused(number);
@@ -114,7 +113,7 @@ pub fn table_sizes(p: Polygon) -> Sizes
 // Writes the lists of the set's triangles. The weight table holds the lengths of the normals until the rows are made.
 fn write_lists(
     p: Polygon,
-    masks: &[u64; 4096],
+    masks: &[u64; faces::PAIRS],
     candidates: &mut [[u8; 3]],
     weights: &mut [u32],
     rows: &mut [[u32; 3]],
@@ -135,7 +134,7 @@ fn write_lists(
 // 13, or the lists of the set's triangles. They are counted first: all tables are tested before one is written.
 fn fill(
     p: Polygon,
-    masks: &[u64; 4096],
+    masks: &[u64; faces::PAIRS],
     triangle_places: usize,
     work_places: usize,
     candidates: &mut [[u8; 3]],
@@ -185,7 +184,7 @@ pub fn find_beside(
     ensures { λ r. ⌜ finding r (now (candidates .exit)) (now (weights .exit)) (now (rows .exit)) ≡ findBesideCall p «triangle_places» «work_places» (now (candidates .entry)) (now (weights .entry)) (now (rows .entry)) ⌝ }
     ensures { λ r. ⌜ valuesOf r ≡ dueValues (besideNumber p «triangle_places» «work_places» (now (candidates .entry)) (now (weights .entry)) (now (rows .entry))) p ⌝ }
 {
-    let mut masks = [0u64; 4096];
+    let mut masks = [0u64; faces::PAIRS];
     let number = search(p, &mut masks);
     if number != 0 {
         return Found::Refused(number);
