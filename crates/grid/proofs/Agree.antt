@@ -10,7 +10,7 @@ use Rattle.grid.specs.declared.GridNumber.the-variants.{Value, NotFinite
 use Rattle.grid.specs.Number.{finite, numerator, denominator, negative, inRange, roundEighths, gridNumberOf}
 use Rattle.grid.specs.Pattern.{gridFraction, gridNumberOfBits, units}
 use Rattle.grid.proofs.Value.{bits-value, grid-value}
-use Rattle.grid.proofs.Product.{bits-not-finite}
+use Rattle.grid.proofs.Patterns.{bits-not-finite}
 
 pub bits-agree : (b : ℕ) → gridNumberOf (ofBits binary32 b) ≡ gridNumberOfBits b
 bits-agree b = go (leb 2139095040 (b % 2147483648)) (leb→le 2139095040 (b % 2147483648)) (nleb→lt 2139095040 (b % 2147483648))
@@ -20,12 +20,16 @@ bits-agree b = go (leb 2139095040 (b % 2147483648)) (leb→le 2139095040 (b % 21
     go true h k = bits-not-finite b (h tt)
     go false h k = grid-value (ofBits binary32 b) (leb 2147483648 b) (units (b % 2147483648)) (2 ^ 149) (pow-pos 149) (bits-value b (k tt))
 
--- 125.0, the next above, 0.0625 (a tie, to 0), -0.3125 (a tie, to -2), the least subnormal, an infinity
+-- 125.0, the next above, the largest finite float (its product overflows), 0.0625 (a tie, to 0), -0.3125 (a tie, to -2), the least
+-- subnormal, minus zero, an infinity
 at-125 : gridNumberOfBits 0x42fa_0000 ≡ Value (pos 1000)
 at-125 = refl
 
 above-125 : gridNumberOfBits 0x42fa_0001 ≡ OutOfRange
 above-125 = refl
+
+largest : gridNumberOfBits 0x7f7f_ffff ≡ OutOfRange
+largest = refl
 
 tie-to-0 : gridNumberOfBits 0x3d80_0000 ≡ Value (pos 0)
 tie-to-0 = refl

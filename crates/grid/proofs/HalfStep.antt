@@ -1,18 +1,20 @@
--- The grid number is at most half a step from the exact 8v, and within the grid where 8v is in range. Assumes nothing.
+-- The grid number is at most half a step from the exact 8v, at a half it is even, and where 8v is in range it is within the grid. Assumes nothing.
 use mathlib.Core.Path.{_≡_, refl, sym, ap, _∙_, subst}
+use mathlib.Core.Logic.{_⊎_, inl, inr}
 use Prim.Native.Nat.{ℕ, zero, suc, _+_, _-_, _*_, _/_, _%_, _≤_, _<_, compare, Ordering, Ordering·lt, Ordering·eq, Ordering·gt}
 use native.Mathlib.Nat.{div-add-mod', mod-lt, suc-mul, mul-one, le-trans, le-of-eq, zero-lt-suc}
 use native.Mathlib.Omega.{arith}
 use mathlib.Core.Bool.{Bool, true, false, not, cond}
 use borrow.Author.Tests.{leb-true, ltb-true, ltb-false}
 use lib.IntN.{ℤ, pos, negsuc, negℤ, natAbs, _-ℤ_, _*ℤ_, negℤ-+ℤ, negsuc-*ℤ-pos, pos-*ℤ-pos}
-use lib.Dec.{T, isLe, isEq, leb→le, nleb→lt, eqb→eq, leb, ltb}
+use lib.Dec.{T, isLe, isEq, leb→le, nleb→lt, eqb→eq, ltb}
 use lib.Ieee.{Float, nan, inf, fin, nearest}
 use lib.Ieee.Fits.{down-pos}
 use lib.Ieee.Nearest.{closest, closest-mono}
 use Rattle.grid.specs.declared.GridNumber.the-variants.{Value}
-use Rattle.grid.specs.Number.{finite, numerator, denominator, negative, signed, inRange, roundEighths, gridNumberOf, HalfStep}
+use Rattle.grid.specs.Number.{finite, numerator, denominator, negative, signed, inRange, roundEighths, gridNumberOf, HalfStep, EvenHalf}
 use Rattle.grid.specs.Point.{OnGrid}
+use Rattle.grid.proofs.Round.{tie}
 
 -- ---- g is at most half a step from a / b
 record Near (a b g : ℕ) : Type 0 where
@@ -55,9 +57,9 @@ natAbs-neg (pos zero) = refl
 natAbs-neg (pos (suc n)) = refl
 natAbs-neg (negsuc n) = refl
 
-distance : (x y k : ℕ) → 2 * x ≤ 2 * y + k → 2 * y ≤ 2 * x + k → 2 * natAbs (pos x -ℤ pos y) ≤ k
-distance x zero k h l = omega arith
-distance x (suc y) k h l = go (ltb x (suc y)) (ltb-true x (suc y)) (ltb-false x (suc y))
+difference-le : (x y k : ℕ) → 2 * x ≤ 2 * y + k → 2 * y ≤ 2 * x + k → 2 * natAbs (pos x -ℤ pos y) ≤ k
+difference-le x zero k h l = omega arith
+difference-le x (suc y) k h l = go (ltb x (suc y)) (ltb-true x (suc y)) (ltb-false x (suc y))
   where
     go : (t : Bool) → (t ≡ true → x < suc y) → (t ≡ false → suc y ≤ x) → 2 * natAbs (cond t (negsuc (suc y - suc x)) (pos (x - suc y))) ≤ k
     go true a b = let c = a refl in omega arith
@@ -83,7 +85,7 @@ denominator-pos nan = zero-lt-suc 0
 denominator-pos (inf s) = zero-lt-suc 0
 denominator-pos (fin s m e) = down-pos e
 
--- "The grid number is a whole number at most half a step from 8v."
+-- rule 1.10: the grid number is at most half a step from 8v
 pub half-step : (v : Float) → finite v ≡ true → HalfStep v (roundEighths v)
 unfolding roundEighths
 half-step v f =
@@ -91,13 +93,57 @@ half-step v f =
     let b = denominator v in
     let g = closest a b in
     let n = near a b (denominator-pos v) in
-    record { near = subst (λ (k : ℕ). 2 * k ≤ b) (sym (signed-distance (negative v) g b a)) (distance (g * b) a b (n .low) (n .high)) }
+    record { near = subst (λ (k : ℕ). 2 * k ≤ b) (sym (signed-distance (negative v) g b a)) (difference-le (g * b) a b (n .low) (n .high)) }
 
--- ---- in range, it is on the grid
+-- ---- at a half it is even
+apart : (x y : ℕ) → (x + natAbs (pos x -ℤ pos y) ≡ y) ⊎ (y + natAbs (pos x -ℤ pos y) ≡ x)
+apart x zero = inr (omega arith)
+apart x (suc y) = by (ltb x (suc y)) (ltb-true x (suc y)) (ltb-false x (suc y))
+  where
+    by : (t : Bool) → (t ≡ true → x < suc y) → (t ≡ false → suc y ≤ x) → let d = natAbs (cond t (negsuc (suc y - suc x)) (pos (x - suc y))) in (x + d ≡ suc y) ⊎ (suc y + d ≡ x)
+    by true h k = let l = h refl in inl (omega arith)
+    by false h k = let l = k refl in inr (omega arith)
+
+-- a is q times b and r over: half a step from q, or from the next, is where twice r is b
+half-of : (a b q r d : ℕ) → q * b + r ≡ a → 2 * d ≡ b → (q * b + d ≡ a) ⊎ (a + d ≡ q * b) → r * 2 ≡ b
+half-of a b q r d e h (inl p) = omega arith
+half-of a b q r d e h (inr p) = omega arith
+
+half-of-next : (a b q r d : ℕ) → q * b + r ≡ a → r < b → 2 * d ≡ b → (suc q * b + d ≡ a) ⊎ (a + d ≡ suc q * b) → r * 2 ≡ b
+half-of-next a b q r d e l h (inl p) = let s : suc q * b ≡ q * b + b = suc-mul q b in omega arith
+half-of-next a b q r d e l h (inr p) = let s : suc q * b ≡ q * b + b = suc-mul q b in omega arith
+
+tie-even : (a b : ℕ) → 0 < b → 2 * natAbs (pos (closest a b * b) -ℤ pos a) ≡ b → closest a b % 2 ≡ 0
+tie-even a b B h =
+    let t : a % b * 2 ≡ b = half (compare (a % b * 2) b) (eqb→eq (a % b * 2) b) h in
+    ap (λ (n : ℕ). n % 2) (sym (tie a b (le-of-eq (sym t)) (le-of-eq t))) ∙ even (a / b)
+  where
+    half : (o : Ordering) → (T (isEq o) → a % b * 2 ≡ b) → 2 * natAbs (pos (nearest (a / b) o * b) -ℤ pos a) ≡ b → a % b * 2 ≡ b
+    half Ordering·lt e d = half-of a b (a / b) (a % b) (natAbs (pos (a / b * b) -ℤ pos a)) (div-add-mod' a b) d (apart (a / b * b) a)
+    half Ordering·eq e d = e tt
+    half Ordering·gt e d = half-of-next a b (a / b) (a % b) (natAbs (pos (suc (a / b) * b) -ℤ pos a)) (div-add-mod' a b) (mod-lt a B) d (apart (suc (a / b) * b) a)
+
+    even : (q : ℕ) → (q + q % 2) % 2 ≡ 0
+    even q = omega arith
+
 natAbs-signed : (s : Bool) (n : ℕ) → natAbs (signed s n) ≡ n
 natAbs-signed true n = natAbs-neg (pos n)
 natAbs-signed false n = refl
 
+-- rule 1.10: half way between two whole numbers the grid number is the even one
+pub even-half : (v : Float) → EvenHalf v (roundEighths v)
+unfolding roundEighths
+even-half v =
+    let a = numerator v in
+    let b = denominator v in
+    let g = closest a b in
+    record {
+      even = λ h.
+          ap (λ (n : ℕ). n % 2) (natAbs-signed (negative v) g)
+          ∙ tie-even a b (denominator-pos v) (ap (λ (n : ℕ). 2 * n) (sym (signed-distance (negative v) g b a)) ∙ h);
+    }
+
+-- ---- in range, it is on the grid
 pub in-range-on-grid : (v : Float) → inRange v ≡ true → OnGrid (roundEighths v)
 unfolding inRange roundEighths
 in-range-on-grid v h =
@@ -106,7 +152,7 @@ in-range-on-grid v h =
     let r : a ≤ 1000 * b = leb-true a (1000 * b) h in
     record { size = le-trans (le-of-eq (natAbs-signed (negative v) (closest a b))) (closest-mono a b 1000 1 (denominator-pos v) (zero-lt-suc 0) (le-trans (le-of-eq (mul-one a)) r)) }
 
--- "Minus zero is zero."
+-- rule 1.10: that of minus zero is 0
 pub minus-zero : gridNumberOf (fin true 0 (pos 0)) ≡ Value (pos 0)
 unfolding gridNumberOf finite inRange roundEighths numerator denominator negative
 minus-zero = refl

@@ -1,5 +1,6 @@
 pub mod Value
 pub mod Round
+pub mod Patterns
 pub mod Product
 pub mod Signs
 pub mod Agree

@@ -1,7 +1,7 @@
 -- The test for a NaN, and a number below 2 ^ 63 as an i64, with a sign. Assumes nothing.
 use mathlib.Core.Path.{_≡_, refl, sym, ap, _∙_, subst}
 use mathlib.Core.Bool.{Bool, true, false, not}
-use Prim.Native.Nat.{ℕ, zero, suc, _^_, _≤_, _<_}
+use Prim.Native.Nat.{ℕ, zero, suc, _^_, _<_}
 use native.Mathlib.Omega.{arith}
 use lib.IntN.{ℤ, pos, negℤ, _-ℤ_, +ℤ-idl}
 use lib.Signed.{mag}
@@ -25,9 +25,6 @@ no-nan-left x h = go (isNan x) refl
     go : (t : Bool) → isNan x ≡ t → T (not t)
     go true e = absurd (subst T (sym nan-differs ∙ ap (λ (y : Float). ne y y) (sym (nan-is x e)) ∙ h) tt)
     go false e = tt
-
-pub small : {n m : ℕ} → n ≡ m → m ≤ 1001 → n < 2 ^ 63
-small {n} {m} e h = omega arith
 
 mag-neg : (n : ℕ) → n < 2 ^ 63 → mag (negℤ (pos n)) < 2 ^ 63
 mag-neg zero h = h

@@ -53,7 +53,7 @@ value-unique nan s t a b c h k = absurd h
 value-unique (inf u) s t a b c h k = absurd h
 value-unique (fin u m e) s t a b c h k = (sym (h .0) ∙ k .0, eq-of-mul-eq-mul-right (down e) (down-pos e) a b (sym (h .1) ∙ k .1))
 
--- ---- equal fractions have the same step
+-- ---- equal fractions have one grid number
 bool-same : (p q : Bool) → (T p → T q) → (T q → T p) → p ≡ q
 bool-same true true f g = refl
 bool-same true false f g = absurd (f tt)

@@ -1,5 +1,6 @@
--- The grid number of a float, from its exact value. A finite float is ± m * 2 ^ e, and 2 ^ e is the fraction up e / down e (`lib.Ieee`). Definitions only.
-use Prim.Native.Nat.{ℕ, _*_, _≤_}
+-- The grid number of a float, from its exact value v. A finite float is ± m * 2 ^ e, and 2 ^ e is the fraction up e / down e (`lib.Ieee`). Definitions only.
+use mathlib.Core.Path.{_≡_}
+use Prim.Native.Nat.{ℕ, _*_, _%_, _≤_}
 use mathlib.Core.Bool.{Bool, true, false, cond}
 use lib.IntN.{ℤ, pos, negℤ, natAbs, _-ℤ_, _*ℤ_}
 use lib.Dec.{leb}
@@ -8,13 +9,13 @@ use lib.Ieee.Nearest.{closest}
 use Rattle.grid.specs.declared.GridNumber.{GridNumber}
 use Rattle.grid.specs.declared.GridNumber.the-variants.{Value, NotFinite, OutOfRange}
 
--- "a used number is infinite or not a number": the value is neither
+-- rule 4.8: neither an infinity nor a NaN
 unfoldable pub finite : Float → Bool
 finite nan = false
 finite (inf s) = false
 finite (fin s m e) = true
 
--- "v the exact value of the float": 8 |v| is the fraction numerator v / denominator v, and v is below zero, or minus zero, where negative v
+-- 8 |v| as a fraction, numerator v / denominator v; v is below zero, or minus zero, where negative v
 unfoldable pub numerator : Float → ℕ
 numerator nan = 0
 numerator (inf s) = 0
@@ -30,26 +31,34 @@ negative nan = false
 negative (inf s) = s
 negative (fin s m e) = s
 
--- a whole number with a sign; "minus zero is zero"
+-- a whole number with a sign; minus zero is 0
 abbrev pub signed : Bool → ℕ → ℤ
 signed true n = negℤ (pos n)
 signed false n = pos n
 
--- "8v must be within -1000 to 1000 before any rounding"
+-- rule 1.9: 8v, before it is rounded, is from -1000 to 1000
 unfoldable pub inRange : Float → Bool
 unfolding numerator denominator
 inRange v = leb (numerator v) (1000 * denominator v)
 
--- "The grid number is a whole number at most half a step from 8v"; at an exact half, where either neighbour will do, it is the even one
+-- rule 1.10: the whole number nearest to 8v, at a half the even one (`closest`)
 unfoldable pub roundEighths : Float → ℤ
 unfolding numerator denominator negative
 roundEighths v = signed (negative v) (closest (numerator v) (denominator v))
 
--- "8 a used number is infinite or not a number", then "9 8v is out of range", else the grid number
+-- rules 4.8 and 4.9, in this order; where neither is due, the grid number
 unfoldable pub gridNumberOf : Float → GridNumber
 unfolding finite inRange roundEighths
 gridNumberOf v = cond (finite v) (cond (inRange v) (Value (roundEighths v)) OutOfRange) NotFinite
 
--- "at most half a step from 8v": | g - 8v | ≤ 1 / 2, times twice the denominator
+-- How far a whole number g is from 8v: | g - 8v | times the denominator, which is a whole number.
+abbrev pub distance : ℤ → Float → ℕ
+distance g v = natAbs ((g *ℤ pos (denominator v)) -ℤ signed (negative v) (numerator v))
+
+-- rule 1.10: g is at most half a step from 8v
 pub record HalfStep (v : Float) (g : ℤ) : Type 0 where
-  pub near : 2 * natAbs ((g *ℤ pos (denominator v)) -ℤ signed (negative v) (numerator v)) ≤ denominator v
+  pub near : 2 * distance g v ≤ denominator v
+
+-- rule 1.10: where g is exactly half a step from 8v, it is even
+pub record EvenHalf (v : Float) (g : ℤ) : Type 0 where
+  pub even : 2 * distance g v ≡ denominator v → natAbs g % 2 ≡ 0

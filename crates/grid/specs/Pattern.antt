@@ -19,10 +19,10 @@ exponent (suc e) = e
 abbrev pub units : ℕ → ℕ
 units c = significand (c / 8388608) (c % 8388608) * 2 ^ exponent (c / 8388608)
 
--- the grid number for a value of the size a / 8b: within the range, or not
+-- rules 1.9 and 1.10 for a value of the sign s and the size a / 8b
 abbrev pub gridFraction : Bool → ℕ → ℕ → GridNumber
 gridFraction s a b = cond (leb a (1000 * b)) (Value (signed s (closest a b))) OutOfRange
 
--- the grid number from a pattern alone; proofs/Agree.antt shows that it is that of the pattern's value
+-- rules 1.9, 1.10 and 4.8 from a pattern alone; that this is the grid number of its value: `bits-agree` of proofs/Agree.antt
 abbrev pub gridNumberOfBits : ℕ → GridNumber
 gridNumberOfBits b = cond (leb 2139095040 (b % 2147483648)) NotFinite (gridFraction (leb 2147483648 b) (8 * units (b % 2147483648)) (2 ^ 149))

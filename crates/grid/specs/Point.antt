@@ -1,27 +1,29 @@
--- Grid points. Definitions only.
+-- Grid points, in steps of the grid. Definitions only.
 use Prim.Native.Nat.{_≤_}
 use mathlib.Core.Bool.{Bool, _&&_}
 use lib.IntN.{ℤ, pos, negsuc, natAbs}
 use lib.Signed.{leZ}
 use Rattle.grid.specs.declared.GridPoint.{GridPoint}
 
+-- rule 1.11: a grid point by its three coordinates
 abbrev pub point : ℤ → ℤ → ℤ → GridPoint
 point x y z = record { x = x; y = y; z = z }
 
+-- rule 1.11: the two ends of the grid
 abbrev pub lowest : ℤ
 lowest = negsuc 999
 
 abbrev pub highest : ℤ
 highest = pos 1000
 
--- "grid coordinates run from -1000 to 1000": as a fact, and as a test
+-- rule 1.11: c is from -1000 to 1000, as a fact and as a test (that they agree: `on-grid` and `on-grid-test` of proofs/Points.antt)
 pub record OnGrid (c : ℤ) : Type 0 where
   pub size : natAbs c ≤ 1000
 
 abbrev pub coordinateOnGrid : ℤ → Bool
 coordinateOnGrid c = leZ lowest c && leZ c highest
 
--- the same of a point's three coordinates
+-- rule 1.11: each coordinate of a point is, as a fact and as a test
 pub record PointOnGrid (p : GridPoint) : Type 0 where
   pub x : OnGrid (p .x)
   pub y : OnGrid (p .y)

@@ -98,25 +98,25 @@ fn rounded(pattern: u32) -> u32
     closest(0x80_0000 + pattern % 0x80_0000, 1 << shift)
 }
 
-// The grid number of a value in millimetres. The range is tested on v itself, before any rounding
-// (0x42fa_0000 is 125.0), and within it v * 8.0 is exact.
+// The grid number of a value in millimetres (rules 1.9 and 1.10). v * 8.0 is exact, or overflows to an infinity: its pattern is above
+// that of 1000.0 (0x447a_0000) exactly where 8v is out of range. Whether a value is finite is asked of v, so an overflow is out of range.
 pub fn grid_number(v: f32) -> GridNumber
     ensures { λ r. ⌜ r ≡ gridNumberOf v ⌝ }
 {
     if v != v {
         return GridNumber::NotFinite;
     }
-    let bits = f32::to_bits(v);
-    let size = bits % 0x8000_0000;
+    let size = f32::to_bits(v) % 0x8000_0000;
     if 0x7f80_0000 <= size {
         return GridNumber::NotFinite;
     }
-    if 0x42fa_0000 < size {
+    let eighths = v * 8.0;
+    let bits = f32::to_bits(eighths);
+    let pattern = bits % 0x8000_0000;
+    if 0x447a_0000 < pattern {
         return GridNumber::OutOfRange;
     }
-    let eighths = v * 8.0;
-    let pattern = f32::to_bits(eighths);
-    let number = rounded(pattern % 0x8000_0000) as i64;
+    let number = rounded(pattern) as i64;
     if bits < 0x8000_0000 {
         GridNumber::Value(number)
     } else {

@@ -1,4 +1,4 @@
-// Whole root, floor division and clamp.
+// Roots and quotients cut to whole numbers, and the clamp to a range (rules 2.7 and 2.10).
 ghost use mathlib.Core.Path.{_≡_};
 ghost use Prim.Native.Nat.{_<_, _^_};
 ghost use lib.IntN.{pos, natAbs};
@@ -6,7 +6,8 @@ ghost use lib.Signed.{_<ℤ_};
 ghost use Rattle.integers.specs.Bounds.{AtMost};
 ghost use Rattle.integers.specs.Rounding.{floorRoot, floorDiv, clamped};
 
-// The whole part of the square root: it is at least `root` and below root + span. A round takes the machine no branch, which it could not foresee.
+// The square root, cut down to a whole number: it is at least `root` and below root + span. A round takes the machine no branch,
+// which it could not foresee.
 pub fn floor_root(x: u64) -> u64
     requires { ⌜ x < 2 ^ 52 ⌝ }
     ensures { λ r. ⌜ r ≡ floorRoot x ⌝ }
@@ -23,7 +24,7 @@ pub fn floor_root(x: u64) -> u64
     root
 }
 
-// n / k, rounded toward minus infinity. The machine rounds toward zero: one too many where the remainder is below zero.
+// n / k, rounded down. The machine rounds toward zero: one too many where the remainder is below zero.
 pub fn floor_div(n: i64, k: i64) -> i64
     requires { ⌜ (AtMost 4000000000000000000 n) × (pos 0 <ℤ k) ⌝ }
     ensures { λ r. ⌜ r ≡ floorDiv n (natAbs k) ⌝ }
@@ -32,7 +33,7 @@ pub fn floor_div(n: i64, k: i64) -> i64
     if n % k < 0 { q - 1 } else { q }
 }
 
-// x, held within low to high.
+// x, or the nearer end of low to high where x is outside.
 pub fn clamp(x: i64, low: i64, high: i64) -> i64
     ensures { λ r. ⌜ r ≡ clamped low high x ⌝ }
 {

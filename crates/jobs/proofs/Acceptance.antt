@@ -1,6 +1,6 @@
 -- A direct job is accepted exactly when its number is 0, and the number is exactly the first that is due. Assumes nothing.
 use mathlib.Core.Path.{_≡_, refl, sym, ap, _∙_, subst}
-use mathlib.Core.Bool.{Bool, true, false}
+use mathlib.Core.Bool.{Bool, true}
 use mathlib.Core.List.{List, List·Memᴰ, List·Memᴰ·not-nil, List·Memᴰ·cases-cons}
 use mathlib.Core.Logic.{_⊎_, inl, inr, ⊎-elim}
 use Prim.Native.Nat.{ℕ, zero, suc, _+_, _-_, _≤_, _<_}
@@ -8,11 +8,10 @@ use native.Mathlib.Omega.{arith}
 use lib.ListN.{length}
 use lib.Dec.{leb}
 use borrow.Author.Tests.{leb-true}
-use Rattle.lists.specs.Lists.{both}
 use Rattle.lists.proofs.Choice.{true-not-false, both-left, both-right, not-false-true}
 use Rattle.terms.specs.Limits.{minVertices, maxVertices}
 use Rattle.jobs.specs.Job.{countFits, enough, unless, listsCode, jobCode}
-use Rattle.jobs.specs.Due.{order, few-vertices, many-vertices, few-triangles, little-work, few-weights, no-triangle, candidate-late, no-pair, row-late, heavy, heavy-row, FirstDue, Accepted}
+use Rattle.jobs.specs.Due.{order, few-vertices, many-vertices, few-triangles, little-work, few-weights, no-triangle, candidate-not-after, no-pair, row-not-after, heavy, heavy-row, FirstDue, Accepted}
 use Rattle.jobs.proofs.First.{unless-both, up-listed, firstOf, first-none, none-first, first-fails, fails-first}
 use Rattle.jobs.proofs.Order.{true-before, true-row-before}
 use Rattle.jobs.proofs.Lists.{Candidates, Rows, Weights, true-ascends, true-names, candidates-true, rows-true, weights-true}
@@ -120,8 +119,8 @@ module _ (n : ℕ) (candidates : List (List ℕ)) (weights : List ℕ) (rows : L
   fitting-accepted f k (little-work h) = omega (arith, f .work-room)
   fitting-accepted f k (few-weights h) = omega (arith, f .lists .weight-places)
   fitting-accepted f k (no-triangle i h e) = true-not-false (true-ascends n _ (f .lists .candidates-are .ordered i h)) e
-  fitting-accepted f k (candidate-late i h e) = true-not-false (true-before _ _ (f .lists .candidates-are .ascending i (i + 1) (omega arith) h)) e
+  fitting-accepted f k (candidate-not-after i h e) = true-not-false (true-before _ _ (f .lists .candidates-are .ascending i (i + 1) (omega arith) h)) e
   fitting-accepted f k (no-pair i h e) = true-not-false (true-names candidates _ (f .lists .rows-are .named i h)) e
-  fitting-accepted f k (row-late i h e) = true-not-false (true-row-before _ _ (f .lists .rows-are .ascending i (i + 1) (omega arith) h)) e
+  fitting-accepted f k (row-not-after i h e) = true-not-false (true-row-before _ _ (f .lists .rows-are .ascending i (i + 1) (omega arith) h)) e
   fitting-accepted f k (heavy i h e) = omega (arith, f .lists .weights-are .own i h)
   fitting-accepted f k (heavy-row i h e) = omega (arith, f .lists .weights-are .of-row i h)

@@ -15,7 +15,7 @@ use Rattle.lists.proofs.Ranges.{every-at}
 use Rattle.terms.specs.Limits.{minVertices, maxVertices, maxWeight}
 use Rattle.terms.specs.Entries.{entryAt, outer, inner, vertexA, vertexB, vertexC, rowWeight}
 use Rattle.jobs.specs.Job.{countFits, enough, ascends, before, candidateFits, candidatesFit, namesPair, rowBefore, rowFits, rowsFit, weightsFit, rowWeightsFit}
-use Rattle.jobs.specs.Due.{order, Due, few-vertices, many-vertices, few-triangles, little-work, few-weights, no-triangle, candidate-late, no-pair, row-late, heavy, heavy-row}
+use Rattle.jobs.specs.Due.{order, Due, few-vertices, many-vertices, few-triangles, little-work, few-weights, no-triangle, candidate-not-after, no-pair, row-not-after, heavy, heavy-row}
 
 -- a number below a bound at which a test fails
 record Some (bound : ℕ) (P : ℕ → Bool) : Type 0 where
@@ -50,8 +50,8 @@ split zero true after e = absurd (true-not-false refl e)
 split (suc i) true true e = absurd (true-not-false (either-right (eqb (suc i) 0) true refl) e)
 split (suc i) true false e = inr (omega arith, refl)
 
-late : (i : ℕ) (own after : Bool) → after ≡ false → both own (either (eqb (i + 1) 0) after) ≡ false
-late i own after e = both-no own (go (eqb (i + 1) 0) refl)
+order-fails : (i : ℕ) (own after : Bool) → after ≡ false → both own (either (eqb (i + 1) 0) after) ≡ false
+order-fails i own after e = both-no own (go (eqb (i + 1) 0) refl)
   where
     go : (b : Bool) → eqb (i + 1) 0 ≡ b → either b after ≡ false
     go true q = absurd (omega (arith, eqb-true (i + 1) 0 q))
@@ -99,13 +99,13 @@ module _ (n : ℕ) (candidates : List (List ℕ)) (weights : List ℕ) (rows : L
   pair i = namesPair candidates (outer (entryAt rows i)) (inner (entryAt rows i))
 
   -- ---- what is due fails
-  late-candidate : (i : ℕ) → before (entryAt candidates i) (entryAt candidates (i + 1)) ≡ false → candidateFits n candidates (i + 1) ≡ false
+  candidate-fails : (i : ℕ) → before (entryAt candidates i) (entryAt candidates (i + 1)) ≡ false → candidateFits n candidates (i + 1) ≡ false
   unfolding candidateFits
-  late-candidate i e = late i (own (i + 1)) _ (ap (λ j. before (entryAt candidates j) (entryAt candidates (i + 1))) (omega arith) ∙ e)
+  candidate-fails i e = order-fails i (own (i + 1)) _ (ap (λ j. before (entryAt candidates j) (entryAt candidates (i + 1))) (omega arith) ∙ e)
 
-  late-row : (i : ℕ) → rowBefore (entryAt rows i) (entryAt rows (i + 1)) ≡ false → rowFits candidates rows (i + 1) ≡ false
+  row-fails : (i : ℕ) → rowBefore (entryAt rows i) (entryAt rows (i + 1)) ≡ false → rowFits candidates rows (i + 1) ≡ false
   unfolding rowFits
-  late-row i e = late i (pair (i + 1)) _ (ap (λ j. rowBefore (entryAt rows j) (entryAt rows (i + 1))) (omega arith) ∙ e)
+  row-fails i e = order-fails i (pair (i + 1)) _ (ap (λ j. rowBefore (entryAt rows j) (entryAt rows (i + 1))) (omega arith) ∙ e)
 
   pub due-fails : {k : ℕ} → D k → test k ≡ false
   unfolding candidateFits rowFits
@@ -115,9 +115,9 @@ module _ (n : ℕ) (candidates : List (List ℕ)) (weights : List ℕ) (rows : L
   due-fails (little-work h) = both-no (enough (n - 2) tp) (no _ _ (lt-leb (length candidates) wp h))
   due-fails (few-weights h) = both-no (enough (n - 2) tp) (both-no (enough (length candidates) wp) (lt-leb (length candidates) (length weights) h))
   due-fails (no-triangle i h e) = fails-every (length candidates) (candidateFits n candidates) i h (no _ _ e)
-  due-fails (candidate-late i h e) = fails-every (length candidates) (candidateFits n candidates) (i + 1) h (late-candidate i e)
+  due-fails (candidate-not-after i h e) = fails-every (length candidates) (candidateFits n candidates) (i + 1) h (candidate-fails i e)
   due-fails (no-pair i h e) = fails-every (length rows) (rowFits candidates rows) i h (no _ _ e)
-  due-fails (row-late i h e) = fails-every (length rows) (rowFits candidates rows) (i + 1) h (late-row i e)
+  due-fails (row-not-after i h e) = fails-every (length rows) (rowFits candidates rows) (i + 1) h (row-fails i e)
   due-fails (heavy i h e) = no _ _ (fails-every (length candidates) (λ i. leb (getD weights i 0) maxWeight) i h (lt-leb _ _ e))
   due-fails (heavy-row i h e) = both-no (weightsFit weights (length candidates)) (fails-every (length rows) (λ i. leb (rowWeight (entryAt rows i)) maxWeight) i h (lt-leb _ _ e))
 
@@ -128,9 +128,9 @@ module _ (n : ℕ) (candidates : List (List ℕ)) (weights : List ℕ) (rows : L
   due-listed (little-work h) = in-13
   due-listed (few-weights h) = in-13
   due-listed (no-triangle i h e) = in-15
-  due-listed (candidate-late i h e) = in-15
+  due-listed (candidate-not-after i h e) = in-15
   due-listed (no-pair i h e) = in-16
-  due-listed (row-late i h e) = in-16
+  due-listed (row-not-after i h e) = in-16
   due-listed (heavy i h e) = in-17
   due-listed (heavy-row i h e) = in-17
 
@@ -150,7 +150,7 @@ module _ (n : ℕ) (candidates : List (List ℕ)) (weights : List ℕ) (rows : L
       let s = every-fails (length candidates) (candidateFits n candidates) e in
       let i = s .at in
       ⊎-elim (λ f. no-triangle i (s .below) f)
-      (λ f. candidate-late (i - 1) (omega (arith, s .below, f .0)) (ap (λ j. before (entryAt candidates (i - 1)) (entryAt candidates j)) (omega (arith, f .0)) ∙ f .1))
+      (λ f. candidate-not-after (i - 1) (omega (arith, s .below, f .0)) (ap (λ j. before (entryAt candidates (i - 1)) (entryAt candidates j)) (omega (arith, f .0)) ∙ f .1))
       (split i (own i) (before (entryAt candidates (i - 1)) (entryAt candidates i)) (s .is))
 
   due-16 : rowsFit candidates rows ≡ false → D 16
@@ -159,7 +159,7 @@ module _ (n : ℕ) (candidates : List (List ℕ)) (weights : List ℕ) (rows : L
       let s = every-fails (length rows) (rowFits candidates rows) e in
       let i = s .at in
       ⊎-elim (λ f. no-pair i (s .below) f)
-      (λ f. row-late (i - 1) (omega (arith, s .below, f .0)) (ap (λ j. rowBefore (entryAt rows (i - 1)) (entryAt rows j)) (omega (arith, f .0)) ∙ f .1))
+      (λ f. row-not-after (i - 1) (omega (arith, s .below, f .0)) (ap (λ j. rowBefore (entryAt rows (i - 1)) (entryAt rows j)) (omega (arith, f .0)) ∙ f .1))
       (split i (pair i) (rowBefore (entryAt rows (i - 1)) (entryAt rows i)) (s .is))
 
   due-17 : weightTests ≡ false → D 17

@@ -31,10 +31,10 @@ module _ (n : ℕ) (candidates : List (List ℕ)) (weights : List ℕ) (rows : L
     few-weights : length weights < length candidates → Due 13
     -- a candidate is not a < b < c < n, or does not come strictly after the one before it (rule 4.15)
     no-triangle : (i : ℕ) → i < length candidates → ascends n (vertexA (entryAt candidates i)) (vertexB (entryAt candidates i)) (vertexC (entryAt candidates i)) ≡ false → Due 15
-    candidate-late : (i : ℕ) → i + 1 < length candidates → before (entryAt candidates i) (entryAt candidates (i + 1)) ≡ false → Due 15
+    candidate-not-after : (i : ℕ) → i + 1 < length candidates → before (entryAt candidates i) (entryAt candidates (i + 1)) ≡ false → Due 15
     -- a row names a candidate that there is not, or a pair that does not hang, or does not come strictly after the row before it (rule 4.16)
     no-pair : (i : ℕ) → i < length rows → namesPair candidates (outer (entryAt rows i)) (inner (entryAt rows i)) ≡ false → Due 16
-    row-late : (i : ℕ) → i + 1 < length rows → rowBefore (entryAt rows i) (entryAt rows (i + 1)) ≡ false → Due 16
+    row-not-after : (i : ℕ) → i + 1 < length rows → rowBefore (entryAt rows i) (entryAt rows (i + 1)) ≡ false → Due 16
     -- a weight of a candidate or of a row is over 2,000,000,000 (rule 4.17)
     heavy : (i : ℕ) → i < length candidates → maxWeight < getD weights i 0 → Due 17
     heavy-row : (i : ℕ) → i < length rows → maxWeight < rowWeight (entryAt rows i) → Due 17

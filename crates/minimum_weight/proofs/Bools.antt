@@ -1,7 +1,6 @@
 -- A conjunction or a disjunction of which one test is known.
-use mathlib.Core.Path.{_≡_, refl, sym, ap}
+use mathlib.Core.Path.{_≡_, refl, ap}
 use mathlib.Core.Bool.{Bool, true, false, _&&_, _||_}
-use Rattle.lists.proofs.Choice.{true-not-false}
 
 pub and-yes : {x : Bool} (y : Bool) → x ≡ true → (x && y) ≡ y
 and-yes y e = ap (λ b. b && y) e
@@ -12,11 +11,6 @@ and-no y e = ap (λ b. b && y) e
 pub and-last : (x : Bool) {y : Bool} → y ≡ false → (x && y) ≡ false
 and-last true e = e
 and-last false e = refl
-
--- both hold
-pub and-right : (x y : Bool) → (x && y) ≡ true → y ≡ true
-and-right true y e = e
-and-right false y e = absurd (true-not-false refl (sym e))
 
 pub or-yes : {x : Bool} (y : Bool) → x ≡ true → (x || y) ≡ true
 or-yes y e = ap (λ b. b || y) e

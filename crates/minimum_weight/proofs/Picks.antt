@@ -17,7 +17,8 @@ use Rattle.blocks.specs.Blocks.{Starts}
 use Rattle.terms.specs.Limits.{maxVertices}
 use Rattle.terms.specs.Entries.{entryAt, vertexA, vertexC}
 use Rattle.minimum_weight.specs.Tables.{betterOf, pickBelow, onEdge}
-use Rattle.minimum_weight.proofs.Bools.{and-yes, and-no, and-last, and-right}
+use Rattle.triangulation.proofs.SetParts.{and-right}
+use Rattle.minimum_weight.proofs.Bools.{and-yes, and-no, and-last}
 
 module _ (p : Pick) (u : ℕ) where
   -- the pick of candidate u

@@ -4,7 +4,7 @@ use mathlib.Core.Bool.{Bool, true, false, cond}
 use mathlib.Core.List.{List}
 use Prim.Native.Nat.{ℕ, zero, suc, _+_, _≤_, _<_}
 use native.Mathlib.Omega.{arith}
-use borrow.Author.Tests.{le-ltb, lt-ltb, le-leb, eqb-true, eqb-false}
+use borrow.Author.Tests.{le-ltb, lt-ltb, le-leb, eqb-true, eqb-false, leb-true, leb-false}
 use lib.Dec.{ltb, leb, eqb}
 use Rattle.lists.proofs.Choice.{yes, no}
 use Rattle.grid.specs.declared.GridPoint.{GridPoint}
@@ -70,8 +70,8 @@ end-within s i (suc k) t h e = by (eqb (chain.link s i) 0) refl (λ p l. end-wit
         here = passed s i k e z
 
         on : (b : Bool) → leb maxVertices i ≡ b → endFrom s i (suc k) ≤ maxVertices
-        on true l = absurd (past-limit s i (borrow.Author.Tests.leb-true maxVertices i l) (here .position))
-        on false l = omega (arith, end-step s i k ∙ no i _ z, go here (borrow.Author.Tests.leb-false maxVertices i l))
+        on true l = absurd (past-limit s i (leb-true maxVertices i l) (here .position))
+        on false l = omega (arith, end-step s i k ∙ no i _ z, go here (leb-false maxVertices i l))
 
 pub count-within : (s : List ℕ) → chainCode s ≡ 0 → vertexCount s ≤ maxVertices
 count-within s e = end-within s 0 (suc maxVertices) refl (omega arith) e

@@ -1,8 +1,8 @@
 -- Demand 1 for rim files, numbers 1 to 11 (rules 4.31, 4.33): a file is read exactly when no number is due, and the number that is given is exactly the first that is due. Assumes nothing.
-use mathlib.Core.Path.{_≡_, refl, sym, ap, _∙_, subst}
+use mathlib.Core.Path.{_≡_, refl, sym, ap, _∙_}
 use mathlib.Core.List.{List}
 use mathlib.Core.Logic.{_⊎_, inl, inr}
-use Prim.Native.Nat.{ℕ, zero, suc, _<_}
+use Prim.Native.Nat.{ℕ, zero, suc}
 use native.Mathlib.Omega.{arith}
 use Rattle.polygon.specs.Polygon.{emptyPolygon}
 use Rattle.reader.specs.Order.{First, NoneDue}

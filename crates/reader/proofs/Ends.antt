@@ -16,8 +16,7 @@ use Rattle.reader.specs.Due.{HasRecords, DueAt}
 use Rattle.reader.proofs.Lengths.{Whole}
 use Rattle.reader.proofs.Answers.{code-step, end-step, past-limit, Passed, passed}
 use Rattle.reader.proofs.Walking.{positive}
-use Rattle.reader.proofs.Floats.{UpTo}
-use Rattle.reader.proofs.Positions.{due-given, Reached, due-reached, shorter, given-due, Passing, passing}
+use Rattle.reader.proofs.Positions.{due-given, Reached, due-reached, shorter, given-due, passing}
 
 -- position i is reached, and no number is given before it
 record Clear (s : List ℕ) (i : ℕ) : Type 0 where

@@ -1,5 +1,5 @@
 -- A number is due only on what there is: 5 on no loop, 6 to 9 on no record that a link misses, 11 on no record that is refused. Assumes nothing.
-use mathlib.Core.Path.{_≡_, refl, sym, ap, _∙_}
+use mathlib.Core.Path.{_≡_, refl}
 use mathlib.Core.Bool.{false}
 use mathlib.Core.List.{List, _∷_, _++_}
 use Prim.Native.Nat.{ℕ, zero, suc, _+_, _≤_, _<_}
@@ -8,10 +8,10 @@ use lib.ListN.{length, replicate}
 use Rattle.lists.proofs.Choice.{true-not-false}
 use Rattle.grid.specs.declared.GridPoint.{GridPoint}
 use Rattle.terms.specs.Limits.{maxVertices}
-use Rattle.reader.specs.File.{recordCount, offset}
+use Rattle.reader.specs.File.{recordCount}
 use Rattle.reader.specs.Chain.{link}
 use Rattle.reader.specs.Order.{Place, position}
-use Rattle.reader.specs.Due.{InFile, HasRecords, kindAt, tailZeroAt, OnGridAt, HasVertex, a-point, a-level-point, DueAt, link-over, met-again, too-many, kind-unknown, no-height, not-finite, tail-not-zero, out-of-range}
+use Rattle.reader.specs.Due.{InFile, kindAt, tailZeroAt, OnGridAt, HasVertex, a-point, a-level-point, DueAt, link-over, met-again, too-many, kind-unknown, no-height, not-finite, tail-not-zero, out-of-range}
 
 -- ---- a chain that comes back has no 65 records
 pub no-5-on-loop : (s : List ℕ) (i j : ℕ) → i < j → j ≤ maxVertices → link s i ≡ link s j → (p : Place) → DueAt s p 5 → ⊥

@@ -1,5 +1,5 @@
 -- The number that the reader's tests give is the first that is due; where they give none, none is. Assumes nothing.
-use mathlib.Core.Path.{_≡_, refl, sym, ap, _∙_, subst}
+use mathlib.Core.Path.{_≡_, refl, sym, _∙_, subst}
 use mathlib.Core.Bool.{Bool, true, false, cond}
 use mathlib.Core.List.{List}
 use Prim.Native.Nat.{ℕ, zero, suc, _≤_, _<_}
@@ -12,10 +12,9 @@ use Rattle.polygon.specs.Polygon.{repeatedVertex}
 use Rattle.reader.specs.File.{areaFactor, lengthWrong}
 use Rattle.reader.specs.Chain.{link, vertexAt, pointOf, positionCode, chainCode, vertexCount, verticesOf}
 use Rattle.reader.specs.Order.{Place, header, position, rim, Precedes, in-header, header-position, header-rim, earlier-position, in-position, position-rim, in-rim, First, NoneDue}
-use Rattle.reader.specs.Due.{HasRecords, HasVertex, DueAt, length-wrong, area-factor, too-few, vertex-repeated}
+use Rattle.reader.specs.Due.{HasVertex, DueAt, length-wrong, area-factor, too-few, vertex-repeated}
 use Rattle.reader.specs.Reading.{firstDue, numberDue}
 use Rattle.reader.proofs.Lengths.{whole}
-use Rattle.reader.proofs.Floats.{UpTo}
 use Rattle.reader.proofs.Positions.{shorter, due-given, record-reached}
 use Rattle.reader.proofs.Ends.{Stops, Ends, stops, ends, before-end, no-position, no-number}
 use Rattle.reader.proofs.RimVertices.{vertex-is, has-vertex, repeated, not-repeated}

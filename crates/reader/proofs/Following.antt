@@ -2,12 +2,12 @@
 use mathlib.Core.Path.{_≡_, refl, sym, ap, _∙_}
 use mathlib.Core.Bool.{Bool, true, false, cond}
 use mathlib.Core.List.{List, [], _∷_, _++_}
-use Prim.Native.Nat.{ℕ, zero, suc, _+_, _-_, _≤_, _<_}
+use Prim.Native.Nat.{ℕ, zero, suc, _+_, _-_, _<_}
 use native.Mathlib.Numerals.{add-one}
 use native.Mathlib.Omega.{arith}
-use borrow.Author.Tests.{eq-eqb, ne-eqb}
+use borrow.Author.Tests.{eq-eqb, ne-eqb, leb-true, leb-false}
 use lib.ListN.{length, set, replicate}
-use lib.Dec.{eqb}
+use lib.Dec.{leb, eqb}
 use Rattle.lists.specs.Lists.{upFrom, over, filled}
 use Rattle.lists.proofs.Choice.{yes, no}
 use Rattle.lists.proofs.Ranges.{over-last, over-length}
@@ -19,7 +19,6 @@ use Rattle.reader.specs.Chain.{link, vertexAt, pointOf, positionCode, co
 use Rattle.reader.specs.Steps.{Walking, Stepped, stoppedAt, walked, chainOf}
 use Rattle.reader.specs.declared.Progress.{Progress}
 use Rattle.reader.specs.declared.Vertex.{Vertex}
-use Rattle.reader.specs.declared.Vertex.the-variants.{At}
 use Rattle.reader.proofs.Answers.{code-step, end-step, past-limit}
 
 -- the vertices before the walk are listed, and what is left of the chain has its number and its end
@@ -81,11 +80,11 @@ module _ {s : List ℕ} {vertices : List GridPoint} {w : Progress} (f : Followin
       here-none = sym (step .number) ∙ none
 
       pub room : w .n < maxVertices
-      room = by (lib.Dec.leb maxVertices (w .n)) refl
+      room = by (leb maxVertices (w .n)) refl
         where
-          by : (b : Bool) → lib.Dec.leb maxVertices (w .n) ≡ b → w .n < maxVertices
-          by true e = absurd (past-limit s (w .n) (borrow.Author.Tests.leb-true maxVertices (w .n) e) here-none)
-          by false e = borrow.Author.Tests.leb-false maxVertices (w .n) e
+          by : (b : Bool) → leb maxVertices (w .n) ≡ b → w .n < maxVertices
+          by true e = absurd (past-limit s (w .n) (leb-true maxVertices (w .n) e) here-none)
+          by false e = leb-false maxVertices (w .n) e
 
       points : ℕ → List GridPoint
       points i = pointOf (vertexAt s i) ∷ []

@@ -15,3 +15,4 @@ pub mod FirstNumber
 pub mod Demand1
 pub mod Accepted
 pub mod Existing
+pub mod HalfSteps

@@ -1,11 +1,10 @@
 -- The order of numbers at their places: of two one comes first, so there is at most one first number. Assumes nothing.
-use mathlib.Core.Path.{_≡_}
+use mathlib.Core.Path.{_≡_, refl}
 use mathlib.Core.Bool.{Bool, true, false}
 use Prim.Native.Nat.{ℕ, _<_}
 use native.Mathlib.Omega.{arith}
 use borrow.Author.Tests.{ltb-true, ltb-false}
 use lib.Dec.{ltb}
-use mathlib.Core.Path.{refl}
 use Rattle.reader.specs.Order.{Place, header, position, rim, Precedes, in-header, header-position, header-rim, earlier-position, in-position, position-rim, in-rim, First, NoneDue}
 
 -- of two numbers one comes first, or they are one number

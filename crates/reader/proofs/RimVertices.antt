@@ -1,11 +1,10 @@
 -- The vertices of the rim: what a record gives is what the reader lists. Assumes nothing.
 use mathlib.Core.Path.{_≡_, refl, sym, ap, _∙_, subst}
-use mathlib.Core.Bool.{Bool, true, false, cond}
+use mathlib.Core.Bool.{Bool, true, false}
 use mathlib.Core.List.{List, [], _∷_, List·Memᴰ}
-use Prim.Native.Nat.{ℕ, zero, suc, _<_}
+use Prim.Native.Nat.{ℕ, suc, _<_}
 use native.Mathlib.Omega.{arith}
 use borrow.Author.Tests.{eqb-true, eq-eqb, ne-eqb}
-use lib.IntN.{ℤ}
 use lib.Dec.{eqb}
 use lib.Ieee.{Float}
 use lib.ListN.{length, replicate}
@@ -14,7 +13,7 @@ use Rattle.lists.proofs.Choice.{yes, no}
 use Rattle.lists.proofs.Ranges.{over-length, over-at, some-found}
 use Rattle.lists.proofs.Writing.{filled-at}
 use Rattle.grid.specs.declared.GridPoint.{GridPoint}
-use Rattle.grid.specs.Number.{finite, inRange, roundEighths}
+use Rattle.grid.specs.Number.{finite, inRange}
 use Rattle.grid.specs.Point.{point}
 use Rattle.terms.specs.Limits.{maxVertices}
 use Rattle.polygon.specs.Polygon.{origin, samePoint, repeatedVertex}
@@ -22,14 +21,13 @@ use Rattle.polygon.specs.Polygon as polygon
 use Rattle.polygon.proofs.Points.{point-equal}
 use Rattle.polygon.proofs.Validity.{repeated-none}
 use Rattle.reader.specs.File.{offset, firstNumber, secondNumber, thirdNumber}
-use Rattle.reader.specs.Record.{known, heightOf, everyNumber, numbersCode, vertexUnless}
+use Rattle.reader.specs.Record.{known, heightOf, numbersCode, vertexUnless}
 use Rattle.reader.specs.Chain.{heightBefore, vertexAt, numberOf, pointOf, verticesOf}
 use Rattle.reader.specs.Chain as chain
-use Rattle.reader.specs.Due.{kindAt, tailZeroAt, floatsAt, OnGridAt, LastPoint, xAt, yAt, heightAt, HasVertex, a-point, a-level-point}
-use Rattle.reader.specs.declared.Height.the-variants.{Known}
+use Rattle.reader.specs.Due.{kindAt, tailZeroAt, floatsAt, OnGridAt, xAt, yAt, heightAt, HasVertex, a-point, a-level-point}
 use Rattle.reader.proofs.Vertices.{shape, shape-is, numbers-fine}
 use Rattle.reader.proofs.Floats.{every-at, every-all, fine-code}
-use Rattle.reader.proofs.Heights.{height-of-last, Last, last-point}
+use Rattle.reader.proofs.Heights.{height-of-last, last-point}
 use Rattle.reader.proofs.RecordNumbers.{tests, pointFloats, levelFloats, record-number}
 
 module _ (s : List ℕ) where

@@ -31,7 +31,7 @@ bendFactor s = u16At s 6
 abbrev pub maxRecords : ℕ
 maxRecords = 256
 
--- record numbers go from 0, which ends the chain, to that
+-- the numbers that a link can have up to that, with 0, which names no record
 abbrev pub recordNumbers : ℕ
 recordNumbers = suc maxRecords
 

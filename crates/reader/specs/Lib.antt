@@ -4,4 +4,5 @@ pub mod Chain
 pub mod Reading
 pub mod Order
 pub mod Due
+pub mod Rounded
 pub mod Steps

@@ -8,7 +8,7 @@ ghost use Rattle.reader.specs.Reading.{refusal, readingOf, statusNumber,
 use grid::GridPoint;
 use polygon::Polygon;
 
-// The most records of a file, and the record numbers with 0, which ends the chain.
+// The most records of a file (rule 1.4). Marks go by record number, from 0, which names none.
 const MAX_RECORDS: usize = 256;
 
 const MARKS: usize = MAX_RECORDS + 1;
@@ -27,7 +27,7 @@ enum Record {
     Refused(u32),
 }
 
-// The grid height of the nearest point before, which a level point takes.
+// The grid height of the last point before, which a level point takes.
 enum Height {
     Unknown,
     Known(i64),
@@ -39,14 +39,17 @@ enum Vertex {
     Refused(u32),
 }
 
-// The walk along the chain, carried by value from position to position: the number that stops it, 0 while none does; a mark for each record number,
-// set where the record was met; the height that a level point takes here; the vertex of the position before; how many positions are behind, and the
-// link that leads on. The vertices are listed beside it, so that a step does not copy them.
+// How far the walk along the chain has come, carried by value from position to position. The vertices are listed beside it: no step copies them.
 struct Progress {
+    // The number that stops the walk, 0 while none does.
     pub code: u32,
+    // A mark for each record number, set where the record was met.
     pub met: [bool; MARKS],
+    // The height that a level point takes here.
     pub height: Height,
+    // The vertex of the position before.
     pub vertex: GridPoint,
+    // The positions behind, and the link that leads on.
     pub n: usize,
     pub link: usize,
 }

@@ -58,6 +58,9 @@ module _ (x root span : ℕ) (i : Inv x root span) where
 loop-holds : tie.Need-loop-holds Inv-loop μ-loop
 loop-holds c = record { under = omega arith; over = omega arith; some = omega arith; small = omega arith }
 
+loop-again : tie.Need-loop-again Inv-loop μ-loop
+loop-again c = let k = c .before .loop in chosen (c .before .before .args .x) (k .root) (k .span) (k .inv)
+
 add-next : tie.Need-add-next Inv-loop μ-loop
 add-next c = omega (arith, c .before .loop .inv .small)
 
@@ -81,9 +84,6 @@ sub-span c = omega arith
 
 loop-less : tie.Need-loop-less Inv-loop μ-loop
 loop-less c = omega arith
-
-loop-again : tie.Need-loop-again Inv-loop μ-loop
-loop-again c = let k = c .before .loop in chosen (c .before .before .args .x) (k .root) (k .span) (k .inv)
 
 returns : tie.Need-returns Inv-loop μ-loop
 returns c =
