@@ -19,7 +19,8 @@ use Rattle.geometry.specs.Lifting.{positionOf, liftOf, pencilOf, sphereOf, posi
 use Rattle.geometry.specs.Facets.{separatesBy, refutedBy}
 use Rattle.geometry.proofs.Spheres.{lift-bounds, pencil-bounds, sphere-bounds, computedSphere, coplanar-is, position-is, position-inside, position-on, position-outside}
 use Rattle.geometry.proofs.Facets.{separates-is, refuted-is}
-use Rattle.lists.specs.Lists.{both, either}
+use Rattle.lists.specs.Lists.{both}
+use Rattle.lists.proofs.Choice.{true-not-false}
 use Rattle.delaunay.specs.Candidates.{vertex, insideFour, onFour, counts, isCorner, isFifth}
 use Rattle.delaunay.specs.Search.{Lifts, isOn, unlifted}
 use Rattle.delaunay.proofs.Scanning.{not-counts-inside, not-counts-between}
@@ -91,5 +92,6 @@ module _ {p : Polygon} {a b c : ℕ} {lifted : List Lifted} {pencil : Pencil} (t
       pub is-clear : (place ≡ Inside → ⊥) → insideFour p a b c d v ≡ false
       is-clear n = not-inside place refl n .0
 
-      pub is-fifth : (place ≡ Inside → ⊥) → (found : Bool) → either found (both (not (isCorner a b c d v)) (isOn place)) ≡ either found (isFifth p a b c d v)
-      is-fifth n found = ap (λ (t : Bool). either found (both (not (isCorner a b c d v)) t)) (not-inside place refl n .1)
+      -- of a four that counts
+      pub is-fifth : counts p a b c d ≡ true → both (not (isCorner a b c d v)) (isOn place) ≡ isFifth p a b c d v
+      is-fifth full = ap (λ (t : Bool). both (not (isCorner a b c d v)) t) (not-inside place refl (λ e. true-not-false full (drops e)) .1)

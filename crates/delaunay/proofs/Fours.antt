@@ -1,5 +1,5 @@
--- A four that is not in one plane, in the search: what one vertex's position, and the scan of all, says of what is marked and what is left. Assumes nothing.
-use mathlib.Core.Path.{_≡_, _∙_}
+-- A four that is not in one plane, in the search: what one vertex's position, and the scans of all, say of what is marked and what is left. Assumes nothing.
+use mathlib.Core.Path.{_≡_, sym, _∙_}
 use mathlib.Core.Bool.{Bool, true, false, not}
 use mathlib.Core.List.{List}
 use Prim.Native.Nat.{ℕ, _+_, _-_, _≤_, _<_}
@@ -14,13 +14,14 @@ use Rattle.geometry.specs.declared.sphere.Position.the-variants.{Inside}
 use Rattle.geometry.specs.Spheres.{coplanar}
 use Rattle.geometry.specs.Lifting.{sphereOf, positionBy}
 use Rattle.geometry.specs.Facets.{separatesBy}
-use Rattle.lists.specs.Lists.{both, either}
+use Rattle.lists.specs.Lists.{both}
+use Rattle.lists.proofs.Ranges.{some-on, some-end, some-here}
 use Rattle.faces.specs.Masks.{pairCount, withFaces}
 use Rattle.faces.proofs.Fours.{left3, left4}
-use Rattle.delaunay.specs.Candidates.{vertex, isCorner}
+use Rattle.delaunay.specs.Candidates.{vertex, counts, isCorner, isFifth}
 use Rattle.delaunay.specs.Search.{isOn, unlifted, scannedAt}
 use Rattle.delaunay.proofs.Marking.{Test, hasFifth, Kept, kept-skip, kept-mark, kept-leave, twelve-here}
-use Rattle.delaunay.proofs.Scanning.{Scanned, scan-turn, scanned-counts, scanned-fifth}
+use Rattle.delaunay.proofs.Scanning.{Scanned, Passed, scan-turn, scanned-counts}
 use Rattle.delaunay.proofs.Corners.{Three, drops, leaves, is-clear, is-fifth}
 
 pub record Four (p : Polygon) (a b c d : ℕ) (lifted : List Lifted) (pencil : Pencil) (ball : Sphere) (marks₀ marks : List ℕ) (left₀ : Test → Bool) : Type 0 where
@@ -41,19 +42,29 @@ module _ {p : Polygon} {a b c d : ℕ} {lifted : List Lifted} {pencil : Pencil} 
     three-left i o = kept-leave a b c d (f .kept) (leaves (f .three) d (f .d<n) (f .through) (f .solid) v v<n e i o)
 
     -- not inside: on to the next turn of the scan
-    pub vertex-passed : (place ≡ Inside → ⊥) → (last i : ℕ) → v ≡ scannedAt last i → (fifth : Bool) {fifth′ : Bool} → fifth′ ≡ either fifth (both (not (isCorner a b c d v)) (isOn place)) → Scanned p a b c d (i - 1) fifth → Scanned p a b c d (i + 1 - 1) fifth′
-    vertex-passed n last i k fifth {fifth′} g s =
-        scan-turn p a b c d last i v fifth fifth′ k v<n (is-clear (f .three) d (f .d<n) (f .through) (f .solid) v v<n e n)
-        (g ∙ is-fifth (f .three) d (f .d<n) (f .through) (f .solid) v v<n e n fifth) s
+    pub vertex-passed : (place ≡ Inside → ⊥) → (last i : ℕ) → v ≡ scannedAt last i → Scanned p a b c d (i - 1) → Scanned p a b c d (i + 1 - 1)
+    vertex-passed n last i k = scan-turn p a b c d last i v k v<n (is-clear (f .three) d (f .d<n) (f .through) (f .solid) v v<n e n)
 
   -- all vertices are scanned
-  module _ (v : ℕ) (fifth : Bool) (end : p .n ≤ v) (s : Scanned p a b c d v fifth) where
-    pub four-marked : fifth ≡ false → length marks ≡ pairCount → Kept p marks₀ (withFaces marks a b c d) left₀ (λ P. left4 (p .n) P a b c (d + 1))
-    four-marked e long =
+  pub four-counts : (v : ℕ) → p .n ≤ v → Scanned p a b c d v → counts p a b c d ≡ true
+  four-counts v h s = scanned-counts p a b c d v h s (f .solid)
+
+  module _ (full : counts p a b c d ≡ true) where
+    module _ (v : ℕ) (v<n : v < p .n) {place : Position} (e : place ≡ positionBy ball (getD lifted v unlifted)) {found : Bool} (g : found ≡ both (not (isCorner a b c d v)) (isOn place)) where
+      found-is : isFifth p a b c d v ≡ found
+      found-is = sym (g ∙ is-fifth (f .three) d (f .d<n) (f .through) (f .solid) v v<n e full)
+
+      -- no fifth: on to the next vertex
+      pub fifth-passed : found ≡ false → Passed p a b c d v → Passed p a b c d (v + 1)
+      fifth-passed h s = sym (some-on v (p .n) (isFifth p a b c d) v<n (found-is ∙ h)) ∙ s
+
+      pub four-cospherical : found ≡ true → left₀ (hasFifth p) ≡ true
+      four-cospherical h = twelve-here a b c d (f .kept) (f .d<n) full (some-here 0 (p .n) (isFifth p a b c d) v (omega arith) v<n (found-is ∙ h))
+
+    -- all vertices are passed
+    pub four-marked : (v : ℕ) → p .n ≤ v → Passed p a b c d v → length marks ≡ pairCount → Kept p marks₀ (withFaces marks a b c d) left₀ (λ P. left4 (p .n) P a b c (d + 1))
+    four-marked v h s long =
         let t = f .three in
         let m = t .valid .most in
-        kept-mark a b c d (f .kept) (f .d<n) long (omega (arith, m, t .a<n)) (omega (arith, m, t .b<n)) (omega (arith, m, t .c<n)) (omega (arith, m, f .d<n))
-        (scanned-counts p a b c d v fifth end s (f .solid)) (scanned-fifth p a b c d v fifth end s ∙ e)
-
-    pub four-cospherical : fifth ≡ true → left₀ (hasFifth p) ≡ true
-    four-cospherical e = twelve-here a b c d (f .kept) (f .d<n) (scanned-counts p a b c d v fifth end s (f .solid)) (scanned-fifth p a b c d v fifth end s ∙ e)
+        kept-mark a b c d (f .kept) (f .d<n) long (omega (arith, m, t .a<n)) (omega (arith, m, t .b<n)) (omega (arith, m, t .c<n)) (omega (arith, m, f .d<n)) full
+        (sym s ∙ some-end v (p .n) (isFifth p a b c d) h)

@@ -1,4 +1,4 @@
--- The scan of the vertices for one four, by what is left to scan; and which fours do not count. Assumes nothing.
+-- The scans of the vertices for one four, by what is left to scan; and which fours do not count. Assumes nothing.
 use mathlib.Core.Path.{_≡_, refl, sym, _∙_, ap, subst}
 use mathlib.Core.Bool.{Bool, true, false, not}
 use mathlib.Core.Logic.{⊎-elim}
@@ -8,10 +8,10 @@ use Rattle.polygon.specs.declared.Polygon.{Polygon}
 use Rattle.geometry.specs.Spheres.{coplanar}
 use Rattle.geometry.specs.Facets.{separates}
 use Rattle.geometry.proofs.Facets.{no-empty-sphere}
-use Rattle.lists.specs.Lists.{both, either, every, some}
-use Rattle.lists.proofs.Choice.{Truth, truth, holds, fails, true-not-false, not-true-false, either-left}
-use Rattle.lists.proofs.Ranges.{every-on, every-end, every-at, some-step, some-end, some-here}
-use Rattle.lists.proofs.Bools.{either-assoc, either-no, both-no}
+use Rattle.lists.specs.Lists.{both, every, some}
+use Rattle.lists.proofs.Choice.{Truth, truth, holds, fails, true-not-false, not-true-false}
+use Rattle.lists.proofs.Ranges.{every-on, every-end, every-at}
+use Rattle.lists.proofs.Bools.{both-no}
 use Rattle.delaunay.specs.Candidates.{vertex, insideFour, counts, isFifth}
 use Rattle.delaunay.specs.Search.{scannedAt}
 
@@ -26,47 +26,21 @@ scanned-in n last zero v h k e = omega (arith, e)
 scanned-in n last (suc i) v h k e = omega (arith, e)
 
 module _ (p : Polygon) (a b c d : ℕ) where
-  -- up to vertex v none is strictly inside, and `fifth` says whether one other than the corners is on the sphere
-  pub record Scanned (v : ℕ) (fifth : Bool) : Type 0 where
-    pub clear : every v (p .n) (λ w. not (insideFour p a b c d w)) ≡ every 0 (p .n) (λ w. not (insideFour p a b c d w))
-    pub found : either fifth (some v (p .n) (isFifth p a b c d)) ≡ some 0 (p .n) (isFifth p a b c d)
-
-  pub scan-start : Scanned 0 false
-  scan-start = record { clear = refl; found = refl }
-
-  -- the next vertex
-  scan-on : (v : ℕ) (fifth fifth′ : Bool) → v < p .n → insideFour p a b c d v ≡ false → fifth′ ≡ either fifth (isFifth p a b c d v) → Scanned v fifth → Scanned (v + 1) fifth′
-  scan-on v fifth fifth′ h e f s = record {
-    clear = sym (every-on v (p .n) _ h (ap not e)) ∙ s .clear;
-    found =
-        ap (λ (t : Bool). either t (some (v + 1) (p .n) (isFifth p a b c d))) f
-        ∙ sym (either-assoc fifth (isFifth p a b c d v) (some (v + 1) (p .n) (isFifth p a b c d)))
-        ∙ ap (λ (t : Bool). either fifth t) (sym (some-step v (p .n) (isFifth p a b c d) h))
-        ∙ s .found;
-  }
-
-  -- a vertex out of turn, before the first
-  scan-ahead : (v : ℕ) (fifth fifth′ : Bool) → v < p .n → fifth′ ≡ either fifth (isFifth p a b c d v) → Scanned 0 fifth → Scanned 0 fifth′
-  scan-ahead v fifth fifth′ h f s = record {
-    clear = s .clear;
-    found =
-        ap (λ (t : Bool). either t (some 0 (p .n) (isFifth p a b c d))) f
-        ∙ sym (either-assoc fifth (isFifth p a b c d v) (some 0 (p .n) (isFifth p a b c d)))
-        ∙ ap (λ (t : Bool). either fifth t) (by (truth (isFifth p a b c d v)))
-        ∙ s .found;
-  }
-    where
-      by : Truth (isFifth p a b c d v) → either (isFifth p a b c d v) (some 0 (p .n) (isFifth p a b c d)) ≡ some 0 (p .n) (isFifth p a b c d)
-      by (holds e) = either-left (isFifth p a b c d v) _ e ∙ sym (some-here 0 (p .n) (isFifth p a b c d) v (omega arith) h e)
-      by (fails e) = ap (λ (t : Bool). either t (some 0 (p .n) (isFifth p a b c d))) e
+  -- no vertex before v is strictly inside
+  abbrev pub Scanned : ℕ → Type 0
+  Scanned v = every v (p .n) (λ w. not (insideFour p a b c d w)) ≡ every 0 (p .n) (λ w. not (insideFour p a b c d w))
 
   -- turn i of the scan
-  pub scan-turn : (last i v : ℕ) (fifth fifth′ : Bool) → v ≡ scannedAt last i → v < p .n → insideFour p a b c d v ≡ false → fifth′ ≡ either fifth (isFifth p a b c d v) → Scanned (i - 1) fifth → Scanned (i + 1 - 1) fifth′
-  scan-turn last zero v fifth fifth′ k h e f s = scan-ahead v fifth fifth′ h f s
-  scan-turn last (suc i) v fifth fifth′ k h e f s = subst (λ (j : ℕ). Scanned j fifth′) (omega (arith, k)) (scan-on v fifth fifth′ h e f (subst (λ (j : ℕ). Scanned j fifth) (ahead ∙ sym k) s))
+  pub scan-turn : (last i v : ℕ) → v ≡ scannedAt last i → v < p .n → insideFour p a b c d v ≡ false → Scanned (i - 1) → Scanned (i + 1 - 1)
+  scan-turn last zero v k h e s = s
+  scan-turn last (suc i) v k h e s = subst Scanned (omega (arith, k)) (sym (every-on v (p .n) _ h (ap not e)) ∙ subst Scanned (ahead ∙ sym k) s)
     where
       ahead : suc i - 1 ≡ i
       ahead = omega arith
+
+  -- no vertex before v is a fifth on the sphere
+  abbrev pub Passed : ℕ → Type 0
+  Passed v = some v (p .n) (isFifth p a b c d) ≡ some 0 (p .n) (isFifth p a b c d)
 
   pub not-counts-flat : coplanar (vertex p a) (vertex p b) (vertex p c) (vertex p d) ≡ true → counts p a b c d ≡ false
   unfolding counts
@@ -84,10 +58,7 @@ module _ (p : Polygon) (a b c d : ℕ) where
       by (holds flat) = not-counts-flat flat
       by (fails solid) = ⊎-elim (not-counts-inside s hs) (not-counts-inside w hw) (no-empty-sphere (vertex p a) (vertex p b) (vertex p c) (vertex p s) (vertex p w) e f (vertex p d) solid)
 
-  module _ (v : ℕ) (fifth : Bool) (h : p .n ≤ v) (s : Scanned v fifth) where
-    pub scanned-counts : coplanar (vertex p a) (vertex p b) (vertex p c) (vertex p d) ≡ false → counts p a b c d ≡ true
-    unfolding counts
-    scanned-counts e = (λ i. both (not (e i)) (every 0 (p .n) (λ w. not (insideFour p a b c d w)))) ∙ sym (s .clear) ∙ every-end v (p .n) _ h
-
-    pub scanned-fifth : some 0 (p .n) (isFifth p a b c d) ≡ fifth
-    scanned-fifth = sym (s .found) ∙ ap (λ (t : Bool). either fifth t) (some-end v (p .n) _ h) ∙ either-no fifth
+  -- all are scanned
+  pub scanned-counts : (v : ℕ) → p .n ≤ v → Scanned v → coplanar (vertex p a) (vertex p b) (vertex p c) (vertex p d) ≡ false → counts p a b c d ≡ true
+  unfolding counts
+  scanned-counts v h s e = (λ i. both (not (e i)) (every 0 (p .n) (λ w. not (insideFour p a b c d w)))) ∙ sym s ∙ every-end v (p .n) _ h

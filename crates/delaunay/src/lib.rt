@@ -12,7 +12,7 @@ ghost use lib.ListN.{length};
 ghost use Rattle.terms.specs.Limits.{maxVertices};
 ghost use Rattle.geometry.specs.Bounds.{LiftedBounds, PencilBounds};
 ghost use Rattle.geometry.specs.Facets.{refutedBy};
-ghost use Rattle.lists.specs.Lists.{both, either};
+ghost use Rattle.lists.specs.Lists.{both};
 ghost use Rattle.faces.specs.Masks.{pairCount};
 ghost use Rattle.polygon.specs.Polygon.{Valid};
 ghost use Rattle.delaunay.specs.Candidates.{isCorner};
@@ -24,13 +24,11 @@ fn lift_vertices(p: Polygon, a: usize) -> [Lifted; terms::MAX_VERTICES]
     ensures { λ r. ⌜ Lifts p a r ⌝ }
 {
     let n = p.n;
-    let vertices = p.vertices;
-    let base = vertices[a];
+    let base = p.vertices[a];
     let own = sphere::lift(base, base);
     let mut lifted = [own; terms::MAX_VERTICES];
     for v in 0..n {
-        let q = vertices[v];
-        lifted[v] = sphere::lift(base, q);
+        lifted[v] = sphere::lift(base, p.vertices[v]);
     }
     lifted
 }
@@ -50,29 +48,14 @@ fn is_corner(a: usize, b: usize, c: usize, d: usize, v: usize) -> bool
     v == d
 }
 
-// Is a vertex other than the corners found on the sphere, now or before?
-fn fifth_found(
-    found: bool,
-    place: Position,
-    a: usize,
-    b: usize,
-    c: usize,
-    d: usize,
-    v: usize,
-) -> bool
-    ensures { λ r. ⌜ r ≡ either found (both (not (isCorner a b c d v)) (isOn place)) ⌝ }
+// Is vertex v, which lies at this place, a fifth on the sphere of the four corners?
+fn is_fifth(place: Position, a: usize, b: usize, c: usize, d: usize, v: usize) -> bool
+    ensures { λ r. ⌜ r ≡ both (not (isCorner a b c d v)) (isOn place) ⌝ }
 {
-    match place {
-        Position::On => {
-            if is_corner(a, b, c, d, v) {
-                found
-            } else {
-                true
-            }
-        }
-        Position::Inside => found,
-        Position::Outside => found,
+    if let Position::On = place {
+        return !is_corner(a, b, c, d, v);
     }
+    false
 }
 
 // The vertex to look at in turn i of a scan: the one that dropped the last four, then all in their order.
@@ -119,11 +102,9 @@ fn mark_fours(p: Polygon, masks: &mut [u64; faces::PAIRS]) -> bool
                     if ball.orient == 0 {
                         continue 'four;
                     }
-                    let mut fifth = false;
                     for i in 0..n + 1 {
                         let v = scanned(last, i);
-                        let place = sphere::locate(ball, lifted[v]);
-                        if let Position::Inside = place {
+                        if let Position::Inside = sphere::locate(ball, lifted[v]) {
                             last = v;
                             if facet::separates(pencil, lifted[d], lifted[v]) {
                                 apex = d;
@@ -131,10 +112,11 @@ fn mark_fours(p: Polygon, masks: &mut [u64; faces::PAIRS]) -> bool
                             }
                             continue 'four;
                         }
-                        fifth = fifth_found(fifth, place, a, b, c, d, v);
                     }
-                    if fifth {
-                        return true;
+                    for v in 0..n {
+                        if is_fifth(sphere::locate(ball, lifted[v]), a, b, c, d, v) {
+                            return true;
+                        }
                     }
                     faces::insert_faces(masks, a, b, c, d);
                 }

@@ -1,6 +1,6 @@
 -- `delaunay::mark_fours` meets its contract: at each loop's head what is marked and what is left make up all candidates. Assumes nothing.
 use mathlib.Core.Path.{_≡_, refl, sym, _∙_, subst, subst₂}
-use mathlib.Core.Bool.{Bool}
+use mathlib.Core.Bool.{true}
 use mathlib.Core.List.{List}
 use Prim.Native.Nat.{ℕ, _+_, _-_, _≤_, _<_}
 use native.Mathlib.Omega.{arith}
@@ -13,10 +13,11 @@ use Rattle.geometry.specs.declared.sphere.Sphere.{Sphere}
 use Rattle.geometry.specs.Bounds.{SphereBounds}
 use Rattle.geometry.proofs.Spheres.{not-tagged}
 use Rattle.faces.proofs.Fours.{left1, left2, left3, left4, into2, into3, into4, out2, out3, out4}
+use Rattle.delaunay.specs.Candidates.{counts}
 use Rattle.delaunay.proofs.Marking.{hasFifth, Kept, kept-start, kept-turn, kept-then, kept-skip, kept-leave, twelve-due, all-marked}
-use Rattle.delaunay.proofs.Scanning.{Scanned, scan-start, scanned-in, not-counts-flat}
+use Rattle.delaunay.proofs.Scanning.{Scanned, Passed, scanned-in, not-counts-flat}
 use Rattle.delaunay.proofs.Corners.{Three, lift-in, vertex-in, pencil-in, none-counts, sphere-in, flat-is}
-use Rattle.delaunay.proofs.Fours.{Four, four-dropped, three-left, vertex-passed, four-marked, four-cospherical}
+use Rattle.delaunay.proofs.Fours.{Four, four-dropped, three-left, vertex-passed, four-counts, fifth-passed, four-cospherical, four-marked}
 use Rattle.delaunay.proofs.mark_fours.Statement.{statement}
 use Rattle.delaunay.proofs.mark_fours.Tie as tie
 
@@ -26,18 +27,24 @@ record Hints (n last apex : ℕ) : Type 0 where
   apex<n : apex < n
 
 -- in the scan: the four is the same
-record Scan (p : Polygon) (a b c₀ d₀ last apex c d : ℕ) (fifth : Bool) (i : ℕ) : Type 0 where
+record Scan (p : Polygon) (a b c₀ d₀ last apex c d i : ℕ) : Type 0 where
   same-c : c ≡ c₀
   same-d : d ≡ d₀
   ahead : i ≤ p .n + 1
   known : Hints (p .n) last apex
-  scanned : Scanned p a b c d (i - 1) fifth
+  scanned : Scanned p a b c d (i - 1)
 
 abbrev Inv-loop3 : tie.InvT-loop3
-Inv-loop3 p masks n last₀ apex₀ a lifted b c₀ pencil d₀ ball fifth₀ i₀ a-end b-end c-end i-end last apex c d fifth i = Scan p a b c₀ d₀ last apex c d fifth i
+Inv-loop3 p masks n last₀ apex₀ a lifted b c₀ pencil d₀ ball i₀ a-end b-end c-end i-end last apex c d i = Scan p a b c₀ d₀ last apex c d i
 
 abbrev μ-loop3 : tie.MeasureT-loop3
-μ-loop3 p masks n last₀ apex₀ a lifted b c₀ pencil d₀ ball fifth₀ i₀ a-end b-end c-end i-end last apex c d fifth i = n + 1 - i
+μ-loop3 p masks n last₀ apex₀ a lifted b c₀ pencil d₀ ball i₀ a-end b-end c-end i-end last apex c d i = n + 1 - i
+
+abbrev Inv-loop4 : tie.InvT-loop4
+Inv-loop4 p masks n last apex a lifted b c pencil d ball v₀ a-end b-end c-end v = Passed p a b c d v
+
+abbrev μ-loop4 : tie.MeasureT-loop4
+μ-loop4 p masks n last apex a lifted b c pencil d ball v₀ a-end b-end c-end v = n - v
 
 abbrev Inv-four : tie.InvT-four
 Inv-four p masks₀ n last₀ apex₀ a lifted b c₀ pencil d₀ a-end b-end c-end masks last apex c d = (c ≡ c₀) × Hints n last apex × Kept p masks₀ masks (λ P. left4 n P a b c₀ d₀) (λ P. left4 n P a b c d)
@@ -65,9 +72,9 @@ abbrev μ-loop : tie.MeasureT-loop
 
 -- a place of the code, or what is needed there, with these
 abbrev At :
-    (tie.InvT-loop3 → tie.MeasureT-loop3 → tie.InvT-four → tie.MeasureT-four → tie.InvT-three → tie.MeasureT-three → tie.InvT-loop2 → tie.MeasureT-loop2 → tie.InvT-loop → tie.MeasureT-loop → Type 0) →
+    (tie.InvT-loop3 → tie.MeasureT-loop3 → tie.InvT-loop4 → tie.MeasureT-loop4 → tie.InvT-four → tie.MeasureT-four → tie.InvT-three → tie.MeasureT-three → tie.InvT-loop2 → tie.MeasureT-loop2 → tie.InvT-loop → tie.MeasureT-loop → Type 0) →
     Type 0
-At place = place Inv-loop3 μ-loop3 Inv-four μ-four Inv-three μ-three Inv-loop2 μ-loop2 Inv-loop μ-loop
+At place = place Inv-loop3 μ-loop3 Inv-loop4 μ-loop4 Inv-four μ-four Inv-three μ-three Inv-loop2 μ-loop2 Inv-loop μ-loop
 
 sub-a-end : At tie.Need-sub-a-end
 sub-a-end c = c .pre .0 .least
@@ -271,7 +278,7 @@ add-i-end : At tie.Need-add-i-end
 add-i-end c = let s = corners c in omega (arith, valid (base s) .most)
 
 loop3-holds : At tie.Need-loop3-holds
-loop3-holds c = record { same-c = refl; same-d = refl; ahead = omega arith; known = known (corners c); scanned = scan-start _ _ _ _ _ }
+loop3-holds c = record { same-c = refl; same-d = refl; ahead = omega arith; known = known (corners c); scanned = refl }
 
 -- in the scan: c and d are still the same
 module _ (l : At tie.At-loop3) where
@@ -351,30 +358,48 @@ four-again-2 c =
     let l = turn w in
     (l .loop3 .inv .same-c ∙ same-c (tried l), record { last<n = v<n w; apex<n = l .loop3 .inv .known .apex<n }, four-dropped (still l) _ (v<n w) (t .before .before .locate .ensures) (t .enum-told .given .1))
 
-fifth-found-requires : At tie.Need-fifth-found-requires
-fifth-found-requires c κs = omega arith
-
 add-i : At tie.Need-add-i
-add-i c = let w = c .before .before .before .before in omega (arith, still (turn w) .three .valid .most, w .before .loop3-test .taken)
+add-i c = let w = c .before .before .before in omega (arith, still (turn w) .three .valid .most, w .before .loop3-test .taken)
 
 loop3-less : At tie.Need-loop3-less
-loop3-less c = omega (arith, c .before .before .before .before .before .loop3-test .taken)
+loop3-less c = omega (arith, c .before .before .before .before .loop3-test .taken)
 
 loop3-again : At tie.Need-loop3-again
 loop3-again c =
-    let w = c .before .before .before .before in
+    let w = c .before .before .before in
     let l = turn w in
     record {
       same-c = l .loop3 .inv .same-c;
       same-d = l .loop3 .inv .same-d;
       ahead = omega (arith, w .before .loop3-test .taken);
       known = l .loop3 .inv .known;
-      scanned = vertex-passed (still l) _ (v<n w) (c .before .before .locate .ensures) (not-tagged _ (c .before .match .keys2)) (l .loop3 .last) (l .loop3 .i) (w .scanned .ensures) (l .loop3 .fifth) (c .fifth-found .ensures) (l .loop3 .inv .scanned);
+      scanned = vertex-passed (still l) _ (v<n w) (c .before .locate .ensures) (not-tagged _ (c .match .keys2)) (l .loop3 .last) (l .loop3 .i) (w .scanned .ensures) (l .loop3 .inv .scanned);
     }
+
+loop4-holds : At tie.Need-loop4-holds
+loop4-holds c = refl
+
+-- no vertex is inside
+module _ (q : At tie.After-loop3) where
+  full : counts (polygon (base (tried (q .before)))) (A (base (tried (q .before)))) (B (base (tried (q .before)))) (q .before .loop3 .c) (q .before .loop3 .d) ≡ true
+  full = four-counts (still (q .before)) (q .before .loop3 .i - 1) (omega (arith, q .loop3-test .left)) (q .before .loop3 .inv .scanned)
+
+mul-locate-2 : At tie.Need-mul-locate-2
+mul-locate-2 c = omega (arith, valid (base (tried (c .before .before .before))) .most, c .loop4-test .taken)
+
+array-copy-out-locate-2 : At tie.Need-array-copy-out-locate-2
+array-copy-out-locate-2 c = omega (arith, valid (base (tried (c .before .before .before))) .most, c .loop4-test .taken)
+
+locate-requires-2 : At tie.Need-locate-requires-2
+locate-requires-2 c κs = let l = c .before .before .before .before in (ball-in (solid l), vertex-in (still l .three) _ (c .before .loop4-test .taken))
+
+is-fifth-requires : At tie.Need-is-fifth-requires
+is-fifth-requires c κs = omega arith
 
 returns : At tie.Need-returns
 returns c =
-    let q = c .before in
+    let m = c .before .before .before .before in
+    let q = m .before .before in
     let l = q .before in
     let g = base (tried l) in
     let P = hasFifth (polygon g) in
@@ -382,23 +407,36 @@ returns c =
     (sym (g .before .before .before .before .before .before .loop .inv .1 .twelve) ∙ into2 _ P _ (a<n g)
     ∙ sym (g .before .before .before .loop2 .inv .1 .twelve) ∙ into3 _ P _ _ (b<n g)
     ∙ sym (entered g .twelve)
-    ∙ four-cospherical (still l) _ (l .loop3 .fifth) (omega (arith, q .loop3-test .left)) (l .loop3 .inv .scanned) (c .if4 .taken))
+    ∙ four-cospherical (still l) (full q) _ (m .loop4-test .taken) (c .before .before .locate2 .ensures) (c .before .is-fifth .ensures) (c .if4 .taken))
+
+add-v : At tie.Need-add-v
+add-v c = let m = c .before .before .before .before in omega (arith, valid (base (tried (m .before .before .before))) .most, m .loop4-test .taken)
+
+loop4-less : At tie.Need-loop4-less
+loop4-less c = omega (arith, c .before .before .before .before .loop4-test .taken)
+
+loop4-again : At tie.Need-loop4-again
+loop4-again c =
+    let m = c .before .before .before .before in
+    let q = m .before .before in
+    fifth-passed (still (q .before)) (full q) _ (m .loop4-test .taken) (c .before .before .locate2 .ensures) (c .before .is-fifth .ensures) (c .if4 .left) (m .before .loop4 .inv)
 
 insert-faces-requires : At tie.Need-insert-faces-requires
 insert-faces-requires c κs =
-    let f = still (c .before .before .before) in
+    let f = still (c .before .before .before .before) in
     let m = f .three .valid .most in
     (omega (arith, m, f .three .a<n), omega (arith, m, f .three .b<n), omega (arith, m, f .three .c<n), omega (arith, m, f .d<n))
 
 add-d-4 : At tie.Need-add-d-4
-add-d-4 c = let f = still (c .before .before .before .before) in omega (arith, f .three .valid .most, f .d<n)
+add-d-4 c = let f = still (c .before .before .before .before .before) in omega (arith, f .three .valid .most, f .d<n)
 
 four-less-3 : At tie.Need-four-less-3
-four-less-3 c = let l = c .before .before .before .before in omega (arith, d<n (tried l), l .loop3 .inv .same-d)
+four-less-3 c = let l = c .before .before .before .before .before in omega (arith, d<n (tried l), l .loop3 .inv .same-d)
 
 four-again-3 : At tie.Need-four-again-3
 four-again-3 c =
-    let q = c .before .before .before in
+    let o = c .before .before in
+    let q = o .before .before in
     let l = q .before in
     let g = base (tried l) in
     let f = still l in
@@ -406,7 +444,7 @@ four-again-3 c =
       l .loop3 .inv .same-c ∙ same-c (tried l),
       l .loop3 .inv .known,
       subst (λ (masks : List ℕ). Kept (polygon g) (g .before .three .masks) masks (λ P. left4 (polygon g .n) P (A g) (B g) (C g) (C g + 1)) (λ P. left4 (polygon g .n) P (A g) (B g) (l .loop3 .c) (l .loop3 .d + 1))) (sym (c .insert-faces .ensures))
-          (four-marked f _ (l .loop3 .fifth) (omega (arith, q .loop3-test .left)) (l .loop3 .inv .scanned) (c .before .before .if4 .left) long),
+          (four-marked f (full q) _ (o .loop4-test .left) (o .before .loop4 .inv) long),
     )
 
 add-c-4 : At tie.Need-add-c-4
@@ -445,11 +483,12 @@ pub mark-fours-spec : {M : Type 1} → statement M
 mark-fours-spec =
     tie.close
     (tie.spec
-    Inv-loop3 μ-loop3 Inv-four μ-four Inv-three μ-three Inv-loop2 μ-loop2 Inv-loop μ-loop sub-a-end loop-holds lift-vertices-requires add-b sub-b-end
+    Inv-loop3 μ-loop3 Inv-loop4 μ-loop4 Inv-four μ-four Inv-three μ-three Inv-loop2 μ-loop2 Inv-loop μ-loop sub-a-end loop-holds lift-vertices-requires add-b sub-b-end
     loop2-holds add-c sub-c-end three-holds mul-pencil-through array-copy-out-pencil-through mul-pencil-through-2 array-copy-out-pencil-through-2
     pencil-through-requires mul-still-refuted array-copy-out-still-refuted mul-still-refuted-2 array-copy-out-still-refuted-2 still-refuted-requires
     add-c-2 three-less three-again add-d four-holds mul-circumsphere array-copy-out-circumsphere circumsphere-requires add-d-2 four-less four-again
     add-i-end loop3-holds scanned-requires mul-locate array-copy-out-locate locate-requires enum-told mul-separates array-copy-out-separates
     mul-separates-2 array-copy-out-separates-2 separates-requires add-c-3 three-less-2 three-again-2 add-d-3 four-less-2 four-again-2
-    fifth-found-requires add-i loop3-less loop3-again returns insert-faces-requires add-d-4 four-less-3 four-again-3 add-c-4 three-less-3 three-again-3
-    add-b-2 loop2-less loop2-again add-a loop-less loop-again returns-2)
+    add-i loop3-less loop3-again loop4-holds mul-locate-2 array-copy-out-locate-2 locate-requires-2 is-fifth-requires returns add-v loop4-less loop4-again
+    insert-faces-requires add-d-4 four-less-3 four-again-3 add-c-4 three-less-3 three-again-3 add-b-2 loop2-less loop2-again add-a loop-less loop-again
+    returns-2)
