@@ -1,55 +1,82 @@
-/* A host in C: closes the rim of a rim file, named as its argument, or that of the file P of document 01.
- * It prints what the bench program prints. Status 2, with one line on standard error, where the file cannot be read. */
+/* A host in C: closes the rim of a rim file and prints what the bench program prints. Its tables are as long as the rim needs.
+ * Status 0 where the rim is accepted, 1 where it is refused, 2 with one line on standard error where it could not run. */
 #include "patch_box.h"
 
 #include <errno.h>
 #include <stdio.h>
+#include <stdlib.h>
 #include <string.h>
 
-enum { CANDIDATES = 1024, ROWS = 4096 };
-
-static uint16_t triangles[PATCH_BOX_MAX_TRIANGLES];
-static uint8_t candidates[CANDIDATES][3];
-static uint32_t weights[CANDIDATES];
-static uint32_t rows[ROWS][3];
-static uint64_t work[CANDIDATES];
-
-/* Rim file P: first 1, four records, both factors 1; (0, 0, 0), (1, 0, 0), (1, 1, 0.75), (0, 1, 0). */
-static const uint8_t p_file[72] = {
-    1, 0, 4, 0, 1, 0, 1, 0,
-    2, 0, 1, 0, 0, 0, 0,    0,    0, 0, 0,    0,    0, 0, 0,    0,
-    3, 0, 1, 0, 0, 0, 0x80, 0x3f, 0, 0, 0,    0,    0, 0, 0,    0,
-    4, 0, 1, 0, 0, 0, 0x80, 0x3f, 0, 0, 0x80, 0x3f, 0, 0, 0x40, 0x3f,
-    0, 0, 1, 0, 0, 0, 0,    0,    0, 0, 0x80, 0x3f, 0, 0, 0,    0,
+struct tables {
+    patch_box_sizes_answer sizes;
+    uint16_t *triangles;
+    patch_box_candidate *candidates;
+    uint32_t *weights;
+    patch_box_row *rows;
+    uint64_t *work;
 };
 
-/* Does t's edge (a, c) lie on the other's edge (a, b) or (b, c)? */
-static int hangs_on(uint16_t t, uint16_t outer)
+static int fail(const char *what, const char *why)
 {
-    const uint8_t *inner = candidates[t], *other = candidates[outer];
-    return (inner[0] == other[0] && inner[2] == other[1]) || (inner[0] == other[1] && inner[2] == other[2]);
+    fprintf(stderr, "example: %s: %s\n", what, why);
+    return 2;
 }
 
-/* The weight of the row (outer, inner). Places past the rim's rows are still zero: they name no pair. */
-static uint32_t row_weight(uint16_t outer, uint16_t inner)
+/* Memory for a table, and never null for one of no places. */
+static void *table(size_t places, size_t size)
 {
-    for (size_t k = 0; k < ROWS; k++)
-        if (rows[k][0] == outer && rows[k][1] == inner)
-            return rows[k][2];
+    return calloc(places > 0 ? places : 1, size);
+}
+
+static int allocate(struct tables *t)
+{
+    t->triangles = table(t->sizes.triangles, sizeof *t->triangles);
+    t->candidates = table(t->sizes.candidates, sizeof *t->candidates);
+    t->weights = table(t->sizes.weights, sizeof *t->weights);
+    t->rows = table(t->sizes.rows, sizeof *t->rows);
+    t->work = table(t->sizes.work, sizeof *t->work);
+    return t->triangles && t->candidates && t->weights && t->rows && t->work;
+}
+
+static void release(struct tables *t)
+{
+    free(t->triangles);
+    free(t->candidates);
+    free(t->weights);
+    free(t->rows);
+    free(t->work);
+}
+
+/* The weight of the row to the triangle, earlier in walk order, that the i-th triangle of the patch hangs on. */
+static uint32_t bend_weight(const struct tables *t, size_t i)
+{
+    for (size_t r = 0; r < t->sizes.rows; r++)
+        for (size_t k = 0; k < i; k++)
+            if (t->rows[r].inner == t->triangles[i] && t->rows[r].outer == t->triangles[k])
+                return t->rows[r].weight;
     return 0;
 }
 
-static void print_patch(PatchAnswer answer)
+static void print_patch(const struct tables *t, patch_box_patch_answer answer)
 {
     printf("patch %zu %zu %llu\n", answer.triangles + 2, answer.triangles, (unsigned long long)answer.total);
     for (size_t i = 0; i < answer.triangles; i++) {
-        uint16_t t = triangles[i];
-        uint32_t row = 0;
-        for (size_t k = 0; k < i; k++)
-            if (hangs_on(t, triangles[k]))
-                row = row_weight(triangles[k], t);
-        printf("%u %u %u %u %u\n", candidates[t][0], candidates[t][1], candidates[t][2], weights[t], row);
+        patch_box_candidate c = t->candidates[t->triangles[i]];
+        printf("%u %u %u %lu %lu\n", c.a, c.b, c.c, (unsigned long)t->weights[t->triangles[i]], (unsigned long)bend_weight(t, i));
     }
+}
+
+/* Closes the rim and prints the answer; gives its number. */
+static uint32_t close_rim(const uint8_t *file, size_t length, struct tables *t)
+{
+    patch_box_patch_answer answer =
+        patch_box_rim(file, length, t->triangles, t->sizes.triangles, t->candidates, t->sizes.candidates, t->weights, t->sizes.weights, t->rows,
+                      t->sizes.rows, t->work, t->sizes.work);
+    if (answer.number == PATCH_BOX_ACCEPTED && answer.triangles == 0)
+        printf("none\n");
+    else if (answer.number == PATCH_BOX_ACCEPTED)
+        print_patch(t, answer);
+    return answer.number;
 }
 
 /* The file's bytes; one byte more than the longest rim file is enough to see that it is too long. */
@@ -67,31 +94,26 @@ static int read_file(const char *name, uint8_t *bytes, size_t places, size_t *le
 
 int main(int count, char **arguments)
 {
-    static uint8_t bytes[PATCH_BOX_MAX_FILE + 1];
-    const uint8_t *file = p_file;
-    size_t length = sizeof p_file;
-    if (count > 2) {
-        fprintf(stderr, "example: one rim file is expected: example [RIM-FILE]\n");
-        return 2;
+    static uint8_t file[PATCH_BOX_MAX_FILE + 1];
+    size_t length;
+    struct tables t;
+    if (count != 2)
+        return fail("one rim file is expected", "example RIM-FILE");
+    if (!read_file(arguments[1], file, sizeof file, &length))
+        return fail(arguments[1], strerror(errno));
+    t.sizes = patch_box_sizes(file, length);
+    uint32_t number = t.sizes.number;
+    if (number == PATCH_BOX_ACCEPTED) {
+        int enough = allocate(&t);
+        if (enough)
+            number = close_rim(file, length, &t);
+        release(&t);
+        if (!enough)
+            return fail("no memory", strerror(ENOMEM));
     }
-    if (count == 2) {
-        if (!read_file(arguments[1], bytes, sizeof bytes, &length)) {
-            fprintf(stderr, "example: %s cannot be read: %s\n", arguments[1], strerror(errno));
-            return 2;
-        }
-        file = bytes;
-    }
-    PatchAnswer answer = patch_rim(file, length, triangles, PATCH_BOX_MAX_TRIANGLES, candidates, CANDIDATES, weights, CANDIDATES, rows, ROWS,
-                                   work, CANDIDATES);
-    if (answer.number != 0)
-        printf("refused %u\n", answer.number);
-    else if (answer.triangles == 0)
-        printf("none\n");
-    else
-        print_patch(answer);
-    if (fflush(stdout) != 0) {
-        fprintf(stderr, "example: the answer cannot be written: %s\n", strerror(errno));
-        return 2;
-    }
-    return 0;
+    if (number != PATCH_BOX_ACCEPTED)
+        printf("refused %lu\n", (unsigned long)number);
+    if (fflush(stdout) != 0)
+        return fail("the answer cannot be written", strerror(errno));
+    return number == PATCH_BOX_ACCEPTED ? 0 : 1;
 }

@@ -1,23 +1,17 @@
-/* The patch box for hosts in C. Link target/staticlib/libexports.a, which `rt staticlib exports` makes (x86-64 Linux).
+/* The patch box for hosts in C and C++. Link target/staticlib/libexports.a, which `rt staticlib exports` makes (x86-64 Linux).
+ * The rules and the rim file are described in README.md and docs/SPECIFICATION.md.
  *
- * A table is lent as a pointer and its number of places. Tables of one call must not overlap, and each pointer is valid for its places; a table of
- * no places has any non-null pointer. The calls keep nothing, allocate nothing and may run at once in several threads, over tables of their own.
- * They use less than 64 KB of stack.
+ * Tables. The host lends tables; a call keeps none of them and allocates nothing. A table is lent as a pointer and its number of places:
+ *   - the pointer is not null and is aligned for the table's type, also where the table has no places; such a table is not accessed, so the address of
+ *     any object of the type will do;
+ *   - the places lie in one object, and no two tables of a call overlap, nor does the file overlap a table;
+ *   - places that a call does not fill keep what they held, and a refusal changes none.
  *
- *   triangles   places of u16: numbers of candidates
- *   candidates  places of three bytes: vertices a < b < c; the candidates ascend, and are numbered from 0 in that order
- *   weights     places of u32: the weight of the candidate of the same number
- *   rows        places of three u32: outer candidate, inner candidate, weight; rows ascend by outer, then inner
- *   work        places of u64: scratch
+ * Calls may run at once in several threads, over tables of their own. Each uses less than 64 KiB of stack.
  *
- * The outcome of a call is read from the fields of its answer:
- *
+ * Outcomes. The field `number` of an answer is 0, or says why the call refused; then every other field is 0. Of a patch_box_patch_answer:
  *   number 0 and triangles above 0   a patch
- *   number 0 and triangles 0         'none': the candidates hold no triangulation
- *   number above 0                   refused; every other field is 0, and no table is changed
- *
- * Numbers 1 to 17 are those of the README: 1 to 11 the rim file, 12 the shape of the rim, 13 a lent table with too few places, 14 to 17 a direct job.
- * Places of a table that a call does not fill keep what they held.
+ *   number 0 and triangles 0         'none': the candidates hold no triangulation of the rim
  */
 #ifndef PATCH_BOX_H
 #define PATCH_BOX_H
@@ -29,56 +23,112 @@
 extern "C" {
 #endif
 
+/* Places that suffice for every rim. patch_box_sizes says what one rim needs, which is far less. */
 enum {
-    PATCH_BOX_MAX_FILE = 8 + 16 * 256,  /* bytes of the longest rim file */
+    PATCH_BOX_MAX_FILE = 4104,        /* bytes of the longest rim file: 8 + 16 * 256 */
     PATCH_BOX_MAX_VERTICES = 64,
-    PATCH_BOX_MAX_TRIANGLES = 62,       /* n - 2 of the largest rim */
-    PATCH_BOX_MAX_CANDIDATES = 41664    /* the triples of 64 vertices: enough for every rim */
+    PATCH_BOX_MAX_TRIANGLES = 62,     /* a triangulation of n vertices has n - 2 triangles */
+    PATCH_BOX_MAX_CANDIDATES = 41664, /* for candidates, weights and work: the triples of 64 vertices, 64 * 63 * 62 / 6 */
+    PATCH_BOX_MAX_ROWS = 1270752      /* two for each four p < q < r < s of 64 vertices: pqr hangs on prs, and qrs hangs on pqs; 2 * 635376 */
 };
+
+/* Why a call refused: the values of the field `number`. */
+enum {
+    PATCH_BOX_ACCEPTED = 0,            /* not refused */
+    PATCH_BOX_LENGTH = 1,              /* the length of the file does not fit its record count, or the count is over 256 */
+    PATCH_BOX_AREA_FACTOR = 2,         /* the area factor is more than 16 */
+    PATCH_BOX_LINK = 3,                /* a link leads past the last record */
+    PATCH_BOX_RECORD_REPEATED = 4,     /* a link leads back to a record of the chain */
+    PATCH_BOX_TOO_MANY_VERTICES = 5,   /* the chain has more than 64 records */
+    PATCH_BOX_KIND = 6,                /* a record is neither a point nor a level point */
+    PATCH_BOX_NO_HEIGHT = 7,           /* a level point comes before any point */
+    PATCH_BOX_NOT_FINITE = 8,          /* a coordinate is not finite, or the unused bytes of a level point are not zero */
+    PATCH_BOX_OUT_OF_RANGE = 9,        /* a coordinate is not from -125 to 125 mm */
+    PATCH_BOX_TOO_FEW_VERTICES = 10,   /* the rim has fewer than 3 vertices */
+    PATCH_BOX_VERTEX_REPEATED = 11,    /* two vertices are at one grid point */
+    PATCH_BOX_COSPHERICAL = 12,        /* five vertices, not all in one plane, are on a sphere that has no vertex inside */
+    PATCH_BOX_TABLE_TOO_SHORT = 13,    /* a lent table is too short */
+    PATCH_BOX_VERTEX_COUNT = 14,       /* the n of a direct job is not from 3 to 64 */
+    PATCH_BOX_CANDIDATE = 15,          /* the candidates of a direct job are not vertices a < b < c < n in rising order */
+    PATCH_BOX_ROW = 16,                /* the rows of a direct job are not hanging pairs in rising order */
+    PATCH_BOX_WEIGHT = 17              /* a weight of a direct job is more than 2,000,000,000 */
+};
+
+/* Vertices a < b < c. Candidates stand in rising order, and a candidate's number is its place, from 0. */
+typedef struct {
+    uint8_t a, b, c;
+} patch_box_candidate;
+
+/* The weight of the pair in which candidate `inner` hangs on candidate `outer`. Rows rise by outer, then inner. */
+typedef struct {
+    uint32_t outer, inner, weight;
+} patch_box_row;
 
 typedef struct {
     uint32_t number;
-    size_t triangles;  /* how many first places of the triangle table are filled: n - 2, or 0 */
-    uint64_t total;    /* the total of the patch, or 0 */
-} PatchAnswer;
+    size_t triangles; /* how many first places of the triangle table are filled: n - 2, or 0 */
+    uint64_t total;   /* the total of the patch, or 0 */
+} patch_box_patch_answer;
 
 typedef struct {
     uint32_t number;
     size_t vertices;
-} ReadAnswer;
+} patch_box_read_answer;
 
 typedef struct {
     uint32_t number;
-    size_t candidates;  /* how many first places of the candidate and weight tables are filled */
-    size_t rows;        /* how many first places of the row table are filled */
-} FindAnswer;
+    size_t candidates; /* how many first places of the candidate and weight tables are filled */
+    size_t rows;       /* how many first places of the row table are filled */
+} patch_box_find_answer;
 
-/* The one call: closes the rim of a rim file (bytes). After a patch or 'none' the candidate, weight and row tables hold the rim's lists in their
- * first places and the work table holds zero in one place per candidate; after a patch the triangle table holds its candidates in walk order. */
-PatchAnswer patch_rim(const uint8_t *file, size_t file_len,
-                      uint16_t *triangles, size_t triangles_len,
-                      uint8_t (*candidates)[3], size_t candidates_len,
-                      uint32_t *weights, size_t weights_len,
-                      uint32_t (*rows)[3], size_t rows_len,
-                      uint64_t *work, size_t work_len);
+/* The places that each table needs. */
+typedef struct {
+    uint32_t number;
+    size_t triangles;
+    size_t candidates;
+    size_t weights;
+    size_t rows;
+    size_t work;
+} patch_box_sizes_answer;
 
-/* The tiler alone, for a direct job: n vertices, and every place of the candidate and row tables belongs to its lists. The triangle table needs n - 2
- * places; the weight and work tables one per candidate. The triangle and work tables are filled as by patch_rim. */
-PatchAnswer patch_job(size_t n,
-                      const uint8_t (*candidates)[3], size_t candidates_len,
-                      const uint32_t *weights, size_t weights_len,
-                      const uint32_t (*rows)[3], size_t rows_len,
-                      uint16_t *triangles, size_t triangles_len,
-                      uint64_t *work, size_t work_len);
+/* The sizes of a rim file's tables: a number of 1 to 12, or what patch_box_rim needs at least. */
+patch_box_sizes_answer patch_box_sizes(const uint8_t *file, size_t file_len);
+
+/* The one call: closes the rim of a rim file. A number of 1 to 13, or a patch, or 'none'. Unless it refuses, it leaves the rim's lists in the first
+ * places of the tables for candidates, weights and rows, and zeros in the work table, as many as there are candidates. A patch fills the triangle table
+ * with the numbers of its candidates, in walk order. */
+patch_box_patch_answer patch_box_rim(const uint8_t *file, size_t file_len,
+                                     uint16_t *triangles, size_t triangles_len,
+                                     patch_box_candidate *candidates, size_t candidates_len,
+                                     uint32_t *weights, size_t weights_len,
+                                     patch_box_row *rows, size_t rows_len,
+                                     uint64_t *work, size_t work_len);
+
+/* The tiler alone, for a direct job of n vertices, whose lists are the whole tables of candidates and rows. A number of 13 to 17, or a patch, or 'none'.
+ * It needs n - 2 places for triangles, and for weights and work as many as there are candidates; triangles and work are left as by patch_box_rim. */
+patch_box_patch_answer patch_box_job(size_t n,
+                                     const patch_box_candidate *candidates, size_t candidates_len,
+                                     const uint32_t *weights, size_t weights_len,
+                                     const patch_box_row *rows, size_t rows_len,
+                                     uint16_t *triangles, size_t triangles_len,
+                                     uint64_t *work, size_t work_len);
 
 /* The reader alone: a number of 1 to 11, or how many vertices the rim has. */
-ReadAnswer read_rim(const uint8_t *file, size_t file_len);
+patch_box_read_answer patch_box_read(const uint8_t *file, size_t file_len);
 
 /* The reader, then the candidate finder: a number of 1 to 13, or the rim's lists in the first places of the three tables. */
-FindAnswer find_candidates(const uint8_t *file, size_t file_len,
-                           uint8_t (*candidates)[3], size_t candidates_len,
-                           uint32_t *weights, size_t weights_len,
-                           uint32_t (*rows)[3], size_t rows_len);
+patch_box_find_answer patch_box_find(const uint8_t *file, size_t file_len,
+                                     patch_box_candidate *candidates, size_t candidates_len,
+                                     uint32_t *weights, size_t weights_len,
+                                     patch_box_row *rows, size_t rows_len);
+
+/* The library has each struct in this very layout: an array of a negative length does not compile. */
+typedef char patch_box_assert_candidate[sizeof(patch_box_candidate) == 3 ? 1 : -1];
+typedef char patch_box_assert_row[sizeof(patch_box_row) == 12 ? 1 : -1];
+typedef char patch_box_assert_patch_answer[sizeof(patch_box_patch_answer) == 24 && offsetof(patch_box_patch_answer, total) == 16 ? 1 : -1];
+typedef char patch_box_assert_read_answer[sizeof(patch_box_read_answer) == 16 ? 1 : -1];
+typedef char patch_box_assert_find_answer[sizeof(patch_box_find_answer) == 24 ? 1 : -1];
+typedef char patch_box_assert_sizes_answer[sizeof(patch_box_sizes_answer) == 48 ? 1 : -1];
 
 #ifdef __cplusplus
 }

@@ -1,79 +1,389 @@
-//! The patch box for hosts in Rust: the calls of target/staticlib/libexports.a and their answers.
-//! patch_box.h says what each takes and does; a slice passes as a pointer and a length.
+//! The patch box for hosts in Rust: its calls over slices. Tables that overlap, dangle or are not
+//! aligned do not compile. patch_box.h says what each call does to the tables; README.md and
+//! docs/SPECIFICATION.md describe the rules and the rim file.
+//!
+//! ```no_run
+//! use patch_box::{Number, Outcome, OwnedTables};
+//!
+//! fn close(file: &[u8]) -> Result<(), Number> {
+//!     let mut tables = OwnedTables::new(patch_box::sizes(file)?);
+//!     match patch_box::rim(file, tables.lend())? {
+//!         Outcome::None => println!("no triangulation"),
+//!         Outcome::Patch { triangles, total } => {
+//!             println!("total {total}");
+//!             for &number in &tables.triangles[..triangles] {
+//!                 println!("{:?}", tables.candidates[number as usize]);
+//!             }
+//!         }
+//!     }
+//!     Ok(())
+//! }
+//! ```
+//!
+//! This is the one file of a Rust host with `unsafe`: the calls of the archive are declared here.
 
-// A host takes the calls that it needs.
-#![allow(dead_code)]
+#![no_std]
 
-/// A candidate (a, b, c).
-pub type Triangle = [u8; 3];
+#[cfg(feature = "alloc")]
+extern crate alloc;
 
-/// A row (outer, inner, weight).
+use core::error::Error;
+use core::fmt;
+
+#[cfg(feature = "alloc")]
+pub use owned::OwnedTables;
+
+/// Bytes of the longest rim file.
+pub const MAX_FILE: usize = 8 + 16 * 256;
+
+/// Vertices of the longest rim.
+pub const MAX_VERTICES: usize = 64;
+
+/// Places that suffice for the triangles of every rim.
+pub const MAX_TRIANGLES: usize = MAX_VERTICES - 2;
+
+/// Places that suffice for the candidates, weights and work of every rim: the triples of 64.
+pub const MAX_CANDIDATES: usize = 64 * 63 * 62 / 6;
+
+/// Places that suffice for the rows of every rim: two for each four of 64 vertices.
+pub const MAX_ROWS: usize = 2 * (64 * 63 * 62 * 61 / 24);
+
+/// Vertices a < b < c. Candidates stand in rising order, and a candidate's number is its place.
+pub type Candidate = [u8; 3];
+
+/// (outer, inner, weight): the weight of the pair in which candidate `inner` hangs on `outer`.
 pub type Row = [u32; 3];
 
-/// Number 0 with triangles is a patch, without triangles it is 'none'.
-#[repr(C)]
+/// The tables lent to [`rim`].
+pub struct Tables<'a> {
+    /// The candidate numbers of the patch, in walk order.
+    pub triangles: &'a mut [u16],
+    pub candidates: &'a mut [Candidate],
+    /// The weight of the candidate of the same number.
+    pub weights: &'a mut [u32],
+    pub rows: &'a mut [Row],
+    /// Scratch, one place for each candidate.
+    pub work: &'a mut [u64],
+}
+
+/// The places that each table needs.
 #[derive(Clone, Copy, Debug, PartialEq, Eq)]
-pub struct PatchAnswer {
-    pub number: u32,
+pub struct Sizes {
     pub triangles: usize,
-    pub total: u64,
+    pub candidates: usize,
+    pub weights: usize,
+    pub rows: usize,
+    pub work: usize,
 }
 
-#[repr(C)]
+/// What an accepted rim or job ends in.
 #[derive(Clone, Copy, Debug, PartialEq, Eq)]
-pub struct ReadAnswer {
-    pub number: u32,
-    pub vertices: usize,
+pub enum Outcome {
+    /// The first `triangles` places of the triangle table hold the patch.
+    Patch { triangles: usize, total: u64 },
+    /// The candidates hold no triangulation.
+    None,
 }
 
-#[repr(C)]
+/// The lists of a rim: how many first places of their tables they fill.
 #[derive(Clone, Copy, Debug, PartialEq, Eq)]
-pub struct FindAnswer {
-    pub number: u32,
+pub struct Found {
     pub candidates: usize,
     pub rows: usize,
 }
 
-extern "C" {
-    pub fn patch_rim(
-        file: *const u8,
-        file_len: usize,
-        triangles: *mut u16,
-        triangles_len: usize,
-        candidates: *mut Triangle,
-        candidates_len: usize,
-        weights: *mut u32,
-        weights_len: usize,
-        rows: *mut Row,
-        rows_len: usize,
-        work: *mut u64,
-        work_len: usize,
-    ) -> PatchAnswer;
+/// Defines the enum of the numbers, from the number and its line.
+macro_rules! numbers {
+    ($($name:ident = $number:literal, $line:literal;)*) => {
+        /// Why a call refused. A refusal changes no table.
+        #[derive(Clone, Copy, Debug, PartialEq, Eq, PartialOrd, Ord, Hash)]
+        #[repr(u32)]
+        pub enum Number {
+            $(#[doc = $line] $name = $number,)*
+        }
 
-    pub fn patch_job(
-        n: usize,
-        candidates: *const Triangle,
-        candidates_len: usize,
-        weights: *const u32,
-        weights_len: usize,
-        rows: *const Row,
-        rows_len: usize,
-        triangles: *mut u16,
-        triangles_len: usize,
-        work: *mut u64,
-        work_len: usize,
-    ) -> PatchAnswer;
+        impl Number {
+            /// All of them, in ascending order.
+            pub const ALL: &'static [Number] = &[$(Number::$name,)*];
 
-    pub fn read_rim(file: *const u8, file_len: usize) -> ReadAnswer;
+            /// The reason, in one line.
+            pub fn reason(self) -> &'static str {
+                match self {
+                    $(Number::$name => $line,)*
+                }
+            }
+        }
+    };
+}
 
-    pub fn find_candidates(
-        file: *const u8,
-        file_len: usize,
-        candidates: *mut Triangle,
-        candidates_len: usize,
-        weights: *mut u32,
-        weights_len: usize,
-        rows: *mut Row,
-        rows_len: usize,
-    ) -> FindAnswer;
+numbers! {
+    Length = 1, "the length of the file does not fit its record count, or the count is over 256";
+    AreaFactor = 2, "the area factor is more than 16";
+    Link = 3, "a link leads past the last record";
+    RecordRepeated = 4, "a link leads back to a record of the chain";
+    TooManyVertices = 5, "the chain has more than 64 records";
+    Kind = 6, "a record is neither a point nor a level point";
+    NoHeight = 7, "a level point comes before any point";
+    NotFinite = 8, "a coordinate is not finite, or the unused bytes of a level point are not zero";
+    OutOfRange = 9, "a coordinate is not from -125 to 125 mm";
+    TooFewVertices = 10, "the rim has fewer than 3 vertices";
+    VertexRepeated = 11, "two vertices are at one grid point";
+    Cospherical = 12, "five vertices, not all in one plane, are on a sphere that has no vertex inside";
+    TableTooShort = 13, "a lent table is too short";
+    VertexCount = 14, "the n of a direct job is not from 3 to 64";
+    Candidate = 15, "the candidates of a direct job are not vertices a < b < c < n in rising order";
+    Row = 16, "the rows of a direct job are not hanging pairs in rising order";
+    Weight = 17, "a weight of a direct job is more than 2,000,000,000";
+}
+
+impl Number {
+    /// The number itself, 1 to 17.
+    pub fn code(self) -> u32 {
+        self as u32
+    }
+
+    /// The number of this value, where there is one.
+    pub fn of_code(code: u32) -> Option<Number> {
+        Number::ALL.iter().copied().find(|number| number.code() == code)
+    }
+}
+
+impl fmt::Display for Number {
+    fn fmt(&self, out: &mut fmt::Formatter) -> fmt::Result {
+        write!(out, "refused {}: {}", self.code(), self.reason())
+    }
+}
+
+impl Error for Number {}
+
+/// The places that the tables of a rim file need, or a number of 1 to 12.
+pub fn sizes(file: &[u8]) -> Result<Sizes, Number> {
+    // SAFETY: the slice is valid for the call.
+    let answer = unsafe { archive::patch_box_sizes(file.as_ptr(), file.len()) };
+    let archive::Sizes { number, triangles, candidates, weights, rows, work } = answer;
+    accepted(number, [triangles, candidates, weights, rows, work])?;
+    Ok(Sizes { triangles, candidates, weights, rows, work })
+}
+
+/// The one call: closes the rim of a rim file. A number of 1 to 13 where it is refused.
+pub fn rim(file: &[u8], tables: Tables) -> Result<Outcome, Number> {
+    let Tables { triangles, candidates, weights, rows, work } = tables;
+    // SAFETY: each pointer is a slice's own, with that slice's length; mutable slices are disjoint.
+    let answer = unsafe {
+        archive::patch_box_rim(
+            file.as_ptr(),
+            file.len(),
+            triangles.as_mut_ptr(),
+            triangles.len(),
+            candidates.as_mut_ptr(),
+            candidates.len(),
+            weights.as_mut_ptr(),
+            weights.len(),
+            rows.as_mut_ptr(),
+            rows.len(),
+            work.as_mut_ptr(),
+            work.len(),
+        )
+    };
+    answer.outcome()
+}
+
+/// The tiler alone, for a direct job. A number of 13 to 17 where it is refused.
+pub fn job(
+    n: usize,
+    candidates: &[Candidate],
+    weights: &[u32],
+    rows: &[Row],
+    triangles: &mut [u16],
+    work: &mut [u64],
+) -> Result<Outcome, Number> {
+    // SAFETY: each pointer is a slice's own, with that slice's length; mutable slices are disjoint.
+    let answer = unsafe {
+        archive::patch_box_job(
+            n,
+            candidates.as_ptr(),
+            candidates.len(),
+            weights.as_ptr(),
+            weights.len(),
+            rows.as_ptr(),
+            rows.len(),
+            triangles.as_mut_ptr(),
+            triangles.len(),
+            work.as_mut_ptr(),
+            work.len(),
+        )
+    };
+    answer.outcome()
+}
+
+/// The reader alone: how many vertices the rim has, or a number of 1 to 11.
+pub fn read(file: &[u8]) -> Result<usize, Number> {
+    // SAFETY: the slice is valid for the call.
+    let answer = unsafe { archive::patch_box_read(file.as_ptr(), file.len()) };
+    accepted(answer.number, [answer.vertices])?;
+    Ok(answer.vertices)
+}
+
+/// The reader, then the candidate finder: a number of 1 to 13 where it is refused.
+pub fn find(
+    file: &[u8],
+    candidates: &mut [Candidate],
+    weights: &mut [u32],
+    rows: &mut [Row],
+) -> Result<Found, Number> {
+    // SAFETY: each pointer is a slice's own, with that slice's length; mutable slices are disjoint.
+    let answer = unsafe {
+        archive::patch_box_find(
+            file.as_ptr(),
+            file.len(),
+            candidates.as_mut_ptr(),
+            candidates.len(),
+            weights.as_mut_ptr(),
+            weights.len(),
+            rows.as_mut_ptr(),
+            rows.len(),
+        )
+    };
+    accepted(answer.number, [answer.candidates, answer.rows])?;
+    Ok(Found { candidates: answer.candidates, rows: answer.rows })
+}
+
+/// The number of an answer as an error. A refusal has no counts.
+fn accepted<const N: usize>(number: u32, counts: [usize; N]) -> Result<(), Number> {
+    match Number::of_code(number) {
+        None if number == 0 => Ok(()),
+        Some(refusal) if counts == [0; N] => Err(refusal),
+        _ => panic!("the archive and patch_box.rs differ: number {number}, counts {counts:?}"),
+    }
+}
+
+impl archive::Patch {
+    fn outcome(self) -> Result<Outcome, Number> {
+        let archive::Patch { number, triangles, total } = self;
+        accepted(number, [triangles, total as usize])?;
+        match (triangles, total) {
+            (0, 0) => Ok(Outcome::None),
+            (0, _) => panic!("the archive and patch_box.rs differ: none with total {total}"),
+            _ => Ok(Outcome::Patch { triangles, total }),
+        }
+    }
+}
+
+#[cfg(feature = "alloc")]
+mod owned {
+    use super::{Candidate, Row, Sizes, Tables};
+    use alloc::{vec, vec::Vec};
+
+    /// Tables of a host's own, as long as a rim needs.
+    #[derive(Clone, Debug, PartialEq, Eq)]
+    pub struct OwnedTables {
+        pub triangles: Vec<u16>,
+        pub candidates: Vec<Candidate>,
+        pub weights: Vec<u32>,
+        pub rows: Vec<Row>,
+        pub work: Vec<u64>,
+    }
+
+    impl OwnedTables {
+        pub fn new(sizes: Sizes) -> OwnedTables {
+            OwnedTables {
+                triangles: vec![0; sizes.triangles],
+                candidates: vec![[0; 3]; sizes.candidates],
+                weights: vec![0; sizes.weights],
+                rows: vec![[0; 3]; sizes.rows],
+                work: vec![0; sizes.work],
+            }
+        }
+
+        pub fn lend(&mut self) -> Tables<'_> {
+            Tables {
+                triangles: &mut self.triangles,
+                candidates: &mut self.candidates,
+                weights: &mut self.weights,
+                rows: &mut self.rows,
+                work: &mut self.work,
+            }
+        }
+    }
+}
+
+/// The archive's calls and answers, as patch_box.h declares them.
+mod archive {
+    use super::{Candidate, Row};
+
+    #[repr(C)]
+    pub struct Patch {
+        pub number: u32,
+        pub triangles: usize,
+        pub total: u64,
+    }
+
+    #[repr(C)]
+    pub struct Read {
+        pub number: u32,
+        pub vertices: usize,
+    }
+
+    #[repr(C)]
+    pub struct Find {
+        pub number: u32,
+        pub candidates: usize,
+        pub rows: usize,
+    }
+
+    #[repr(C)]
+    pub struct Sizes {
+        pub number: u32,
+        pub triangles: usize,
+        pub candidates: usize,
+        pub weights: usize,
+        pub rows: usize,
+        pub work: usize,
+    }
+
+    extern "C" {
+        pub fn patch_box_sizes(file: *const u8, file_len: usize) -> Sizes;
+
+        pub fn patch_box_rim(
+            file: *const u8,
+            file_len: usize,
+            triangles: *mut u16,
+            triangles_len: usize,
+            candidates: *mut Candidate,
+            candidates_len: usize,
+            weights: *mut u32,
+            weights_len: usize,
+            rows: *mut Row,
+            rows_len: usize,
+            work: *mut u64,
+            work_len: usize,
+        ) -> Patch;
+
+        pub fn patch_box_job(
+            n: usize,
+            candidates: *const Candidate,
+            candidates_len: usize,
+            weights: *const u32,
+            weights_len: usize,
+            rows: *const Row,
+            rows_len: usize,
+            triangles: *mut u16,
+            triangles_len: usize,
+            work: *mut u64,
+            work_len: usize,
+        ) -> Patch;
+
+        pub fn patch_box_read(file: *const u8, file_len: usize) -> Read;
+
+        pub fn patch_box_find(
+            file: *const u8,
+            file_len: usize,
+            candidates: *mut Candidate,
+            candidates_len: usize,
+            weights: *mut u32,
+            weights_len: usize,
+            rows: *mut Row,
+            rows_len: usize,
+        ) -> Find;
+    }
 }

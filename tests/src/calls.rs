@@ -1,6 +1,31 @@
 //! The calls of the library, and the tables lent to them.
 
-pub use crate::patch_box::{FindAnswer, PatchAnswer, ReadAnswer, Row, Triangle};
+/// A candidate (a, b, c).
+pub type Triangle = [u8; 3];
+
+/// A row (outer, inner, weight).
+pub type Row = [u32; 3];
+
+/// Rule 5.2: number 0 with triangles is a patch, without triangles it is 'none'.
+#[derive(Clone, Copy, Debug, PartialEq, Eq)]
+pub struct PatchAnswer {
+    pub number: u32,
+    pub triangles: usize,
+    pub total: u64,
+}
+
+#[derive(Clone, Copy, Debug, PartialEq, Eq)]
+pub struct ReadAnswer {
+    pub number: u32,
+    pub vertices: usize,
+}
+
+#[derive(Clone, Copy, Debug, PartialEq, Eq)]
+pub struct FindAnswer {
+    pub number: u32,
+    pub candidates: usize,
+    pub rows: usize,
+}
 
 impl PatchAnswer {
     pub const NONE: PatchAnswer = PatchAnswer { number: 0, triangles: 0, total: 0 };
@@ -96,11 +121,11 @@ pub struct Places {
 }
 
 impl Places {
-    /// The tables of the bench program.
+    /// The tables of the bench program (rule 5.3).
     pub const BENCH: Places =
         Places { triangles: 62, candidates: 1024, weights: 1024, rows: 4096, work: 1024 };
 
-    /// Enough for any rim.
+    /// More than any rim of the tests needs.
     pub const ENOUGH: Places =
         Places { triangles: 62, candidates: 41_664, weights: 41_664, rows: 83_328, work: 41_664 };
 }
@@ -175,4 +200,19 @@ pub trait Calls {
 
     /// The reader and the finder; the triangle and work tables are not lent.
     fn find_candidates(&self, file: &[u8], tables: &mut Tables) -> FindAnswer;
+
+    /// The places that the tables of a file need, or the number due of 1 to 12.
+    fn sizes(&self, file: &[u8]) -> Result<Places, u32> {
+        let found = self.find_candidates(file, &mut Tables::guarded(Places::ENOUGH));
+        if found.number != 0 {
+            return Err(found.number);
+        }
+        Ok(Places {
+            triangles: self.read_rim(file).vertices - 2,
+            candidates: found.candidates,
+            weights: found.candidates,
+            rows: found.rows,
+            work: found.candidates,
+        })
+    }
 }

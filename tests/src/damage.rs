@@ -1,4 +1,4 @@
-//! Damage to a rim file, and the number that document 01 gives for it.
+//! Damage to a rim file, and the number due for it (rules 4.1 to 4.11).
 
 use crate::rims::{Record, RimFile};
 

@@ -1,88 +1,73 @@
-//! The library itself, through its C boundary, as hosts in Rust declare it.
+//! The library itself, through the calls of hosts in Rust.
 
 use crate::calls::Calls;
 use crate::fast::Fast;
 
 #[cfg(feature = "library")]
 mod linked {
-    use crate::calls::{Calls, FindAnswer, PatchAnswer, ReadAnswer, Tables};
-    use crate::patch_box::{find_candidates, patch_job, patch_rim, read_rim};
+    use crate::calls::{Calls, FindAnswer, PatchAnswer, Places, ReadAnswer, Tables};
+    use patch_box::{Number, Outcome};
 
     pub struct Library;
 
-    // Each pointer below is a slice's own, with that slice's length, and lives through the call.
+    fn patch_answer(result: Result<Outcome, Number>) -> PatchAnswer {
+        match result {
+            Err(number) => PatchAnswer::refused(number.code()),
+            Ok(Outcome::None) => PatchAnswer::NONE,
+            Ok(Outcome::Patch { triangles, total }) => PatchAnswer { number: 0, triangles, total },
+        }
+    }
+
     impl Calls for Library {
         fn name(&self) -> &'static str {
             "library"
         }
 
         fn patch_rim(&self, file: &[u8], tables: &mut Tables) -> PatchAnswer {
-            let triangles = tables.triangles.table();
-            let candidates = tables.candidates.table();
-            let weights = tables.weights.table();
-            let rows = tables.rows.table();
-            let work = tables.work.table();
-            unsafe {
-                patch_rim(
-                    file.as_ptr(),
-                    file.len(),
-                    triangles.as_mut_ptr(),
-                    triangles.len(),
-                    candidates.as_mut_ptr(),
-                    candidates.len(),
-                    weights.as_mut_ptr(),
-                    weights.len(),
-                    rows.as_mut_ptr(),
-                    rows.len(),
-                    work.as_mut_ptr(),
-                    work.len(),
-                )
-            }
+            let tables = patch_box::Tables {
+                triangles: tables.triangles.table(),
+                candidates: tables.candidates.table(),
+                weights: tables.weights.table(),
+                rows: tables.rows.table(),
+                work: tables.work.table(),
+            };
+            patch_answer(patch_box::rim(file, tables))
         }
 
         fn patch_job(&self, n: usize, tables: &mut Tables) -> PatchAnswer {
-            let triangles = tables.triangles.table();
-            let candidates = tables.candidates.view();
-            let weights = tables.weights.view();
-            let rows = tables.rows.view();
-            let work = tables.work.table();
-            unsafe {
-                patch_job(
-                    n,
-                    candidates.as_ptr(),
-                    candidates.len(),
-                    weights.as_ptr(),
-                    weights.len(),
-                    rows.as_ptr(),
-                    rows.len(),
-                    triangles.as_mut_ptr(),
-                    triangles.len(),
-                    work.as_mut_ptr(),
-                    work.len(),
-                )
-            }
+            patch_answer(patch_box::job(
+                n,
+                tables.candidates.view(),
+                tables.weights.view(),
+                tables.rows.view(),
+                tables.triangles.table(),
+                tables.work.table(),
+            ))
         }
 
         fn read_rim(&self, file: &[u8]) -> ReadAnswer {
-            unsafe { read_rim(file.as_ptr(), file.len()) }
+            match patch_box::read(file) {
+                Err(number) => ReadAnswer { number: number.code(), vertices: 0 },
+                Ok(vertices) => ReadAnswer { number: 0, vertices },
+            }
         }
 
         fn find_candidates(&self, file: &[u8], tables: &mut Tables) -> FindAnswer {
             let candidates = tables.candidates.table();
             let weights = tables.weights.table();
             let rows = tables.rows.table();
-            unsafe {
-                find_candidates(
-                    file.as_ptr(),
-                    file.len(),
-                    candidates.as_mut_ptr(),
-                    candidates.len(),
-                    weights.as_mut_ptr(),
-                    weights.len(),
-                    rows.as_mut_ptr(),
-                    rows.len(),
-                )
+            match patch_box::find(file, candidates, weights, rows) {
+                Err(number) => FindAnswer { number: number.code(), candidates: 0, rows: 0 },
+                Ok(patch_box::Found { candidates, rows }) => {
+                    FindAnswer { number: 0, candidates, rows }
+                }
             }
+        }
+
+        fn sizes(&self, file: &[u8]) -> Result<Places, u32> {
+            let sizes = patch_box::sizes(file).map_err(Number::code)?;
+            let patch_box::Sizes { triangles, candidates, weights, rows, work } = sizes;
+            Ok(Places { triangles, candidates, weights, rows, work })
         }
     }
 }

@@ -1,4 +1,5 @@
-//! The cases that document 01 works by hand, by the reference and by what is under test.
+//! The worked cases (rules 6.1 to 6.5) and others worked by hand, by the reference and by what is
+//! under test.
 
 use outside_tests::calls::{Calls, Job, Lent, PatchAnswer, Places, Row, Tables, Triangle};
 use outside_tests::law::finder::{bend, bend_of};

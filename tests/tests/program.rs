@@ -1,4 +1,5 @@
-//! The bench program, where BENCH_PROGRAM names it: rim files on its standard input.
+//! The bench program (rules 5.3 and 5.4), where BENCH_PROGRAM names it: rim files on its standard
+//! input.
 
 use outside_tests::comparison::hexadecimal;
 use outside_tests::damage;
@@ -6,6 +7,7 @@ use outside_tests::law::program::output;
 use outside_tests::random::{seeds, Random};
 use outside_tests::rims::{lattice, RimFile, Shape};
 use std::io::Write;
+use std::path::Path;
 use std::process::{Command, Stdio};
 
 const P: [[i64; 3]; 4] = [[0, 0, 0], [8, 0, 0], [8, 8, 6], [0, 8, 0]];
@@ -90,4 +92,27 @@ fn input_longer_than_any_file() {
     for length in 0..9 {
         compare(&vec![0; length]);
     }
+}
+
+/// Each line of the table in examples/README.md: a rim file, and the first line of its answer.
+#[test]
+fn examples() {
+    let folder = Path::new(env!("CARGO_MANIFEST_DIR")).join("../examples");
+    let readme = std::fs::read_to_string(folder.join("README.md")).expect("examples/README.md");
+    let mut named = Vec::new();
+    for line in readme.lines().filter(|line| line.contains(".rim |") && line.ends_with("` |")) {
+        let cells: Vec<&str> = line.split('|').map(str::trim).collect();
+        if let [_, name, _, answer, _] = cells[..] {
+            let file = std::fs::read(folder.join(name)).expect(name);
+            assert_eq!(output(&file).lines().next(), Some(answer.trim_matches('`')), "{name}");
+            compare(&file);
+            named.push(name.to_string());
+        }
+    }
+    let there = std::fs::read_dir(folder).expect("examples");
+    let names = there.map(|file| file.expect("a file").file_name().into_string().expect("UTF-8"));
+    let mut rims: Vec<String> = names.filter(|name| name.ends_with(".rim")).collect();
+    rims.sort();
+    named.sort();
+    assert_eq!(rims, named);
 }

@@ -1,4 +1,4 @@
-//! Tables of every length from none to more than enough, compared place by place.
+//! Tables of every length from none to more than enough (rule 4.13), compared place by place.
 
 use outside_tests::calls::{Calls, Job, Places, Tables};
 use outside_tests::comparison::{compare_finder, compare_job, compare_rim};
@@ -7,20 +7,6 @@ use outside_tests::law::BY_SETS;
 use outside_tests::library::under_test;
 use outside_tests::random::{seeds, Random};
 use outside_tests::rims::{RimFile, Shape};
-
-/// What a file needs, where it is not refused for another reason.
-fn needed(file: &[u8]) -> Option<Places> {
-    let found = BY_SETS.find_candidates(file, &mut Tables::guarded(Places::BENCH));
-    let n = BY_SETS.read_rim(file).vertices;
-    let candidates = found.candidates;
-    (found.number == 0).then(|| Places {
-        triangles: n - 2,
-        candidates,
-        weights: candidates,
-        rows: found.rows,
-        work: candidates,
-    })
-}
 
 fn is_enough(places: Places, needed: Places) -> bool {
     needed.triangles <= places.triangles
@@ -46,7 +32,7 @@ fn every_combination_of_lengths() {
     let five = Shape::NoisyCircle.points(5, 100, &mut random);
     for points in [&p[..], &flat[..], &five[..]] {
         let file = RimFile::plain(points, 1, 1).bytes();
-        let need = needed(&file).expect("accepted");
+        let need = BY_SETS.sizes(&file).expect("accepted");
         for triangles in 0..=need.triangles + 1 {
             for candidates in 0..=need.candidates + 1 {
                 for weights in 0..=need.weights + 1 {
@@ -72,7 +58,7 @@ fn each_table_at_every_length() {
             let shape = random.one_of(&Shape::GENERAL);
             let points = shape.points(n, 700, &mut random);
             let file = RimFile::varied(&points, [1, 1], &mut random).bytes();
-            let Some(need) = needed(&file) else { continue };
+            let Ok(need) = BY_SETS.sizes(&file) else { continue };
             for length in 0..=need.rows.max(need.candidates) + 2 {
                 check(&file, Places { triangles: length, ..need }, need);
                 check(&file, Places { candidates: length, ..need }, need);
@@ -93,7 +79,7 @@ fn tables_of_the_finder() {
             let n = random.between(3, 8) as usize;
             let points = Shape::Scattered.points(n, 700, &mut random);
             let file = RimFile::varied(&points, [1, 1], &mut random).bytes();
-            let Some(need) = needed(&file) else { continue };
+            let Ok(need) = BY_SETS.sizes(&file) else { continue };
             let need = Places { triangles: 0, work: 0, ..need };
             let number = |places: Places| {
                 let tables = Tables::guarded(places);

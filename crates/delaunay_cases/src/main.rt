@@ -113,7 +113,7 @@ fn polygon(n: usize, area_factor: u32, bend_factor: u32, points: [GridPoint; 6])
     }
 }
 
-// Document 01's rim file P.
+// Rim file P of rule 6.1.
 const RIM_P: [GridPoint; 6] = [
     GridPoint { x: 0, y: 0, z: 0 },
     GridPoint { x: 8, y: 0, z: 0 },

@@ -1,4 +1,4 @@
--- What the functions here ask of a list of candidates, and say to each other. Definitions only.
+-- What functions ask of a list of candidates and say to each other; nobody has to believe it.
 use mathlib.Core.List.{List}
 use mathlib.Core.Path.{_≡_}
 use Prim.Native.Nat.{ℕ, _≤_, _<_}

@@ -10,33 +10,34 @@ use Rattle.terms.specs.Entries.{entryAt, vertexA, vertexB, vertexC}
 use Rattle.jobs.specs.Job.{hangs}
 use Rattle.lists.specs.Lists.{over, when}
 
--- "The normal of (a, b, c)": of candidate t
+-- the normal of candidate t (rule 2.6)
 abbrev pub faceNormal : Polygon → List ℕ → Vector
 faceNormal p t = normalOf (vertexAt (p .vertices) (vertexA t)) (vertexAt (p .vertices) (vertexB t)) (vertexAt (p .vertices) (vertexC t))
 
--- "Area weight: area factor × m."
+-- the area weight of candidate t (rule 2.8)
 abbrev pub faceWeight : Polygon → List ℕ → ℕ
 faceWeight p t = areaWeightOf (p .«area_factor») (lengthOf (faceNormal p t))
 
--- "Its length m"
+-- the lengths of the normals (rule 2.7), of which the weights are made
 abbrev pub lengthsOf : Polygon → List (List ℕ) → List ℕ
 lengthsOf p candidates = map (λ t. lengthOf (faceNormal p t)) candidates
 
+-- the weights, one for each candidate (rule 2.8)
 abbrev pub weightsOf : Polygon → List (List ℕ) → List ℕ
 weightsOf p candidates = map (faceWeight p) candidates
 
--- "Bend weight: bend factor × bend": of inner t and outer u
+-- the bend weight of inner t and outer u (rule 2.12)
 abbrev pub hingeWeight : Polygon → List ℕ → List ℕ → ℕ
 hingeWeight p t u = bendWeightOf (p .«bend_factor») (bendBetween (faceNormal p t) (faceNormal p u))
 
--- "(outer, inner, weight)"
+-- the row of outer o and inner i (rule 2.13)
 abbrev pub rowAt : Polygon → List (List ℕ) → ℕ → ℕ → List ℕ
 rowAt p candidates o i = o ∷ i ∷ hingeWeight p (entryAt candidates i) (entryAt candidates o) ∷ []
 
--- the rows of outer o
+-- the rows of outer o, by rising inner
 abbrev pub rowsOn : Polygon → List (List ℕ) → ℕ → List (List ℕ)
 rowsOn p candidates o = over 0 (length candidates) (λ i. when (hangs (entryAt candidates i) (entryAt candidates o)) (rowAt p candidates o i))
 
--- "Rows (outer, inner, weight), one for each hanging pair, ascend by outer, then inner."
+-- one row for each hanging pair, whatever its weight, by rising outer, then inner (rule 2.13)
 abbrev pub rowsOf : Polygon → List (List ℕ) → List (List ℕ)
 rowsOf p candidates = over 0 (length candidates) (rowsOn p candidates)

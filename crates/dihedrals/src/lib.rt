@@ -19,7 +19,7 @@ fn wide(x: u8) -> usize
     x as usize
 }
 
-// The lengths of the candidates' normals, the m of document 01.
+// The lengths of the candidates' normals.
 pub fn write_lengths(p: Polygon, candidates: &[[u8; 3]], out: &mut [u32])
     requires { ⌜ (Solid p (now candidates)) × (length (now candidates) ≤ length (now out)) ⌝ }
     ensures { λ _. ⌜ now (out .exit) ≡ filled (lengthsOf p (now (candidates .entry))) (now (out .entry)) ⌝ }

@@ -14,13 +14,16 @@ use Rattle.triangulator.specs.Call.{Result, numberOf, trianglesOf, totalOf}
 use Rattle.pipeline.specs.Patching.{Tables, Patching}
 use Rattle.exports.specs.declared.PatchAnswer.{PatchAnswer}
 use Rattle.exports.specs.declared.ReadAnswer.{ReadAnswer}
+use Rattle.finder.specs.declared.Sizes.{Sizes}
+use Rattle.finder.specs.declared.Sizes.the-variants as sizes
 use Rattle.exports.specs.declared.FindAnswer.{FindAnswer}
+use Rattle.exports.specs.declared.SizesAnswer.{SizesAnswer}
 
--- "this paper's number and values" of an outcome: its number, how many triangles, its total
+-- the number, the triangle count and the total of an outcome (rule 5.2)
 abbrev pub patchAnswerOf : Outcome → PatchAnswer
 patchAnswerOf o = record { number = numberOf o; triangles = trianglesOf o; total = totalOf o }
 
--- the one call's answer, with the five tables after it
+-- the one call's answer, with the five tables after it (rule 5.1)
 pub record RimPatch : Type 0 where
   pub answer : PatchAnswer
   pub left : Tables
@@ -47,7 +50,7 @@ jobPatchOf r = jobPatch (patchAnswerOf (r .outcome)) (r .triangles) (r .work)
 abbrev pub readAnswerOf : Reading → ReadAnswer
 readAnswerOf r = record { number = statusNumber (r .status); vertices = r .polygon .n }
 
--- a rim file's lists: 1 to 11 in the reader's order, then the finder; "Every number .. changes no table"
+-- the reader, then the finder (rule 5.1): a number of the reader changes no table (rule 4.30)
 abbrev pub findAfter : Status → Polygon → List (List ℕ) → List ℕ → List (List ℕ) → Finding
 findAfter (status.Refused number) p candidates weights rows = finding (found.Refused number) candidates weights rows
 findAfter status.Complete p candidates weights rows = findCall p candidates weights rows
@@ -69,3 +72,9 @@ abbrev pub rimListsOf : Finding → RimLists
 rimListsOf f =
     rimLists (record { number = finder.numberOf (f .answer); candidates = candidateCountOf (f .answer); rows = rowCountOf (f .answer) })
     (f .candidates) (f .weights) (f .rows)
+
+-- the places of each table: one per candidate in three of them; zeros with a number (rule 5.5)
+abbrev pub sizesAnswerOf : Sizes → SizesAnswer
+sizesAnswerOf (sizes.Known places) =
+    record { number = 0; triangles = places .triangles; candidates = places .candidates; weights = places .candidates; rows = places .rows; work = places .candidates }
+sizesAnswerOf (sizes.Refused number) = record { number = number; triangles = 0; candidates = 0; weights = 0; rows = 0; work = 0 }

@@ -1,6 +1,7 @@
 // The calls that hosts in C and Rust link. An enum cannot cross this boundary, so an answer is a struct of numbers: the number due, 0 where none is,
 // and the counts and the total, which are 0 in a refusal.
 use finder::Found;
+use finder::Sizes;
 use reader::Status;
 use triangulator::Outcome;
 ghost use mathlib.Core.Path.{_≡_};
@@ -8,7 +9,8 @@ ghost use Rattle.reader.specs.Reading.{readingOf};
 ghost use Rattle.finder.specs.Finding.{finding};
 ghost use Rattle.triangulator.specs.Call.{triangulated};
 ghost use Rattle.pipeline.specs.Patching.{tables, patchFile};
-ghost use Rattle.exports.specs.Answers.{patchAnswerOf, rimPatch, rimPatchOf, jobPatch, jobPatchOf, readAnswerOf, findFile, rimLists, rimListsOf};
+ghost use Rattle.pipeline.specs.Sizes.{sizesFile};
+ghost use Rattle.exports.specs.Answers.{patchAnswerOf, rimPatch, rimPatchOf, jobPatch, jobPatchOf, readAnswerOf, findFile, rimLists, rimListsOf, sizesAnswerOf};
 
 // A patch where the number is 0 and there are triangles, 'none' where both are 0.
 #[repr(C)]
@@ -31,6 +33,17 @@ pub struct FindAnswer {
     pub rows: usize,
 }
 
+// How many places each lent table needs.
+#[repr(C)]
+pub struct SizesAnswer {
+    pub number: u32,
+    pub triangles: usize,
+    pub candidates: usize,
+    pub weights: usize,
+    pub rows: usize,
+    pub work: usize,
+}
+
 fn patch_answer(outcome: Outcome) -> PatchAnswer
     ensures { λ r. ⌜ r ≡ patchAnswerOf outcome ⌝ }
 {
@@ -46,7 +59,7 @@ fn patch_answer(outcome: Outcome) -> PatchAnswer
 
 // The one call over the three stages.
 #[no_mangle]
-pub extern "C" fn patch_rim(
+pub extern "C" fn patch_box_rim(
     file: &[u8],
     triangles: &mut [u16],
     candidates: &mut [[u8; 3]],
@@ -62,7 +75,7 @@ pub extern "C" fn patch_rim(
 
 // The tiler alone, for a direct job.
 #[no_mangle]
-pub extern "C" fn patch_job(
+pub extern "C" fn patch_box_job(
     n: usize,
     candidates: &[[u8; 3]],
     weights: &[u32],
@@ -78,7 +91,7 @@ pub extern "C" fn patch_job(
 
 // The reader alone.
 #[no_mangle]
-pub extern "C" fn read_rim(file: &[u8]) -> ReadAnswer
+pub extern "C" fn patch_box_read(file: &[u8]) -> ReadAnswer
     ensures { λ r. ⌜ r ≡ readAnswerOf (readingOf (now (file .entry))) ⌝ }
 {
     let reading = reader::read_polygon(file);
@@ -109,7 +122,7 @@ fn find_in_file(
 
 // The candidates, weights and rows of a rim file.
 #[no_mangle]
-pub extern "C" fn find_candidates(
+pub extern "C" fn patch_box_find(
     file: &[u8],
     candidates: &mut [[u8; 3]],
     weights: &mut [u32],
@@ -126,4 +139,39 @@ pub extern "C" fn find_candidates(
         candidates: candidate_count,
         rows: row_count,
     }
+}
+
+fn sizes_answer(sizes: Sizes) -> SizesAnswer
+    ensures { λ r. ⌜ r ≡ sizesAnswerOf sizes ⌝ }
+{
+    match sizes {
+        Sizes::Known(places) => {
+            let candidates = places.candidates;
+            SizesAnswer {
+                number: 0,
+                triangles: places.triangles,
+                candidates,
+                weights: candidates,
+                rows: places.rows,
+                work: candidates,
+            }
+        }
+        Sizes::Refused(number) => SizesAnswer {
+            number,
+            triangles: 0,
+            candidates: 0,
+            weights: 0,
+            rows: 0,
+            work: 0,
+        },
+    }
+}
+
+// The places that the tables of `patch_box_rim` and `patch_box_find` need for a rim file.
+#[no_mangle]
+pub extern "C" fn patch_box_sizes(file: &[u8]) -> SizesAnswer
+    ensures { λ r. ⌜ r ≡ sizesAnswerOf (sizesFile (now (file .entry))) ⌝ }
+{
+    let sizes = pipeline::table_sizes(file);
+    sizes_answer(sizes)
 }

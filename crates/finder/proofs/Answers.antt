@@ -2,7 +2,7 @@
 use mathlib.Core.Path.{_≡_, refl, sym, _∙_, ap}
 use mathlib.Core.Bool.{Bool, true, false, cond}
 use mathlib.Core.List.{List}
-use Prim.Native.Nat.{ℕ, _-_}
+use Prim.Native.Nat.{ℕ, zero, suc, _-_}
 use native.Mathlib.Omega.{arith}
 use borrow.Author.Tests.{eq-eqb, le-ltb, eqb-true}
 use lib.Dec.{eqb}
@@ -13,12 +13,18 @@ use Rattle.polygon.specs.Polygon.{codeOf}
 use Rattle.polygon.proofs.Validity.{code-valid}
 use Rattle.delaunay.specs.Candidates.{candidatesOf, cospherical, isCandidate}
 use Rattle.dihedrals.specs.Weights.{rowsOf}
+use Rattle.dihedrals.proofs.Rows.{row-count}
 use Rattle.faces.proofs.Sets.{triples-bound}
 use Rattle.lists.specs.Lists.{either}
-use Rattle.lists.proofs.Choice.{Truth, holds, fails, truth, yes, no}
+use Rattle.lists.proofs.Choice.{Truth, holds, fails, truth, yes, no, true-not-false}
+use Rattle.finder.specs.declared.Found.{Found}
 use Rattle.finder.specs.declared.Found.the-variants.{Refused}
-use Rattle.finder.specs.Finding.{finding, short, shortTables, shortBeside, findOr13, findCall, findBesideCall}
-use Rattle.finder.specs.Filling.{fillOr13}
+use Rattle.finder.specs.declared.Places.{Places}
+use Rattle.finder.specs.declared.Sizes.the-variants.{Known}
+use Rattle.finder.specs.declared.Sizes.the-variants as sizes
+use Rattle.finder.specs.Sizes.{sizesBy, sizesOf}
+use Rattle.finder.specs.Finding.{Finding, finding, valuesOf, dueValues, short, shortTables, shortBeside, numberDue, findBy, findNumber, findCall, besideNumber, findBesideCall}
+use Rattle.finder.specs.Filling.{placesFor, fillOr13}
 
 -- one test after the other, as one
 one-test : {A : Type 0} (a b c d e : Bool) (x y : A) → cond a x (cond b x (cond c x (cond d x (cond e x y)))) ≡ cond (either (either a b) (either c (either d e))) x y
@@ -28,29 +34,101 @@ one-test false false true d e x y = refl
 one-test false false false true e x y = refl
 one-test false false false false e x y = refl
 
+-- ---- the number due
+-- a number that is due, and else 13
+abbrev then13 : ℕ → Bool → ℕ
+then13 zero tooShort = cond tooShort 13 0
+then13 (suc k) tooShort = suc k
+
+module _ (p : Polygon) where
+  -- 13 comes last
+  thirteen-last : (tooShort : Bool) → numberDue tooShort p ≡ then13 (numberDue false p) tooShort
+  unfolding numberDue
+  thirteen-last tooShort = go (truth (eqb (codeOf p) 0)) (truth (cospherical p))
+    where
+      at : {k : ℕ} → numberDue false p ≡ k → numberDue tooShort p ≡ then13 k tooShort → numberDue tooShort p ≡ then13 (numberDue false p) tooShort
+      at e h = h ∙ sym (ap (λ (k : ℕ). then13 k tooShort) e)
+
+      own : (k : ℕ) → codeOf p ≡ k → eqb (codeOf p) 0 ≡ false → codeOf p ≡ then13 (codeOf p) tooShort
+      own zero c e = absurd (true-not-false (eq-eqb (codeOf p) 0 c) e)
+      own (suc k) c e = c ∙ ap (λ (k : ℕ). then13 k tooShort) (sym c)
+
+      go : Truth (eqb (codeOf p) 0) → Truth (cospherical p) → numberDue tooShort p ≡ then13 (numberDue false p) tooShort
+      go (fails e) d = at (no _ _ e) (no _ _ e ∙ own (codeOf p) refl e)
+      go (holds e) (holds d) = at (yes _ _ e ∙ yes _ _ d) (yes _ _ e ∙ yes _ _ d)
+      go (holds e) (fails d) = at (yes _ _ e ∙ no _ _ d) (yes _ _ e ∙ no _ _ d)
+
+  -- where none is due
+  pub record Clear (tooShort : Bool) : Type 0 where
+    pub code : codeOf p ≡ 0
+    pub no-12 : cospherical p ≡ false
+    pub no-13 : tooShort ≡ false
+
+  pub clear : (tooShort : Bool) → numberDue tooShort p ≡ 0 → Clear tooShort
+  unfolding numberDue
+  clear tooShort e = go tooShort (truth (eqb (codeOf p) 0)) (truth (cospherical p)) e
+    where
+      go : (b : Bool) → Truth (eqb (codeOf p) 0) → Truth (cospherical p) → numberDue b p ≡ 0 → Clear b
+      go b (fails d) f e = absurd (true-not-false (eq-eqb (codeOf p) 0 (sym (no _ _ d) ∙ e)) d)
+      go b (holds d) (holds f) e = absurd (let z = sym (yes _ _ d ∙ yes _ _ f) ∙ e in omega (arith, z))
+      go true (holds d) (fails f) e = absurd (let z = sym (yes _ _ d ∙ no _ _ f) ∙ e in omega (arith, z))
+      go false (holds d) (fails f) e = record { code = eqb-true (codeOf p) 0 d; no-12 = f; no-13 = refl }
+
+  pub due-first : (k : ℕ) (tooShort : Bool) → k ≡ numberDue false p → (k ≡ 0 → ⊥) → k ≡ numberDue tooShort p
+  due-first zero tooShort e h = absurd (h refl)
+  due-first (suc k) tooShort e h = sym (thirteen-last tooShort ∙ ap (λ (k : ℕ). then13 k tooShort) (sym e))
+
+  pub due-13 : (tooShort : Bool) → numberDue false p ≡ 0 → numberDue tooShort p ≡ cond tooShort 13 0
+  due-13 tooShort e = thirteen-last tooShort ∙ ap (λ (k : ℕ). then13 k tooShort) e
+
+  -- ---- the places
+  pub sizes-refused : (k : ℕ) → k ≡ numberDue false p → (k ≡ 0 → ⊥) → sizes.Refused k ≡ sizesOf p
+  sizes-refused zero e h = absurd (h refl)
+  sizes-refused (suc k) e h = ap (λ (k : ℕ). sizesBy k p) e
+
+  pub sizes-known : {places : Places} {found : List (List ℕ)} → numberDue false p ≡ 0 → found ≡ candidatesOf p → places ≡ placesFor (p .n) found → Known places ≡ sizesOf p
+  sizes-known {places} {found} e f g =
+      ap (λ (x : Places). Known x) (g ∙ ap (placesFor (p .n)) f ∙ ap (λ (m : ℕ). record { triangles = p .n - 2; candidates = length (candidatesOf p); rows = m }) (sym (row-count p (candidatesOf p))))
+      ∙ ap (λ (k : ℕ). sizesBy k p) (sym e)
+
+-- ---- the answer and the tables
+-- the number and the counts of an answer, by the number due
+pub found-values : (p : Polygon) (k : ℕ) (candidates : List (List ℕ)) (weights : List ℕ) (rows : List (List ℕ)) → valuesOf (findBy k p candidates weights rows .answer) ≡ dueValues k p
+found-values p zero candidates weights rows = refl
+found-values p (suc k) candidates weights rows = refl
+
+pub values-found : (p : Polygon) (k : ℕ) (candidates : List (List ℕ)) (weights : List ℕ) (rows : List (List ℕ)) {x : Found} {c r : List (List ℕ)} {w : List ℕ} →
+    finding x c w r ≡ findBy k p candidates weights rows → valuesOf x ≡ dueValues k p
+values-found p k candidates weights rows e = ap (λ (f : Finding). valuesOf (f .answer)) e ∙ found-values p k candidates weights rows
+
 module _ (p : Polygon) (trianglePlaces workPlaces : ℕ) (candidates : List (List ℕ)) (weights : List ℕ) (rows : List (List ℕ)) where
-  pub filled-is : codeOf p ≡ 0 → cospherical p ≡ false → fillOr13 p (candidatesOf p) trianglePlaces workPlaces candidates weights rows ≡ findBesideCall p trianglePlaces workPlaces candidates weights rows
-  unfolding fillOr13 findOr13
-  filled-is e f =
+  pub find-refused : (k : ℕ) → k ≡ numberDue false p → (k ≡ 0 → ⊥) → finding (Refused k) candidates weights rows ≡ findBesideCall p trianglePlaces workPlaces candidates weights rows
+  find-refused zero e h = absurd (h refl)
+  find-refused (suc k) e h =
+      ap (λ (k : ℕ). findBy k p candidates weights rows) (due-first p (suc k) (either (shortBeside p trianglePlaces workPlaces) (shortTables p candidates weights rows)) e h)
+
+  pub filled-is : numberDue false p ≡ 0 → fillOr13 p (candidatesOf p) trianglePlaces workPlaces candidates weights rows ≡ findBesideCall p trianglePlaces workPlaces candidates weights rows
+  unfolding fillOr13
+  filled-is e =
       one-test (short trianglePlaces (p .n - 2)) (short workPlaces (length (candidatesOf p))) (short (length candidates) (length (candidatesOf p))) (short (length weights) (length (candidatesOf p))) (short (length rows) (length (rowsOf p (candidatesOf p)))) (finding (Refused 13) candidates weights rows) _
-      ∙ sym (yes _ _ (eq-eqb (codeOf p) 0 e) ∙ no _ _ f)
+      ∙ by tooShort
+      ∙ ap (λ (k : ℕ). findBy k p candidates weights rows) (sym (due-13 p tooShort e))
+    where
+      tooShort : Bool
+      tooShort = either (shortBeside p trianglePlaces workPlaces) (shortTables p candidates weights rows)
 
-  pub refused-12 : codeOf p ≡ 0 → cospherical p ≡ true → finding (Refused 12) candidates weights rows ≡ findBesideCall p trianglePlaces workPlaces candidates weights rows
-  unfolding findOr13
-  refused-12 e f = sym (yes _ _ (eq-eqb (codeOf p) 0 e) ∙ yes _ _ f)
-
-  pub refused-code : (k : ℕ) → k ≡ codeOf p → eqb (codeOf p) 0 ≡ false → finding (Refused k) candidates weights rows ≡ findBesideCall p trianglePlaces workPlaces candidates weights rows
-  unfolding findOr13
-  refused-code k e f = ap (λ (n : ℕ). finding (Refused n) candidates weights rows) e ∙ sym (no _ _ f)
+      by : (b : Bool) → cond b (finding (Refused 13) candidates weights rows) (findBy 0 p candidates weights rows) ≡ findBy (cond b 13 0) p candidates weights rows
+      by true = refl
+      by false = refl
 
 -- two tables of enough places beside the finder's change nothing
-pub beside-enough : (p : Polygon) (candidates : List (List ℕ)) (weights : List ℕ) (rows : List (List ℕ)) → findBesideCall p (p .n) maxTriples candidates weights rows ≡ findCall p candidates weights rows
-unfolding findOr13
+pub beside-enough : (p : Polygon) (candidates : List (List ℕ)) (weights : List ℕ) (rows : List (List ℕ)) → besideNumber p (p .n) maxTriples candidates weights rows ≡ findNumber p candidates weights rows
+unfolding numberDue
 beside-enough p candidates weights rows = go (truth (eqb (codeOf p) 0))
   where
-    go : Truth (eqb (codeOf p) 0) → findBesideCall p (p .n) maxTriples candidates weights rows ≡ findCall p candidates weights rows
+    go : Truth (eqb (codeOf p) 0) → besideNumber p (p .n) maxTriples candidates weights rows ≡ findNumber p candidates weights rows
     go (fails e) = no _ _ e ∙ sym (no _ _ e)
     go (holds e) =
         let v = code-valid p (eqb-true (codeOf p) 0 e) in
         let enough : shortBeside p (p .n) maxTriples ≡ false = no _ _ (le-ltb (p .n) (p .n - 2) (omega arith)) ∙ le-ltb maxTriples (length (candidatesOf p)) (triples-bound (p .n) (isCandidate p) (v .most)) in
-        ap (λ (t : Bool). findOr13 (either t (shortTables p candidates weights rows)) p candidates weights rows) enough
+        ap (λ (t : Bool). numberDue (either t (shortTables p candidates weights rows)) p) enough

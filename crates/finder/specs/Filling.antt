@@ -1,20 +1,32 @@
--- What is left once the set of candidates is known: 13, or the lists. Definitions only.
+-- What the private functions say to each other; nobody has to believe it.
 use mathlib.Core.Path.{_≡_}
-use mathlib.Core.Bool.{cond}
+use mathlib.Core.Bool.{cond, false}
 use mathlib.Core.List.{List}
 use Prim.Native.Nat.{ℕ, _-_, _≤_}
 use lib.ListN.{length}
 use Rattle.polygon.specs.declared.Polygon.{Polygon}
 use Rattle.faces.specs.Faces.{triplesOf}
 use Rattle.faces.specs.Masks.{has}
+use Rattle.delaunay.specs.Candidates.{candidatesOf}
+use Rattle.hinges.specs.Hinges.{innersOf}
 use Rattle.dihedrals.specs.Weights.{weightsOf, rowsOf}
 use Rattle.lists.specs.Lists.{filled}
 use Rattle.finder.specs.declared.Found.the-variants.{Lists, Refused}
-use Rattle.finder.specs.Finding.{Finding, finding, short}
+use Rattle.finder.specs.declared.Places.{Places}
+use Rattle.finder.specs.Finding.{Finding, finding, short, numberDue}
 
 -- the triangles of a set on the polygon's vertices
 abbrev pub facesOf : Polygon → List ℕ → List (List ℕ)
 facesOf p masks = triplesOf (p .n) (has masks)
+
+-- the number due before the tables are looked at; where it is 0, the set has the candidates
+pub record Searched (p : Polygon) (number : ℕ) (masks : List ℕ) : Type 0 where
+  pub is-due : number ≡ numberDue false p
+  pub listed : number ≡ 0 → facesOf p masks ≡ candidatesOf p
+
+-- the places for the triangles of a set, the rows counted as hanging pairs
+abbrev pub placesFor : ℕ → List (List ℕ) → Places
+placesFor n found = record { triangles = n - 2; candidates = length found; rows = length (innersOf found) }
 
 -- the tables have a place for each candidate, weight and row
 pub record Room (p : Polygon) (found candidates : List (List ℕ)) (weights : List ℕ) (rows : List (List ℕ)) : Type 0 where

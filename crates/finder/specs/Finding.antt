@@ -1,7 +1,7 @@
 -- What the candidate finder answers and leaves in every table. Definitions only.
 use mathlib.Core.Bool.{Bool, cond}
 use mathlib.Core.List.{List}
-use Prim.Native.Nat.{ℕ, _-_}
+use Prim.Native.Nat.{ℕ, zero, suc, _-_}
 use lib.Dec.{eqb, ltb}
 use lib.ListN.{length}
 use Rattle.polygon.specs.declared.Polygon.{Polygon}
@@ -12,7 +12,7 @@ use Rattle.lists.specs.Lists.{either, filled}
 use Rattle.finder.specs.declared.Found.{Found}
 use Rattle.finder.specs.declared.Found.the-variants.{Lists, Refused}
 
--- document 01's number and the counts for each answer
+-- the number and the two counts of each case of an answer (rule 5.2)
 abbrev pub numberOf : Found → ℕ
 numberOf (Lists candidates rows) = 0
 numberOf (Refused number) = number
@@ -25,6 +25,23 @@ abbrev pub rowCountOf : Found → ℕ
 rowCountOf (Lists candidates rows) = rows
 rowCountOf (Refused number) = 0
 
+-- the three together
+pub record Values : Type 0 where
+  pub number : ℕ
+  pub candidates : ℕ
+  pub rows : ℕ
+
+abbrev pub values : ℕ → ℕ → ℕ → Values
+values number candidates rows = record { number = number; candidates = candidates; rows = rows }
+
+abbrev pub valuesOf : Found → Values
+valuesOf found = values (numberOf found) (candidateCountOf found) (rowCountOf found)
+
+-- what they are by the first number due: the counts of the lists where none is, two zeros with a number (rules 4.30, 5.2)
+abbrev pub dueValues : ℕ → Polygon → Values
+dueValues zero p = values 0 (length (candidatesOf p)) (length (rowsOf p (candidatesOf p)))
+dueValues (suc k) p = values (suc k) 0 0
+
 -- an answer, and what the tables hold then
 pub record Finding : Type 0 where
   pub answer : Found
@@ -35,40 +52,46 @@ pub record Finding : Type 0 where
 abbrev pub finding : Found → List (List ℕ) → List ℕ → List (List ℕ) → Finding
 finding answer candidates weights rows = record { answer = answer; candidates = candidates; weights = weights; rows = rows }
 
--- 13 "a lent table has fewer places than needed"
+-- a table has too few places (rule 4.13)
 abbrev pub short : ℕ → ℕ → Bool
 short lent needed = ltb lent needed
 
--- "one place per candidate in the candidate, weight .. tables; one place per row"
+-- one of the finder's tables has: one place for each candidate, in two of them, and for each row (rule 4.13)
 abbrev pub shortTables : Polygon → List (List ℕ) → List ℕ → List (List ℕ) → Bool
 shortTables p candidates weights rows =
     either (short (length candidates) (length (candidatesOf p)))
     (either (short (length weights) (length (candidatesOf p)))
     (short (length rows) (length (rowsOf p (candidatesOf p)))))
 
--- "triangles n − 2; one place per candidate in the .. work" table: of two tables that are lent to a later stage
+-- the same of a triangle table and a work table, which are lent to a later stage (rule 4.13)
 abbrev pub shortBeside : Polygon → ℕ → ℕ → Bool
 shortBeside p trianglePlaces workPlaces = either (short trianglePlaces (p .n - 2)) (short workPlaces (length (candidatesOf p)))
 
--- The number due on the polygon, then 12, then 13; else "the lists above in their first places", all further places unchanged.
--- "Every number .. changes no table."
-unfoldable pub findOr13 : Bool → Polygon → List (List ℕ) → List ℕ → List (List ℕ) → Finding
-findOr13 tooShort p candidates weights rows =
-    cond (eqb (codeOf p) 0)
-    (cond (cospherical p)
-    (finding (Refused 12) candidates weights rows)
-    (cond tooShort
-    (finding (Refused 13) candidates weights rows)
-    (finding (Lists (length (candidatesOf p)) (length (rowsOf p (candidatesOf p))))
+-- the first number due, 0 where none is (rule 4.34): that of the polygon, then 12, then 13 where a table is too short
+unfoldable pub numberDue : Bool → Polygon → ℕ
+numberDue tooShort p = cond (eqb (codeOf p) 0) (cond (cospherical p) 12 (cond tooShort 13 0)) (codeOf p)
+
+-- no number: the lists in the first places of the tables, all further places as they were (rule 3.9); a number changes no table (rule 4.30)
+abbrev pub findBy : ℕ → Polygon → List (List ℕ) → List ℕ → List (List ℕ) → Finding
+findBy zero p candidates weights rows =
+    finding (Lists (length (candidatesOf p)) (length (rowsOf p (candidatesOf p))))
     (filled (candidatesOf p) candidates)
     (filled (weightsOf p (candidatesOf p)) weights)
-    (filled (rowsOf p (candidatesOf p)) rows))))
-    (finding (Refused (codeOf p)) candidates weights rows)
+    (filled (rowsOf p (candidatesOf p)) rows)
+findBy (suc k) p candidates weights rows = finding (Refused (suc k)) candidates weights rows
+
+-- the finder's call (rule 5.1)
+abbrev pub findNumber : Polygon → List (List ℕ) → List ℕ → List (List ℕ) → ℕ
+findNumber p candidates weights rows = numberDue (shortTables p candidates weights rows) p
 
 abbrev pub findCall : Polygon → List (List ℕ) → List ℕ → List (List ℕ) → Finding
-findCall p candidates weights rows = findOr13 (shortTables p candidates weights rows) p candidates weights rows
+findCall p candidates weights rows = findBy (findNumber p candidates weights rows) p candidates weights rows
 
 -- the same, where a triangle table and a work table are lent too
+abbrev pub besideNumber : Polygon → ℕ → ℕ → List (List ℕ) → List ℕ → List (List ℕ) → ℕ
+besideNumber p trianglePlaces workPlaces candidates weights rows =
+    numberDue (either (shortBeside p trianglePlaces workPlaces) (shortTables p candidates weights rows)) p
+
 abbrev pub findBesideCall : Polygon → ℕ → ℕ → List (List ℕ) → List ℕ → List (List ℕ) → Finding
 findBesideCall p trianglePlaces workPlaces candidates weights rows =
-    findOr13 (either (shortBeside p trianglePlaces workPlaces) (shortTables p candidates weights rows)) p candidates weights rows
+    findBy (besideNumber p trianglePlaces workPlaces candidates weights rows) p candidates weights rows

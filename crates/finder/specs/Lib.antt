@@ -1,3 +1,3 @@
 pub mod Finding
+pub mod Sizes
 pub mod Filling
-pub mod Demand2

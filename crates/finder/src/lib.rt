@@ -1,9 +1,14 @@
 // The candidate finder: from a polygon to its candidates, their weights and the rows of hanging pairs.
 use polygon::Polygon;
 ghost use mathlib.Core.Path.{_≡_};
+ghost use Prim.Native.Nat.{_≤_};
+ghost use Rattle.terms.specs.Limits.{minVertices, maxVertices};
+ghost use Rattle.faces.specs.Faces.{triplesOf};
+ghost use Rattle.faces.specs.Masks.{has, emptySet};
 ghost use Rattle.dihedrals.specs.Lists.{Solid};
-ghost use Rattle.finder.specs.Finding.{numberOf, candidateCountOf, rowCountOf, finding, findCall, findBesideCall};
-ghost use Rattle.finder.specs.Filling.{facesOf, Room, Written, fillOr13};
+ghost use Rattle.finder.specs.Finding.{numberOf, candidateCountOf, rowCountOf, valuesOf, dueValues, finding, findNumber, findCall, besideNumber, findBesideCall};
+ghost use Rattle.finder.specs.Sizes.{sizesOf};
+ghost use Rattle.finder.specs.Filling.{facesOf, placesFor, Searched, Room, Written, fillOr13};
 
 // What the finder answers.
 pub enum Found {
@@ -12,7 +17,7 @@ pub enum Found {
 }
 
 impl Found {
-    // The number of document 01; 0 where the lists were found.
+    // The number of a refusal; 0 where the lists were found.
     pub fn number(self) -> u32
         ensures { λ r. ⌜ r ≡ numberOf self ⌝ }
     {
@@ -50,10 +55,65 @@ impl Found {
     }
 }
 
+// How many places the lent tables need: `candidates` is for the candidate, weight and work tables.
+pub struct Places {
+    pub triangles: usize,
+    pub candidates: usize,
+    pub rows: usize,
+}
+
+// The places that a polygon needs, or the number due on it.
+pub enum Sizes {
+    Known(Places),
+    Refused(u32),
+}
+
+// The number due on the polygon, then 12, else 0: then the candidates are in the set.
+fn search(p: Polygon, masks: &mut [u64; faces::PAIRS]) -> u32
+    requires { ⌜ now masks ≡ emptySet ⌝ }
+    ensures { λ r. ⌜ Searched p r (now (masks .exit)) ⌝ }
+{
+    let code = polygon::polygon_code(p);
+    if code != 0 {
+        return code;
+    }
+    if delaunay::mark_candidates(p, masks) {
+        return codes::COSPHERICAL;
+    }
+    0
+}
+
+fn count_places(n: usize, masks: &[u64; faces::PAIRS]) -> Places
+    requires { ⌜ (minVertices ≤ n) × (n ≤ maxVertices) ⌝ }
+    ensures { λ r. ⌜ r ≡ placesFor n (triplesOf n (has (now (masks .entry)))) ⌝ }
+{
+    let candidates = faces::count(masks, n);
+    let pairs = hinges::count_rows(masks, n);
+    Places {
+        triangles: n - 2,
+        candidates,
+        rows: pairs,
+    }
+}
+
+// The places that the lent tables need for this polygon, or the number due on it: 2, 5, 9, 10, 11 or 12.
+pub fn table_sizes(p: Polygon) -> Sizes
+    ensures { λ r. ⌜ r ≡ sizesOf p ⌝ }
+{
+    let mut masks = [0u64; faces::PAIRS];
+    let number = search(p, &mut masks);
+    if number != 0 {
+        return Sizes::Refused(number);
+    }
+    let n = p.n;
+    let places = count_places(n, &masks);
+    Sizes::Known(places)
+}
+
 // Writes the lists of the set's triangles. The weight table holds the lengths of the normals until the rows are made.
 fn write_lists(
     p: Polygon,
-    masks: &[u64; 4096],
+    masks: &[u64; faces::PAIRS],
     candidates: &mut [[u8; 3]],
     weights: &mut [u32],
     rows: &mut [[u32; 3]],
@@ -74,7 +134,7 @@ fn write_lists(
 // 13, or the lists of the set's triangles. They are counted first: all tables are tested before one is written.
 fn fill(
     p: Polygon,
-    masks: &[u64; 4096],
+    masks: &[u64; faces::PAIRS],
     triangle_places: usize,
     work_places: usize,
     candidates: &mut [[u8; 3]],
@@ -85,9 +145,11 @@ fn fill(
     ensures { λ r. ⌜ finding r (now (candidates .exit)) (now (weights .exit)) (now (rows .exit)) ≡ fillOr13 p (facesOf p (now (masks .entry))) «triangle_places» «work_places» (now (candidates .entry)) (now (weights .entry)) (now (rows .entry)) ⌝ }
 {
     let n = p.n;
-    let count = faces::count(masks, n);
-    let row_count = hinges::count_rows(masks, n);
-    if triangle_places < n - 2 {
+    let needed = count_places(n, masks);
+    let triangles = needed.triangles;
+    let count = needed.candidates;
+    let row_count = needed.rows;
+    if triangle_places < triangles {
         return Found::Refused(codes::TABLE_TOO_SHORT);
     }
     if work_places < count {
@@ -120,14 +182,12 @@ pub fn find_beside(
     rows: &mut [[u32; 3]],
 ) -> Found
     ensures { λ r. ⌜ finding r (now (candidates .exit)) (now (weights .exit)) (now (rows .exit)) ≡ findBesideCall p «triangle_places» «work_places» (now (candidates .entry)) (now (weights .entry)) (now (rows .entry)) ⌝ }
+    ensures { λ r. ⌜ valuesOf r ≡ dueValues (besideNumber p «triangle_places» «work_places» (now (candidates .entry)) (now (weights .entry)) (now (rows .entry))) p ⌝ }
 {
-    let code = polygon::polygon_code(p);
-    if code != 0 {
-        return Found::Refused(code);
-    }
-    let mut masks = [0u64; 4096];
-    if delaunay::mark_candidates(p, &mut masks) {
-        return Found::Refused(codes::COSPHERICAL);
+    let mut masks = [0u64; faces::PAIRS];
+    let number = search(p, &mut masks);
+    if number != 0 {
+        return Found::Refused(number);
     }
     fill(
         p,
@@ -148,6 +208,7 @@ pub fn find(
     rows: &mut [[u32; 3]],
 ) -> Found
     ensures { λ r. ⌜ finding r (now (candidates .exit)) (now (weights .exit)) (now (rows .exit)) ≡ findCall p (now (candidates .entry)) (now (weights .entry)) (now (rows .entry)) ⌝ }
+    ensures { λ r. ⌜ valuesOf r ≡ dueValues (findNumber p (now (candidates .entry)) (now (weights .entry)) (now (rows .entry))) p ⌝ }
 {
     let n = p.n;
     find_beside(p, n, faces::TRIPLES, candidates, weights, rows)

@@ -1,19 +1,69 @@
--- The reader's answer and that of the call. Assumes nothing.
-use mathlib.Core.Path.{_≡_, sym, ap, _∙_}
+-- The reader's answer and those of the calls on a file. Assumes nothing.
+use mathlib.Core.Path.{_≡_, refl, sym, ap, _∙_}
+use mathlib.Core.Bool.{false}
 use mathlib.Core.List.{List}
-use Prim.Native.Nat.{ℕ}
+use Prim.Native.Nat.{ℕ, zero, suc}
+use native.Mathlib.Omega.{arith}
+use Rattle.polygon.specs.declared.Polygon.{Polygon}
 use Rattle.reader.specs.declared.Status.{Status}
 use Rattle.reader.specs.declared.Status.the-variants as status
 use Rattle.reader.specs.declared.Reading.{Reading}
-use Rattle.reader.specs.Reading.{readingOf}
+use Rattle.reader.specs.Reading.{firstDue, polygonOf, answer, readingOf}
+use Rattle.reader.specs.Reading as reader
+use Rattle.finder.specs.Finding.{numberDue}
+use Rattle.finder.specs.declared.Sizes.{Sizes}
+use Rattle.finder.specs.declared.Sizes.the-variants as sizes
+use Rattle.finder.specs.Sizes.{sizesBy, sizesOf}
 use Rattle.triangulator.specs.declared.Outcome.the-variants.{Refused}
-use Rattle.pipeline.specs.Patching.{Tables, Patching, patching, afterReading, patchPolygon, patchFile}
+use Rattle.pipeline.specs.Patching.{Tables, Patching, patching, patchBy, polygonNumber, patchPolygon, patchFile}
+use Rattle.pipeline.specs.Sizes.{sizesFile}
+
+-- what the reader's answer says of the first number due
+module _ (s : List ℕ) {r : Reading} (e : r ≡ readingOf s) where
+  first-refused : {k : ℕ} → r .status ≡ status.Refused k → (j : ℕ) → reader.numberDue s ≡ j → (later : ℕ) → firstDue (reader.numberDue s) later ≡ k
+  first-refused {k} d zero n later = absurd (let b : status.Refused k ≡ status.Complete = sym d ∙ ap (λ (x : Reading). x .status) e ∙ ap (λ (m : ℕ). answer m (polygonOf s) .status) n in let z : _≡_ {A = ℕ} 0 1 = cc in omega arith)
+  first-refused {k} d (suc j) n later =
+      let b : status.Refused k ≡ status.Refused (suc j) = sym d ∙ ap (λ (x : Reading). x .status) e ∙ ap (λ (m : ℕ). answer m (polygonOf s) .status) n in
+      let c : suc j ≡ k = cc in
+      ap (λ (m : ℕ). firstDue m later) n ∙ c
+
+  not-zero : {k : ℕ} → r .status ≡ status.Refused k → (j : ℕ) → reader.numberDue s ≡ j → k ≡ 0 → ⊥
+  not-zero {k} d zero n z = let b : status.Refused k ≡ status.Complete = sym d ∙ ap (λ (x : Reading). x .status) e ∙ ap (λ (m : ℕ). answer m (polygonOf s) .status) n in let q : _≡_ {A = ℕ} 0 1 = cc in omega arith
+  not-zero {k} d (suc j) n z = let b : status.Refused k ≡ status.Refused (suc j) = sym d ∙ ap (λ (x : Reading). x .status) e ∙ ap (λ (m : ℕ). answer m (polygonOf s) .status) n in let c : suc j ≡ k = cc in omega arith
+
+  read-none : r .status ≡ status.Complete → (j : ℕ) → reader.numberDue s ≡ j → reader.numberDue s ≡ 0
+  read-none d zero n = n
+  read-none d (suc j) n = absurd (let b : status.Complete ≡ status.Refused (suc j) = sym d ∙ ap (λ (x : Reading). x .status) e ∙ ap (λ (m : ℕ). answer m (polygonOf s) .status) n in let z : _≡_ {A = ℕ} 0 1 = cc in omega arith)
+
+  read-polygon : r .status ≡ status.Complete → r .polygon ≡ polygonOf s
+  read-polygon d = ap (λ (x : Reading). x .polygon) e ∙ ap (λ (m : ℕ). answer m (polygonOf s) .polygon) (read-none d (reader.numberDue s) refl)
+
+  first-read : r .status ≡ status.Complete → (f : Polygon → ℕ) → firstDue (reader.numberDue s) (f (polygonOf s)) ≡ f (r .polygon)
+  first-read d f = ap (λ (m : ℕ). firstDue m (f (polygonOf s))) (read-none d (reader.numberDue s) refl) ∙ ap f (sym (read-polygon d))
+
+  -- a call by its number: on a refusal, and on a file that is read
+  module _ {A : Type 0} (call : ℕ → Polygon → A) (refusal : ℕ → A) (refuses : (k : ℕ) → call (suc k) (polygonOf s) ≡ refusal (suc k)) (f : Polygon → ℕ) where
+    by-refusal : (k : ℕ) → r .status ≡ status.Refused k → refusal k ≡ call (firstDue (reader.numberDue s) (f (polygonOf s))) (polygonOf s)
+    by-refusal zero d = absurd (not-zero d (reader.numberDue s) refl refl)
+    by-refusal (suc k) d = sym (ap (λ (m : ℕ). call m (polygonOf s)) (first-refused d (reader.numberDue s) refl (f (polygonOf s))) ∙ refuses k)
+
+    by-polygon : r .status ≡ status.Complete → call (f (r .polygon)) (r .polygon) ≡ call (firstDue (reader.numberDue s) (f (polygonOf s))) (polygonOf s)
+    by-polygon d = ap (λ (m : ℕ). call m (r .polygon)) (sym (first-read d f)) ∙ ap (call (firstDue (reader.numberDue s) (f (polygonOf s)))) (read-polygon d)
 
 module _ (s : List ℕ) (t : Tables) {r : Reading} where
-  pub file-refused : {k : ℕ} → r .status ≡ status.Refused k → r ≡ readingOf s → patching (Refused k) t ≡ patchFile s t
+  pub file-refused : (k : ℕ) → r .status ≡ status.Refused k → r ≡ readingOf s → patching (Refused k) t ≡ patchFile s t
   unfolding patchFile
-  file-refused d e = ap (λ (x : Status). afterReading x (r .polygon) t) (sym d) ∙ ap (λ (x : Reading). afterReading (x .status) (x .polygon) t) e
+  file-refused k d e = by-refusal s e (λ (k : ℕ) (p : Polygon). patchBy k p t) (λ (k : ℕ). patching (Refused k) t) (λ k. refl) (λ (p : Polygon). polygonNumber p t) k d
 
   pub file-read : {x : Patching} → r .status ≡ status.Complete → r ≡ readingOf s → x ≡ patchPolygon (r .polygon) t → x ≡ patchFile s t
-  unfolding patchFile
-  file-read d e f = f ∙ ap (λ (x : Status). afterReading x (r .polygon) t) (sym d) ∙ ap (λ (x : Reading). afterReading (x .status) (x .polygon) t) e
+  unfolding patchFile patchPolygon
+  file-read d e f = f ∙ by-polygon s e (λ (k : ℕ) (p : Polygon). patchBy k p t) (λ (k : ℕ). patching (Refused k) t) (λ k. refl) (λ (p : Polygon). polygonNumber p t) d
+
+module _ (s : List ℕ) {r : Reading} where
+  pub sizes-refused : (k : ℕ) → r .status ≡ status.Refused k → r ≡ readingOf s → sizes.Refused k ≡ sizesFile s
+  unfolding sizesFile
+  sizes-refused k d e = by-refusal s e sizesBy (λ (k : ℕ). sizes.Refused k) (λ k. refl) (λ (p : Polygon). numberDue false p) k d
+
+  pub sizes-read : {x : Sizes} → r .status ≡ status.Complete → r ≡ readingOf s → x ≡ sizesOf (r .polygon) → x ≡ sizesFile s
+  unfolding sizesFile
+  sizes-read d e f = f ∙ by-polygon s e sizesBy (λ (k : ℕ). sizes.Refused k) (λ k. refl) (λ (p : Polygon). numberDue false p) d

@@ -1,6 +1,5 @@
 pub mod Finds
 pub mod Accepted
 pub mod Ready
+pub mod Values
 pub mod Files
-pub mod Demands
-pub mod Starred

@@ -13,13 +13,14 @@ use Rattle.delaunay.specs.Candidates.{candidatesOf}
 use Rattle.finder.specs.declared.Found.{Found}
 use Rattle.finder.specs.declared.Found.the-variants.{Lists}
 use Rattle.finder.specs.Finding.{finding, findBesideCall}
+use Rattle.finder.proofs.Answers.{clear}
 use Rattle.triangulation.specs.Triangulations.{best}
 use Rattle.triangulation.specs.Jobs.{jobOf}
 use Rattle.minimum_weight.specs.Tables.{WellFormed}
 use Rattle.triangulator.specs.declared.Outcome.{Outcome}
 use Rattle.triangulator.specs.Call.{Result, result, settled}
 use Rattle.triangulator.proofs.Accepting.{well-formed}
-use Rattle.pipeline.specs.Patching.{tables, patching, weightsIn, rowsIn, jobIn, patchedBy, patchPolygon}
+use Rattle.pipeline.specs.Patching.{tables, patching, weightsIn, rowsIn, jobIn, tablesShort, patchedBy, patchPolygon}
 use Rattle.pipeline.proofs.Finds.{Lists-found, find-lists, room, patched-is}
 use Rattle.pipeline.proofs.Accepted.{weight-count, lists-accepted}
 
@@ -59,8 +60,9 @@ module _ (p : Polygon) (triangles : List ℕ) (candidates : List (List ℕ)) (we
 
   pub ready : Ready (p .n) x y triangles c w r work
   ready =
-      let v : Valid p = code-valid p (lists .code) in
-      let places = room p triangles candidates weights rows work (lists .no-13) in
+      let clear = clear p (tablesShort p (tables triangles candidates weights rows work)) (lists .none-due) in
+      let v : Valid p = code-valid p (clear .code) in
+      let places = room p triangles candidates weights rows work (clear .no-13) in
       record {
         candidate-places = filled-room (candidatesOf p) candidates (lists .count) (lists .candidates-are);
         weight-places = filled-room (weightsIn p) weights weights-counted (lists .weights-are);
@@ -77,4 +79,4 @@ module _ (p : Polygon) (triangles : List ℕ) (candidates : List (List ℕ)) (we
       d ∙ (λ i. settled (best (jobOf (p .n) (first-candidates i) (first-weights i) (first-rows i))) (lists .count i) triangles work) in
       (λ i. patching o (tables t (lists .candidates-are i) (lists .weights-are i) (lists .rows-are i) k))
       ∙ ap (λ (s : Result). patchedBy s p (tables triangles candidates weights rows work)) answer
-      ∙ sym (patched-is p triangles candidates weights rows work lists)
+      ∙ sym (patched-is p triangles candidates weights rows work (lists .none-due))

@@ -1,3 +1,2 @@
 pub mod Patching
-pub mod Demands
-pub mod Starred
+pub mod Sizes

@@ -1,17 +1,15 @@
 -- The one call over the three stages: what it answers and what it leaves in every place of its five tables. Definitions only.
-use mathlib.Core.Bool.{Bool, cond}
+use mathlib.Core.Bool.{Bool}
 use mathlib.Core.List.{List}
-use Prim.Native.Nat.{ℕ, _-_}
-use lib.Dec.{eqb, ltb}
+use Prim.Native.Nat.{ℕ, zero, suc, _-_}
 use lib.ListN.{length}
 use Rattle.lists.specs.Lists.{either, filled}
 use Rattle.polygon.specs.declared.Polygon.{Polygon}
-use Rattle.polygon.specs.Polygon.{codeOf}
-use Rattle.reader.specs.declared.Status.{Status}
-use Rattle.reader.specs.declared.Status.the-variants as status
-use Rattle.reader.specs.Reading.{readingOf}
-use Rattle.delaunay.specs.Candidates.{candidatesOf, cospherical}
+use Rattle.reader.specs.Reading.{firstDue, polygonOf}
+use Rattle.reader.specs.Reading as reader
+use Rattle.delaunay.specs.Candidates.{candidatesOf}
 use Rattle.dihedrals.specs.Weights.{weightsOf, rowsOf}
+use Rattle.finder.specs.Finding.{short, numberDue}
 use Rattle.triangulation.specs.Triangulations.{Job, best}
 use Rattle.triangulation.specs.Jobs.{jobOf}
 use Rattle.triangulator.specs.declared.Outcome.{Outcome}
@@ -38,11 +36,11 @@ pub record Patching : Type 0 where
 abbrev pub patching : Outcome → Tables → Patching
 patching o t = record { outcome = o; left = t }
 
--- "Every number returns no triangles and total 0, and changes no table."
+-- a number changes no table (rule 4.30)
 abbrev pub refused : ℕ → Tables → Patching
 refused k t = patching (Refused k) t
 
--- the lists of a polygon, and the job that they state
+-- the lists of a polygon, and the job that they state (rule 3.1)
 abbrev pub weightsIn : Polygon → List ℕ
 weightsIn p = weightsOf p (candidatesOf p)
 
@@ -52,17 +50,17 @@ rowsIn p = rowsOf p (candidatesOf p)
 abbrev pub jobIn : Polygon → Job
 jobIn p = jobOf (p .n) (candidatesOf p) (weightsIn p) (rowsIn p)
 
--- 13 "a lent table has fewer places than needed (triangles n − 2; one place per candidate in the candidate, weight and work tables; one place per row)"
+-- one of the five tables has too few places (rule 4.13)
 unfoldable pub tablesShort : Polygon → Tables → Bool
 tablesShort p t =
-    either (ltb (length (t .triangles)) (p .n - 2))
-    (either (ltb (length (t .work)) (length (candidatesOf p)))
-    (either (ltb (length (t .candidates)) (length (candidatesOf p)))
-    (either (ltb (length (t .weights)) (length (candidatesOf p)))
-    (ltb (length (t .rows)) (length (rowsIn p))))))
+    either (short (length (t .triangles)) (p .n - 2))
+    (either (short (length (t .work)) (length (candidatesOf p)))
+    (either (short (length (t .candidates)) (length (candidatesOf p)))
+    (either (short (length (t .weights)) (length (candidatesOf p)))
+    (short (length (t .rows)) (length (rowsIn p))))))
 
--- "After a patch or 'none' the candidate, weight and row tables hold the lists above in their first places", the triangle and work tables what the
--- tiler leaves, "and all further places are unchanged"
+-- the tables after a patch or 'none' (rules 3.8, 3.9): the lists in the first places of three, in the triangle and work tables what the tiler leaves,
+-- and every further place as it was
 abbrev pub patchedBy : Result → Polygon → Tables → Patching
 patchedBy r p t =
     patching (r .outcome)
@@ -71,20 +69,21 @@ patchedBy r p t =
 abbrev pub patched : Polygon → Tables → Patching
 patched p t = patchedBy (settled (best (jobIn p)) (length (candidatesOf p)) (t .triangles) (t .work)) p t
 
--- "then 10 to 13. .. 'None' comes only after all of them": of a polygon, first the number due on one that no file gives, then 12, then 13
-unfoldable pub patchPolygon : Polygon → Tables → Patching
-patchPolygon p t =
-    cond (eqb (codeOf p) 0)
-    (cond (cospherical p) (refused 12 t)
-    (cond (tablesShort p t) (refused 13 t)
-    (patched p t)))
-    (refused (codeOf p) t)
+-- by the first number due: the answer where none is (rules 4.30, 4.33)
+abbrev pub patchBy : ℕ → Polygon → Tables → Patching
+patchBy zero p t = patched p t
+patchBy (suc k) p t = refused (suc k) t
 
--- a rim file: 1 to 11 in the reader's order, then the polygon
-abbrev pub afterReading : Status → Polygon → Tables → Patching
-afterReading (status.Refused k) p t = refused k t
-afterReading status.Complete p t = patchPolygon p t
+-- a polygon that a host built by hand, with its first number due (rule 4.34)
+abbrev pub polygonNumber : Polygon → Tables → ℕ
+polygonNumber p t = numberDue (tablesShort p t) p
+
+unfoldable pub patchPolygon : Polygon → Tables → Patching
+patchPolygon p t = patchBy (polygonNumber p t) p t
+
+-- a rim file, with its first number due (rule 4.31): 1 to 11 in the reader's order, then those of its polygon
+abbrev pub fileNumber : List ℕ → Tables → ℕ
+fileNumber file t = firstDue (reader.numberDue file) (polygonNumber (polygonOf file) t)
 
 unfoldable pub patchFile : List ℕ → Tables → Patching
-unfolding patchPolygon
-patchFile file t = afterReading (readingOf file .status) (readingOf file .polygon) t
+patchFile file t = patchBy (fileNumber file t) (polygonOf file) t

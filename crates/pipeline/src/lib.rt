@@ -1,16 +1,19 @@
 // The one call over the three stages: reader, candidate finder, tiler.
 use finder::Found;
+use finder::Sizes;
 use polygon::Polygon;
 use reader::Status;
 use triangulator::Outcome;
 ghost use mathlib.Core.Path.{_≡_};
 ghost use Prim.Native.Nat.{_+_, _≤_};
 ghost use lib.ListN.{length, take};
+ghost use Rattle.reader.specs.Reading.{polygonOf};
 ghost use Rattle.triangulation.specs.Triangulations.{best};
 ghost use Rattle.triangulation.specs.Jobs.{jobOf};
 ghost use Rattle.minimum_weight.specs.Tables.{WellFormed};
-ghost use Rattle.triangulator.specs.Call.{result, settled};
-ghost use Rattle.pipeline.specs.Patching.{tables, patching, patchPolygon, patchFile};
+ghost use Rattle.triangulator.specs.Call.{valuesOf, dueValues, result, settled};
+ghost use Rattle.pipeline.specs.Patching.{tables, patching, jobIn, polygonNumber, patchPolygon, fileNumber, patchFile};
+ghost use Rattle.pipeline.specs.Sizes.{sizesFile};
 
 // The best triangulation by the lists in the first places of the tables.
 fn triangulate_first(
@@ -47,6 +50,7 @@ pub fn patch_polygon(
     work: &mut [u64],
 ) -> Outcome
     ensures { λ r. ⌜ patching r (tables (now (triangles .exit)) (now (candidates .exit)) (now (weights .exit)) (now (rows .exit)) (now (work .exit))) ≡ patchPolygon p (tables (now (triangles .entry)) (now (candidates .entry)) (now (weights .entry)) (now (rows .entry)) (now (work .entry))) ⌝ }
+    ensures { λ r. ⌜ valuesOf r ≡ dueValues (polygonNumber p (tables (now (triangles .entry)) (now (candidates .entry)) (now (weights .entry)) (now (rows .entry)) (now (work .entry)))) (p .n) (best (jobIn p)) ⌝ }
 {
     let n = p.n;
     let found = finder::find_beside(p, triangles.len(), work.len(), candidates, weights, rows);
@@ -78,6 +82,7 @@ pub fn patch_file(
     work: &mut [u64],
 ) -> Outcome
     ensures { λ r. ⌜ patching r (tables (now (triangles .exit)) (now (candidates .exit)) (now (weights .exit)) (now (rows .exit)) (now (work .exit))) ≡ patchFile (now (file .entry)) (tables (now (triangles .entry)) (now (candidates .entry)) (now (weights .entry)) (now (rows .entry)) (now (work .entry))) ⌝ }
+    ensures { λ r. ⌜ valuesOf r ≡ dueValues (fileNumber (now (file .entry)) (tables (now (triangles .entry)) (now (candidates .entry)) (now (weights .entry)) (now (rows .entry)) (now (work .entry)))) (polygonOf (now (file .entry)) .n) (best (jobIn (polygonOf (now (file .entry))))) ⌝ }
 {
     let reading = reader::read_polygon(file);
     let status = reading.status;
@@ -85,5 +90,18 @@ pub fn patch_file(
     match status {
         Status::Refused(number) => Outcome::Refused(number),
         Status::Complete => patch_polygon(p, triangles, candidates, weights, rows, work),
+    }
+}
+
+// The places that the lent tables need for a rim file, or the number due on it: 1 to 12.
+pub fn table_sizes(file: &[u8]) -> Sizes
+    ensures { λ r. ⌜ r ≡ sizesFile (now (file .entry)) ⌝ }
+{
+    let reading = reader::read_polygon(file);
+    let status = reading.status;
+    let p = reading.polygon;
+    match status {
+        Status::Refused(number) => Sizes::Refused(number),
+        Status::Complete => finder::table_sizes(p),
     }
 }

@@ -13,7 +13,8 @@ use Rattle.lists.specs.Lists.{some}
 use Rattle.lists.proofs.Choice.{yes, no}
 use Rattle.lists.proofs.Ranges.{every-at, every-all, some-none, some-here, some-nowhere, some-found}
 use Rattle.polygon.specs.declared.Polygon.{Polygon}
-use Rattle.polygon.specs.Polygon.{maxVertices, vertexAt, samePoint, repeatedVertex, verticesOnGrid, codeOf, Valid}
+use Rattle.terms.specs.Limits.{minVertices, maxVertices, maxAreaFactor, maxBendFactor}
+use Rattle.polygon.specs.Polygon.{vertexAt, samePoint, repeatedVertex, verticesOnGrid, codeOf, Valid}
 use Rattle.polygon.proofs.Points.{point-equal, point-same}
 
 module _ (vertices : List GridPoint) (n : ℕ) where
@@ -63,22 +64,22 @@ passed false false false true false true h = absurd (omega arith)
 pub code-valid : (p : Polygon) → codeOf p ≡ 0 → Valid p
 unfolding codeOf tests
 code-valid p h =
-    let t = passed (ltb 16 (p .«area_factor»)) (ltb 65535 (p .«bend_factor»)) (ltb maxVertices (p .n)) (verticesOnGrid (p .vertices) (p .n)) (ltb (p .n) 3) (repeatedVertex (p .vertices) (p .n)) h in
+    let t = passed (ltb maxAreaFactor (p .«area_factor»)) (ltb maxBendFactor (p .«bend_factor»)) (ltb maxVertices (p .n)) (verticesOnGrid (p .vertices) (p .n)) (ltb (p .n) minVertices) (repeatedVertex (p .vertices) (p .n)) h in
     record {
-      area-factor = ltb-false 16 (p .«area_factor») (t .area);
-      bend-factor = ltb-false 65535 (p .«bend_factor») (t .bend);
+      area-factor = ltb-false maxAreaFactor (p .«area_factor») (t .area);
+      bend-factor = ltb-false maxBendFactor (p .«bend_factor») (t .bend);
       most = ltb-false maxVertices (p .n) (t .most);
       on-grid = on-grid-at (p .vertices) (p .n) (t .grid);
-      least = ltb-false (p .n) 3 (t .least);
+      least = ltb-false (p .n) minVertices (t .least);
       distinct = repeated-none (p .vertices) (p .n) (t .same);
     }
 
 pub valid-code : (p : Polygon) → Valid p → codeOf p ≡ 0
 unfolding codeOf
 valid-code p v =
-    no _ _ (le-ltb 16 (p .«area_factor») (v .area-factor))
-    ∙ no _ _ (le-ltb 65535 (p .«bend_factor») (v .bend-factor))
+    no _ _ (le-ltb maxAreaFactor (p .«area_factor») (v .area-factor))
+    ∙ no _ _ (le-ltb maxBendFactor (p .«bend_factor») (v .bend-factor))
     ∙ no _ _ (le-ltb maxVertices (p .n) (v .most))
     ∙ yes _ _ (on-grid-all (p .vertices) (p .n) (v .on-grid))
-    ∙ no _ _ (le-ltb (p .n) 3 (v .least))
+    ∙ no _ _ (le-ltb (p .n) minVertices (v .least))
     ∙ no _ _ (repeated-nowhere (p .vertices) (p .n) (v .distinct))

@@ -1,23 +1,16 @@
-// Polygons on the grid. The boundary polygon is the "rim" of document 01.
+// Polygons on the grid: the boundary polygon of a gap is its rim.
 use grid::GridPoint;
 ghost use mathlib.Core.Path.{_≡_};
 ghost use Prim.Native.Nat.{_≤_};
-ghost use Rattle.polygon.specs.Polygon.{maxVertices, emptyPolygon, samePoint, repeatedVertex, verticesOnGrid, codeOf};
-
-pub const MIN_VERTICES: usize = 3;
-
-pub const MAX_VERTICES: usize = 64;
-
-pub const MAX_AREA_FACTOR: u32 = 16;
-
-pub const MAX_BEND_FACTOR: u32 = 65535;
+ghost use Rattle.terms.specs.Limits.{maxVertices};
+ghost use Rattle.polygon.specs.Polygon.{emptyPolygon, samePoint, repeatedVertex, verticesOnGrid, codeOf};
 
 // The vertices are the first n places; the places after them belong to no vertex.
 pub struct Polygon {
     pub n: usize,
     pub area_factor: u32,
     pub bend_factor: u32,
-    pub vertices: [GridPoint; MAX_VERTICES],
+    pub vertices: [GridPoint; terms::MAX_VERTICES],
 }
 
 impl Polygon {
@@ -25,7 +18,7 @@ impl Polygon {
     pub fn empty() -> Polygon
         ensures { λ r. ⌜ r ≡ emptyPolygon ⌝ }
     {
-        let vertices = [GridPoint { x: 0, y: 0, z: 0 }; MAX_VERTICES];
+        let vertices = [GridPoint { x: 0, y: 0, z: 0 }; terms::MAX_VERTICES];
         Polygon {
             n: 0,
             area_factor: 0,
@@ -54,7 +47,7 @@ fn same_point(p: GridPoint, q: GridPoint) -> bool
 }
 
 // Do two of the first n vertices share a grid point?
-pub fn has_repeated_vertex(vertices: [GridPoint; MAX_VERTICES], n: usize) -> bool
+pub fn has_repeated_vertex(vertices: [GridPoint; terms::MAX_VERTICES], n: usize) -> bool
     requires { ⌜ n ≤ maxVertices ⌝ }
     ensures { λ r. ⌜ r ≡ repeatedVertex vertices n ⌝ }
 {
@@ -70,7 +63,7 @@ pub fn has_repeated_vertex(vertices: [GridPoint; MAX_VERTICES], n: usize) -> boo
     false
 }
 
-fn vertices_on_grid(vertices: [GridPoint; MAX_VERTICES], n: usize) -> bool
+fn vertices_on_grid(vertices: [GridPoint; terms::MAX_VERTICES], n: usize) -> bool
     requires { ⌜ n ≤ maxVertices ⌝ }
     ensures { λ r. ⌜ r ≡ verticesOnGrid vertices n ⌝ }
 {
@@ -91,19 +84,19 @@ pub fn polygon_code(p: Polygon) -> u32
     let area_factor = p.area_factor;
     let bend_factor = p.bend_factor;
     let vertices = p.vertices;
-    if MAX_AREA_FACTOR < area_factor {
+    if terms::MAX_AREA_FACTOR < area_factor {
         return codes::AREA_FACTOR;
     }
-    if MAX_BEND_FACTOR < bend_factor {
+    if terms::MAX_BEND_FACTOR < bend_factor {
         return codes::AREA_FACTOR;
     }
-    if MAX_VERTICES < n {
+    if terms::MAX_VERTICES < n {
         return codes::TOO_MANY_VERTICES;
     }
     if !vertices_on_grid(vertices, n) {
         return codes::OUT_OF_RANGE;
     }
-    if n < MIN_VERTICES {
+    if n < terms::MIN_VERTICES {
         return codes::TOO_FEW_VERTICES;
     }
     if has_repeated_vertex(vertices, n) {

@@ -4,11 +4,12 @@ use mathlib.Core.Bool.{Bool, true, false, cond}
 use mathlib.Core.List.{List}
 use Prim.Native.Nat.{ℕ, zero, suc, _+_, _≤_, _<_}
 use native.Mathlib.Omega.{arith}
-use borrow.Author.Tests.{le-ltb, lt-ltb, le-leb, eqb-true, eqb-false}
+use borrow.Author.Tests.{le-ltb, lt-ltb, le-leb, eqb-true, eqb-false, leb-true, leb-false}
 use lib.Dec.{ltb, leb, eqb}
 use Rattle.lists.proofs.Choice.{yes, no}
 use Rattle.grid.specs.declared.GridPoint.{GridPoint}
-use Rattle.polygon.specs.Polygon.{repeatedVertex, maxVertices}
+use Rattle.terms.specs.Limits.{maxVertices}
+use Rattle.polygon.specs.Polygon.{repeatedVertex}
 use Rattle.polygon.specs.declared.Polygon.{Polygon}
 use Rattle.reader.specs.File.{areaFactor, bendFactor, recordCount, lengthWrong}
 use Rattle.reader.specs.Chain.{metBefore, positionCode, codeFrom, endFrom, chainCode, vertexCount, verticesOf}
@@ -30,14 +31,17 @@ unfolding endFrom
 end-step s i k = refl
 
 -- the position after the last that is allowed is refused with 3, 4 or 5
-past-limit : (s : List ℕ) (i : ℕ) → maxVertices ≤ i → positionCode s i ≡ 0 → ⊥
+pub past-limit : (s : List ℕ) (i : ℕ) → maxVertices ≤ i → positionCode s i ≡ 0 → ⊥
 unfolding positionCode
 past-limit s i h e = by (ltb (recordCount s) (chain.link s i)) (metBefore s i (chain.link s i)) refl refl
   where
+    many : leb maxVertices i ≡ true
+    many = le-leb maxVertices i h
+
     by : (a b : Bool) → ltb (recordCount s) (chain.link s i) ≡ a → metBefore s i (chain.link s i) ≡ b → ⊥
-    by true b p q = omega (arith, sym (yes 3 _ p) ∙ e)
-    by false true p q = omega (arith, sym (no 3 _ p ∙ yes 4 _ q) ∙ e)
-    by false false p q = omega (arith, sym (no 3 _ p ∙ no 4 _ q ∙ yes 5 _ (le-leb maxVertices i h)) ∙ e)
+    by true b p q = omega (arith, simp (p, q, many) at e)
+    by false true p q = omega (arith, simp (p, q, many) at e)
+    by false false p q = omega (arith, simp (p, q, many) at e)
 
 -- what no number from position i on says of one position
 pub record Passed (s : List ℕ) (i k : ℕ) : Type 0 where
@@ -66,8 +70,8 @@ end-within s i (suc k) t h e = by (eqb (chain.link s i) 0) refl (λ p l. end-wit
         here = passed s i k e z
 
         on : (b : Bool) → leb maxVertices i ≡ b → endFrom s i (suc k) ≤ maxVertices
-        on true l = absurd (past-limit s i (borrow.Author.Tests.leb-true maxVertices i l) (here .position))
-        on false l = omega (arith, end-step s i k ∙ no i _ z, go here (borrow.Author.Tests.leb-false maxVertices i l))
+        on true l = absurd (past-limit s i (leb-true maxVertices i l) (here .position))
+        on false l = omega (arith, end-step s i k ∙ no i _ z, go here (leb-false maxVertices i l))
 
 pub count-within : (s : List ℕ) → chainCode s ≡ 0 → vertexCount s ≤ maxVertices
 count-within s e = end-within s 0 (suc maxVertices) refl (omega arith) e
@@ -151,7 +155,7 @@ answer-complete s {n} {area} {bend} {vertices} e a b c d = same ∙ sym (ap (λ 
     same : _≡_ {A = Reading} (record { status = Complete; polygon = record { n = n; «area_factor» = area; «bend_factor» = bend; vertices = vertices } }) (answer 0 (polygonOf s))
     same = λ i. record { status = Complete; polygon = record { n = a i; «area_factor» = b i; «bend_factor» = c i; vertices = d i } }
 
-answer-number : (k : ℕ) (p : Polygon) → statusNumber (answer k p .status) ≡ k
+pub answer-number : (k : ℕ) (p : Polygon) → statusNumber (answer k p .status) ≡ k
 answer-number zero p = refl
 answer-number (suc k) p = refl
 

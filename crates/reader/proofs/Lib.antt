@@ -2,7 +2,17 @@ pub mod Numbers
 pub mod Vertices
 pub mod Lengths
 pub mod Walking
+pub mod Following
 pub mod Answers
+pub mod Order
+pub mod Floats
+pub mod Heights
+pub mod RecordNumbers
 pub mod Positions
+pub mod Ends
+pub mod RimVertices
+pub mod FirstNumber
 pub mod Demand1
+pub mod Accepted
+pub mod Existing
 pub mod HalfSteps

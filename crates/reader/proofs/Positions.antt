@@ -1,208 +1,25 @@
--- One position of the chain: which number is due there, and what holds where none is. Assumes nothing.
+-- One position of the chain: the number that is given there is due there, and no smaller one is. Assumes nothing.
 use mathlib.Core.Path.{_≡_, refl, sym, ap, _∙_, subst}
-use mathlib.Core.Bool.{Bool, true, false, cond}
-use mathlib.Core.List.{List, [], _∷_, List·Memᴰ, List·Memᴰ·head, List·Memᴰ·tail, List·Memᴰ·cases-cons, List·Memᴰ·not-nil}
+use mathlib.Core.Bool.{Bool, true, false}
+use mathlib.Core.List.{List}
 use mathlib.Core.Logic.{⊎-elim}
 use Prim.Native.Nat.{ℕ, zero, suc, _≤_, _<_}
 use native.Mathlib.Omega.{arith}
-use borrow.Author.Tests.{ltb-true, ltb-false, leb-true, leb-false, eqb-true, eqb-false, eq-eqb, ne-eqb}
-use lib.IntN.{ℤ}
+use borrow.Author.Tests.{ltb-true, ltb-false, leb-true, leb-false, eqb-true, eq-eqb, lt-ltb, le-leb}
 use lib.Dec.{ltb, leb, eqb}
-use lib.Ieee.{Float}
-use Rattle.lists.specs.Lists.{both}
-use Rattle.lists.proofs.Choice.{yes, no, true-not-false, both-left, both-right, either-left, either-right, either-cases, below-or-same}
-use Rattle.grid.specs.declared.GridPoint.{GridPoint}
-use Rattle.grid.specs.Number.{finite, inRange, roundEighths}
-use Rattle.grid.specs.Point.{point}
-use Rattle.polygon.specs.Polygon.{maxVertices}
-use Rattle.reader.specs.File.{recordCount, offset, firstNumber, secondNumber, thirdNumber}
-use Rattle.reader.specs.Record.{known, heightOf, everyNumber, numbersCode, vertexUnless}
-use Rattle.reader.specs.Chain.{metBefore, heightBefore, vertexAt, numberOf, positionCode}
+use Rattle.lists.proofs.Choice.{yes, no, true-not-false, either-left, either-right, either-cases, below-or-same}
+use Rattle.terms.specs.Limits.{maxVertices}
+use Rattle.reader.specs.File.{recordCount}
+use Rattle.reader.specs.Chain.{metBefore, vertexAt, numberOf, positionCode}
 use Rattle.reader.specs.Chain as chain
-use Rattle.reader.specs.Due.{OnChain, kindAt, tailZeroAt, usedAt, Due, link-over, met-again, too-many, kind-unknown, no-height, not-finite, tail-not-zero, out-of-range}
-use Rattle.reader.specs.declared.Height.the-variants.{Known}
-use Rattle.reader.proofs.Vertices.{shape, shape-is, numbers-fine}
+use Rattle.reader.specs.Order.{position}
+use Rattle.reader.specs.Due.{InFile, HasRecords, DueAt, link-over, met-again, too-many, kind-unknown, no-height, not-finite, tail-not-zero, out-of-range}
+use Rattle.reader.proofs.Lengths.{Whole}
+use Rattle.reader.proofs.Floats.{UpTo}
+use Rattle.reader.proofs.RecordNumbers.{kind-given, height-given, tail-given, finite-given, range-given, record-due}
 
--- ---- numbers of a record
--- a number at which a test of every number fails
-record Failing (P : Float → Bool) (vs : List Float) : Type 0 where
-  value : Float
-  member : List·Memᴰ value vs
-  fails : P value ≡ false
-
-every-fails : (P : Float → Bool) (vs : List Float) → everyNumber P vs ≡ false → Failing P vs
-every-fails P [] e = absurd (true-not-false refl e)
-every-fails P (v ∷ vs) e = by (P v) refl (λ h. every-fails P vs h)
-  where
-    by : (b : Bool) → P v ≡ b → (everyNumber P vs ≡ false → Failing P vs) → Failing P (v ∷ vs)
-    by false p go = record { value = v; member = List·Memᴰ·head refl; fails = p }
-    by true p go =
-        let f = go (sym (ap (λ (b : Bool). both b (everyNumber P vs)) p) ∙ e) in
-        record { value = f .value; member = List·Memᴰ·tail (f .member); fails = f .fails }
-
-every-holds : (P : Float → Bool) (vs : List Float) (v : Float) → everyNumber P vs ≡ true → List·Memᴰ v vs → P v ≡ true
-every-holds P [] v e m = absurd (List·Memᴰ·not-nil m)
-every-holds P (w ∷ vs) v e m =
-    ⊎-elim (λ d. ap P d ∙ both-left (P w) (everyNumber P vs) e) (λ t. every-holds P vs v (both-right (P w) (everyNumber P vs) e) t) (List·Memᴰ·cases-cons m)
-
-number-unless : (k : ℕ) (p : GridPoint) → numberOf (vertexUnless k p) ≡ k
-number-unless zero p = refl
-number-unless (suc k) p = refl
-
--- no height is known exactly where no record before is of kind 1
-height-unknown : (s : List ℕ) (i : ℕ) → known (heightBefore s i) ≡ false → (j : ℕ) → j < i → kindAt s j ≡ 1 → ⊥
-unfolding heightBefore
-height-unknown s zero e j h k = omega arith
-height-unknown s (suc i) e j h k = by (eqb (kindAt s i) 1) refl (λ e' l. height-unknown s i e' j l k)
-  where
-    by : (b : Bool) → eqb (kindAt s i) 1 ≡ b → (known (heightBefore s i) ≡ false → j < i → ⊥) → ⊥
-    by true p go = true-not-false (ap known (yes (Known (roundEighths (thirdNumber s (offset (chain.link s i))))) (heightBefore s i) p)) e
-    by false p go =
-        ⊎-elim (λ l. go (sym (ap known (no (Known (roundEighths (thirdNumber s (offset (chain.link s i))))) (heightBefore s i) p)) ∙ e) l)
-        (λ d. eqb-false (kindAt s i) 1 p (ap (λ (m : ℕ). kindAt s m) (sym d) ∙ k))
-        (below-or-same j i (omega arith))
-
-no-height-known : (s : List ℕ) (i : ℕ) → ((j : ℕ) → j < i → kindAt s j ≡ 1 → ⊥) → known (heightBefore s i) ≡ false
-unfolding heightBefore
-no-height-known s zero none = refl
-no-height-known s (suc i) none =
-    ap known (no (Known (roundEighths (thirdNumber s (offset (chain.link s i))))) (heightBefore s i) (ne-eqb (kindAt s i) 1 (none i (omega arith))))
-    ∙ no-height-known s i (λ j h. none j (omega arith))
-
--- ---- a number that is given at a position is due
-module _ (s : List ℕ) (i : ℕ) (on : OnChain s i) where
-  at : ℕ
-  at = offset (chain.link s i)
-
-  numbers-due : (vs : List Float) (c : ℕ) → usedAt s i ≡ vs → numbersCode vs ≡ suc c → Due s (suc c)
-  unfolding numbersCode
-  numbers-due vs c u e = by (everyNumber finite vs) (everyNumber inRange vs) refl refl e
-    where
-      by : (f r : Bool) → everyNumber finite vs ≡ f → everyNumber inRange vs ≡ r → _≡_ {A = ℕ} (cond f (cond r 0 9) 8) (suc c) → Due s (suc c)
-      by false r p q d =
-          let w = every-fails finite vs p in
-          subst (λ (k : ℕ). Due s k) d (not-finite i (w .value) on (subst (λ (l : List Float). List·Memᴰ (w .value) l) (sym u) (w .member)) (w .fails))
-      by true false p q d =
-          let w = every-fails inRange vs q in
-          subst (λ (k : ℕ). Due s k) d (out-of-range i (w .value) on (subst (λ (l : List Float). List·Memᴰ (w .value) l) (sym u) (w .member)) (w .fails))
-      by true true p q d = absurd (omega (arith, d))
-
-  record-due : (c : ℕ) → numberOf (vertexAt s i) ≡ suc c → Due s (suc c)
-  unfolding shape at
-  record-due c e =
-      by (eqb (kindAt s i) 1) (eqb (kindAt s i) 2) (known (heightBefore s i)) (tailZeroAt s i) refl refl refl refl
-      (ap numberOf (sym (shape-is (eqb (kindAt s i) 1) (eqb (kindAt s i) 2) (known (heightBefore s i)) (tailZeroAt s i) s at (heightOf (heightBefore s i)) refl refl refl)) ∙ e)
-    where
-      h : ℤ
-      h = heightOf (heightBefore s i)
-
-      by : (one two kn tail : Bool) → eqb (kindAt s i) 1 ≡ one → eqb (kindAt s i) 2 ≡ two → known (heightBefore s i) ≡ kn → tailZeroAt s i ≡ tail →
-          numberOf (shape one two kn tail (firstNumber s at) (secondNumber s at) (thirdNumber s at) h) ≡ suc c → Due s (suc c)
-      by true two kn tail a b k t d =
-          numbers-due (firstNumber s at ∷ secondNumber s at ∷ thirdNumber s at ∷ []) c (yes _ _ a)
-          (sym (number-unless (numbersCode (firstNumber s at ∷ secondNumber s at ∷ thirdNumber s at ∷ [])) (point (roundEighths (firstNumber s at)) (roundEighths (secondNumber s at)) (roundEighths (thirdNumber s at)))) ∙ d)
-      by false true true true a b k t d =
-          numbers-due (firstNumber s at ∷ secondNumber s at ∷ []) c (no _ _ a ∙ yes _ _ b)
-          (sym (number-unless (numbersCode (firstNumber s at ∷ secondNumber s at ∷ [])) (point (roundEighths (firstNumber s at)) (roundEighths (secondNumber s at)) h)) ∙ d)
-      by false true true false a b k t d = subst (λ (k : ℕ). Due s k) d (tail-not-zero i on (eqb-true (kindAt s i) 2 b) t)
-      by false true false tail a b k t d = subst (λ (k : ℕ). Due s k) d (no-height i on (eqb-true (kindAt s i) 2 b) (height-unknown s i k))
-      by false false kn tail a b k t d = subst (λ (k : ℕ). Due s k) d (kind-unknown i on (eqb-false (kindAt s i) 1 a) (eqb-false (kindAt s i) 2 b))
-
-  met-position : (k m : ℕ) → metBefore s m k ≡ true → m ≤ i → k ≡ chain.link s i → Due s 4
-  unfolding metBefore
-  met-position k zero e h d = absurd (true-not-false e refl)
-  met-position k (suc m) e h d =
-      ⊎-elim (λ p. met-again m i (omega arith) on (eqb-true (chain.link s m) k p ∙ d)) (λ r. met-position k m r (omega arith) d)
-      (either-cases (eqb (chain.link s m) k) (metBefore s m k) e)
-
-  pub position-due : (c : ℕ) → positionCode s i ≡ suc c → Due s (suc c)
-  unfolding positionCode
-  position-due c e = by (ltb (recordCount s) (chain.link s i)) (metBefore s i (chain.link s i)) (leb maxVertices i) refl refl refl
-    where
-      by : (a b d : Bool) → ltb (recordCount s) (chain.link s i) ≡ a → metBefore s i (chain.link s i) ≡ b → leb maxVertices i ≡ d → Due s (suc c)
-      by true b d p q r = subst (λ (k : ℕ). Due s k) (sym (yes 3 _ p) ∙ e) (link-over i on (ltb-true (recordCount s) (chain.link s i) p))
-      by false true d p q r = subst (λ (k : ℕ). Due s k) (sym (no 3 _ p ∙ yes 4 _ q) ∙ e) (met-position (chain.link s i) i q (omega arith) refl)
-      by false false true p q r =
-          let l : maxVertices ≤ i = leb-true maxVertices i r in
-          subst (λ (k : ℕ). Due s k) (sym (no 3 _ p ∙ no 4 _ q ∙ yes 5 _ r) ∙ e) (too-many (record { goes-on = λ j h. on .goes-on j (omega arith) }))
-      by false false false p q r = record-due c (sym (no 3 _ p ∙ no 4 _ q ∙ no 5 _ r) ∙ e)
-
--- ---- where no number is given at a position, none of 3 to 9 is due there
--- what holds of a record that gives no number
-pub record RecordFine (s : List ℕ) (i : ℕ) : Type 0 where
-  pub kind-known : (kindAt s i ≡ 1 → ⊥) → (kindAt s i ≡ 2 → ⊥) → ⊥
-  pub height-known : kindAt s i ≡ 2 → known (heightBefore s i) ≡ true
-  pub tail-zero : kindAt s i ≡ 2 → tailZeroAt s i ≡ true
-  pub all-finite : everyNumber finite (usedAt s i) ≡ true
-  pub all-in-range : everyNumber inRange (usedAt s i) ≡ true
-
-pub record PositionFine (s : List ℕ) (i : ℕ) : Type 0 where
-  pub link-within : chain.link s i ≤ recordCount s
-  pub not-met : metBefore s i (chain.link s i) ≡ false
-  pub within : i < maxVertices
-  pub no-number : numberOf (vertexAt s i) ≡ 0
-
-pub position-fine : (s : List ℕ) (i : ℕ) → positionCode s i ≡ 0 → PositionFine s i
-unfolding positionCode
-position-fine s i e = by (ltb (recordCount s) (chain.link s i)) (metBefore s i (chain.link s i)) (leb maxVertices i) refl refl refl
-  where
-    by : (a b d : Bool) → ltb (recordCount s) (chain.link s i) ≡ a → metBefore s i (chain.link s i) ≡ b → leb maxVertices i ≡ d → PositionFine s i
-    by true b d p q r = absurd (omega (arith, sym (yes 3 _ p) ∙ e))
-    by false true d p q r = absurd (omega (arith, sym (no 3 _ p ∙ yes 4 _ q) ∙ e))
-    by false false true p q r = absurd (omega (arith, sym (no 3 _ p ∙ no 4 _ q ∙ yes 5 _ r) ∙ e))
-    by false false false p q r = record {
-      link-within = ltb-false (recordCount s) (chain.link s i) p;
-      not-met = q;
-      within = leb-false maxVertices i r;
-      no-number = sym (no 3 _ p ∙ no 4 _ q ∙ no 5 _ r) ∙ e;
-    }
-
-pub record-fine : (s : List ℕ) (i : ℕ) → numberOf (vertexAt s i) ≡ 0 → RecordFine s i
-unfolding shape
-record-fine s i e =
-    by (eqb (kindAt s i) 1) (eqb (kindAt s i) 2) (known (heightBefore s i)) (tailZeroAt s i) refl refl refl refl
-    (ap numberOf (sym (shape-is (eqb (kindAt s i) 1) (eqb (kindAt s i) 2) (known (heightBefore s i)) (tailZeroAt s i) s (offset (chain.link s i)) (heightOf (heightBefore s i)) refl refl refl)) ∙ e)
-  where
-    a : ℕ
-    a = offset (chain.link s i)
-
-    three : List Float
-    three = firstNumber s a ∷ secondNumber s a ∷ thirdNumber s a ∷ []
-
-    two-numbers : List Float
-    two-numbers = firstNumber s a ∷ secondNumber s a ∷ []
-
-    fine : (vs : List Float) → usedAt s i ≡ vs → numbersCode vs ≡ 0 → (everyNumber finite (usedAt s i) ≡ true) × (everyNumber inRange (usedAt s i) ≡ true)
-    fine vs u d =
-        let f = numbers-fine vs d in
-        (ap (λ (l : List Float). everyNumber finite l) u ∙ f .0, ap (λ (l : List Float). everyNumber inRange l) u ∙ f .1)
-
-    by : (one two kn tail : Bool) → eqb (kindAt s i) 1 ≡ one → eqb (kindAt s i) 2 ≡ two → known (heightBefore s i) ≡ kn → tailZeroAt s i ≡ tail →
-        numberOf (shape one two kn tail (firstNumber s a) (secondNumber s a) (thirdNumber s a) (heightOf (heightBefore s i))) ≡ 0 → RecordFine s i
-    by true two kn tail p q k t d =
-        let one : kindAt s i ≡ 1 = eqb-true (kindAt s i) 1 p in
-        let f = fine three (yes _ _ p) (sym (number-unless (numbersCode three) (point (roundEighths (firstNumber s a)) (roundEighths (secondNumber s a)) (roundEighths (thirdNumber s a)))) ∙ d) in
-        record {
-          kind-known = λ n m. n one;
-          height-known = λ z. absurd (omega (arith, one, z));
-          tail-zero = λ z. absurd (omega (arith, one, z));
-          all-finite = f .0;
-          all-in-range = f .1;
-        }
-    by false true true true p q k t d =
-        let f = fine two-numbers (no _ _ p ∙ yes _ _ q) (sym (number-unless (numbersCode two-numbers) (point (roundEighths (firstNumber s a)) (roundEighths (secondNumber s a)) (heightOf (heightBefore s i)))) ∙ d) in
-        record {
-          kind-known = λ n m. m (eqb-true (kindAt s i) 2 q);
-          height-known = λ z. k;
-          tail-zero = λ z. t;
-          all-finite = f .0;
-          all-in-range = f .1;
-        }
-    by false true true false p q k t d = absurd (omega (arith, d))
-    by false true false tail p q k t d = absurd (omega (arith, d))
-    by false false kn tail p q k t d = absurd (omega (arith, d))
-
--- a record met before is marked as met
+-- ---- records met before
+-- a record at an earlier position is marked as met
 met-marked : (s : List ℕ) (i j k : ℕ) → i < j → chain.link s i ≡ k → metBefore s j k ≡ true
 unfolding metBefore
 met-marked s i zero k h e = absurd (omega arith)
@@ -211,12 +28,140 @@ met-marked s i (suc j) k h e =
     (λ d. either-left (eqb (chain.link s j) k) (metBefore s j k) (eq-eqb (chain.link s j) k (ap (λ (m : ℕ). chain.link s m) (sym d) ∙ e)))
     (below-or-same i j (omega arith))
 
--- what a position with no number rules out
-pub not-met-again : (s : List ℕ) (i j : ℕ) → PositionFine s j → i < j → chain.link s i ≡ chain.link s j → ⊥
-not-met-again s i j f h e = true-not-false (met-marked s i j (chain.link s j) h e) (f .not-met)
+-- where a record is marked as met, it stands at an earlier position
+record Met (s : List ℕ) (j k : ℕ) : Type 0 where
+  at : ℕ
+  before : at < j
+  same : chain.link s at ≡ k
 
-pub height-before : (s : List ℕ) (i : ℕ) → RecordFine s i → kindAt s i ≡ 2 → ((j : ℕ) → j < i → kindAt s j ≡ 1 → ⊥) → ⊥
-height-before s i f k none = true-not-false (f .height-known k) (no-height-known s i none)
+met-found : (s : List ℕ) (j k : ℕ) → metBefore s j k ≡ true → Met s j k
+unfolding metBefore
+met-found s zero k e = absurd (true-not-false e refl)
+met-found s (suc j) k e =
+    ⊎-elim (λ p. record { at = j; before = omega arith; same = eqb-true (chain.link s j) k p })
+    (λ r. let m = met-found s j k r in record { at = m .at; before = omega (arith, m .before); same = m .same })
+    (either-cases (eqb (chain.link s j) k) (metBefore s j k) e)
 
-pub used-holds : (P : Float → Bool) (vs : List Float) (v : Float) → everyNumber P vs ≡ true → List·Memᴰ v vs → P v ≡ false → ⊥
-used-holds P vs v e m f = true-not-false (every-holds P vs v e m) f
+module _ (s : List ℕ) (i : ℕ) where
+  -- ---- a number that is due at the position: the one that is given is at most that
+  -- the link is judged before the record
+  link-first : (k c : ℕ) → 5 ≤ k → numberOf (vertexAt s i) ≡ c → UpTo k c → UpTo k (positionCode s i)
+  unfolding positionCode
+  link-first k c h n u = by (ltb (recordCount s) (chain.link s i)) (metBefore s i (chain.link s i)) (leb maxVertices i) refl refl refl
+    where
+      upto : (b : ℕ) → positionCode s i ≡ b → UpTo k b → UpTo k (positionCode s i)
+      upto b e w = record { some = omega (arith, w .some); most = omega (arith, w .most) }
+
+      by : (x y z : Bool) → ltb (recordCount s) (chain.link s i) ≡ x → metBefore s i (chain.link s i) ≡ y → leb maxVertices i ≡ z → UpTo k (positionCode s i)
+      by true y z p q r = upto 3 (yes 3 _ p) (record { some = omega arith; most = omega arith })
+      by false true z p q r = upto 4 (no 3 _ p ∙ yes 4 _ q) (record { some = omega arith; most = omega arith })
+      by false false true p q r = upto 5 (no 3 _ p ∙ no 4 _ q ∙ yes 5 _ r) (record { some = omega arith; most = h })
+      by false false false p q r = upto c (no 3 _ p ∙ no 4 _ q ∙ no 5 _ r ∙ n) u
+
+  over-given : recordCount s < chain.link s i → UpTo 3 (positionCode s i)
+  unfolding positionCode
+  over-given h = let e : positionCode s i ≡ 3 = yes 3 _ (lt-ltb (recordCount s) (chain.link s i) h) in record { some = omega arith; most = omega arith }
+
+  met-given : metBefore s i (chain.link s i) ≡ true → UpTo 4 (positionCode s i)
+  unfolding positionCode
+  met-given m = by (ltb (recordCount s) (chain.link s i)) refl
+    where
+      by : (x : Bool) → ltb (recordCount s) (chain.link s i) ≡ x → UpTo 4 (positionCode s i)
+      by true p = let e : positionCode s i ≡ 3 = yes 3 _ p in record { some = omega arith; most = omega arith }
+      by false p = let e : positionCode s i ≡ 4 = no 3 _ p ∙ yes 4 _ m in record { some = omega arith; most = omega arith }
+
+  many-given : maxVertices ≤ i → UpTo 5 (positionCode s i)
+  unfolding positionCode
+  many-given h = by (ltb (recordCount s) (chain.link s i)) (metBefore s i (chain.link s i)) refl refl
+    where
+      by : (x y : Bool) → ltb (recordCount s) (chain.link s i) ≡ x → metBefore s i (chain.link s i) ≡ y → UpTo 5 (positionCode s i)
+      by true y p q = let e : positionCode s i ≡ 3 = yes 3 _ p in record { some = omega arith; most = omega arith }
+      by false true p q = let e : positionCode s i ≡ 4 = no 3 _ p ∙ yes 4 _ q in record { some = omega arith; most = omega arith }
+      by false false p q =
+          let e : positionCode s i ≡ 5 = no 3 _ p ∙ no 4 _ q ∙ yes 5 _ (le-leb maxVertices i h) in
+          record { some = omega arith; most = omega arith }
+
+-- the number that is given at a position is at most one that is due there
+pub due-given : (s : List ℕ) (i k : ℕ) → DueAt s (position i) k → UpTo k (positionCode s i)
+due-given s _ _ (link-over i has h) = over-given s i h
+due-given s _ _ (met-again j i h has e) = met-given s i (met-marked s j i (chain.link s i) h e)
+due-given s _ _ (too-many has) = many-given s maxVertices (omega arith)
+due-given s _ _ (kind-unknown i has a b) = link-first s i 6 6 (omega arith) (kind-given s i a b) (record { some = omega arith; most = omega arith })
+due-given s _ _ (no-height i has k none) = link-first s i 7 7 (omega arith) (height-given s i k none) (record { some = omega arith; most = omega arith })
+due-given s _ _ (not-finite i v has m f) = link-first s i 8 (numberOf (vertexAt s i)) (omega arith) refl (finite-given s i v m f)
+due-given s _ _ (tail-not-zero i has k t) = link-first s i 8 (numberOf (vertexAt s i)) (omega arith) refl (tail-given s i k t)
+due-given s _ _ (out-of-range i v has m f) = link-first s i 9 (numberOf (vertexAt s i)) (omega arith) refl (range-given s i v m f)
+
+-- a number is due only at a position that a link leads to
+pub record Reached (s : List ℕ) (i : ℕ) : Type 0 where
+  pub has : HasRecords s i
+  pub goes-on : 0 < chain.link s i
+
+pub shorter : {s : List ℕ} {m : ℕ} (n : ℕ) → n ≤ m → HasRecords s m → HasRecords s n
+shorter n h has = record { has-header = has .has-header; in-file = λ i l. has .in-file i (omega arith); different = λ i j l k. has .different i j l (omega arith) }
+
+pub record-reached : {s : List ℕ} (i : ℕ) → HasRecords s (suc i) → Reached s i
+record-reached i has = record { has = shorter i (omega arith) has; goes-on = has .in-file i (omega arith) .numbered }
+
+pub due-reached : (s : List ℕ) (i k : ℕ) → DueAt s (position i) k → Reached s i
+due-reached s _ _ (link-over i has h) = record { has = has; goes-on = omega arith }
+due-reached s _ _ (met-again j i h has e) = record { has = has; goes-on = omega (arith, has .in-file j h .numbered) }
+due-reached s _ _ (too-many has) = record-reached maxVertices has
+due-reached s _ _ (kind-unknown i has a b) = record-reached i has
+due-reached s _ _ (no-height i has k none) = record-reached i has
+due-reached s _ _ (not-finite i v has m f) = record-reached i has
+due-reached s _ _ (tail-not-zero i has k t) = record-reached i has
+due-reached s _ _ (out-of-range i v has m f) = record-reached i has
+
+module _ (s : List ℕ) (whole : Whole s) (i : ℕ) (r : Reached s i) where
+  -- the record that the link leads to
+  next-has : chain.link s i ≤ recordCount s → metBefore s i (chain.link s i) ≡ false → HasRecords s (suc i)
+  next-has l new = record {
+    has-header = whole .header;
+    in-file = λ j h.
+        ⊎-elim (λ b. r .has .in-file j b) (λ e. subst (λ (m : ℕ). InFile s (chain.link s m)) (sym e) here) (below-or-same j i (omega arith));
+    different = λ j k h b e.
+        ⊎-elim (λ l. r .has .different j k h l e)
+        (λ d. true-not-false (met-marked s j i (chain.link s i) (omega arith) (e ∙ ap (λ (m : ℕ). chain.link s m) d)) new)
+        (below-or-same k i (omega arith));
+  }
+    where
+      here : InFile s (chain.link s i)
+      here = record { numbered = r .goes-on; counted = l; bytes = omega (arith, whole .records, r .goes-on) }
+
+  -- the number that is given is due; position i is at most the last that may be
+  pub given-due : (c : ℕ) → i ≤ maxVertices → positionCode s i ≡ suc c → DueAt s (position i) (suc c)
+  unfolding positionCode
+  given-due c within e = by (ltb (recordCount s) (chain.link s i)) (metBefore s i (chain.link s i)) (leb maxVertices i) refl refl refl
+    where
+      by : (x y z : Bool) → ltb (recordCount s) (chain.link s i) ≡ x → metBefore s i (chain.link s i) ≡ y → leb maxVertices i ≡ z → DueAt s (position i) (suc c)
+      by true y z p q t = subst (λ (k : ℕ). DueAt s (position i) k) (sym (yes 3 _ p) ∙ e) (link-over i (r .has) (ltb-true (recordCount s) (chain.link s i) p))
+      by false true z p q t =
+          let m = met-found s i (chain.link s i) q in
+          subst (λ (k : ℕ). DueAt s (position i) k) (sym (no 3 _ p ∙ yes 4 _ q) ∙ e) (met-again (m .at) i (m .before) (r .has) (m .same))
+      by false false true p q t =
+          let last : maxVertices ≡ i = omega (arith, leb-true maxVertices i t) in
+          let has : HasRecords s (suc i) = next-has (ltb-false (recordCount s) (chain.link s i) p) q in
+          subst (λ (k : ℕ). DueAt s (position i) k) (sym (no 3 _ p ∙ no 4 _ q ∙ yes 5 _ t) ∙ e)
+          (subst (λ (m : ℕ). DueAt s (position m) 5) last (too-many (subst (λ (m : ℕ). HasRecords s (suc m)) (sym last) has)))
+      by false false false p q t = record-due s i (next-has (ltb-false (recordCount s) (chain.link s i) p) q) c (sym (no 3 _ p ∙ no 4 _ q ∙ no 5 _ t) ∙ e)
+
+  -- where no number is given, the chain has the record, within the limit, and the record has a vertex
+  pub record Passing : Type 0 where
+    pub next : HasRecords s (suc i)
+    pub within : i < maxVertices
+    pub no-number : numberOf (vertexAt s i) ≡ 0
+
+  pub passing : positionCode s i ≡ 0 → Passing
+  unfolding positionCode
+  passing e = by (ltb (recordCount s) (chain.link s i)) (metBefore s i (chain.link s i)) (leb maxVertices i) refl refl refl
+    where
+      by : (x y z : Bool) → ltb (recordCount s) (chain.link s i) ≡ x → metBefore s i (chain.link s i) ≡ y → leb maxVertices i ≡ z → Passing
+      by true y z p q t = absurd (omega (arith, sym (yes 3 _ p) ∙ e))
+      by false true z p q t = absurd (omega (arith, sym (no 3 _ p ∙ yes 4 _ q) ∙ e))
+      by false false true p q t = absurd (omega (arith, sym (no 3 _ p ∙ no 4 _ q ∙ yes 5 _ t) ∙ e))
+      by false false false p q t = record {
+        next = next-has (ltb-false (recordCount s) (chain.link s i) p) q;
+        within = leb-false maxVertices i t;
+        no-number = sym (no 3 _ p ∙ no 4 _ q ∙ no 5 _ t) ∙ e;
+      }

@@ -1,18 +1,32 @@
--- The numbers 1 to 11, each by itself and in its own words of document 01, "Who causes which number". Definitions only.
+-- The numbers 1 to 11, each by itself, at its place, and only of what there is (rules 4.1 to 4.11 and 4.31). Definitions only.
 use mathlib.Core.Path.{_≡_}
 use mathlib.Core.Bool.{Bool, true, false, cond}
 use mathlib.Core.List.{List, [], _∷_, List·Memᴰ}
-use Prim.Native.Nat.{ℕ, _≤_, _<_}
+use Prim.Native.Nat.{ℕ, suc, _+_, _≤_, _<_}
 use lib.Dec.{eqb}
+use lib.IntN.{ℤ}
 use lib.Ieee.{Float}
-use Rattle.grid.specs.Number.{finite, inRange}
-use Rattle.polygon.specs.Polygon.{maxVertices}
+use lib.ListN.{length}
+use Rattle.grid.specs.Number.{finite, inRange, roundEighths}
+use Rattle.grid.specs.Point.{point}
+use Rattle.grid.specs.declared.GridPoint.{GridPoint}
+use Rattle.terms.specs.Limits.{minVertices, maxVertices, maxAreaFactor}
 use Rattle.reader.specs.File.{areaFactor, recordCount, lengthWrong, offset, kind, firstNumber, secondNumber, thirdNumber, tailZero}
-use Rattle.reader.specs.Chain.{link, vertexAt, pointOf}
+use Rattle.reader.specs.Chain.{link}
+use Rattle.reader.specs.Order.{Place, header, position, rim}
 
--- position i belongs to the chain: "Next 0 ends the chain", and no link up to it is 0
-pub record OnChain (s : List ℕ) (i : ℕ) : Type 0 where
-  pub goes-on : (j : ℕ) → j ≤ i → link s j ≡ 0 → ⊥
+-- ---- what there is
+-- record k is one of the R records, and its bytes are there (rule 1.3)
+pub record InFile (s : List ℕ) (k : ℕ) : Type 0 where
+  pub numbered : 0 < k
+  pub counted : k ≤ recordCount s
+  pub bytes : offset k + 16 ≤ length s
+
+-- the chain has m records or more (rule 1.5): the links to its first m positions name records of the file, no two the same
+pub record HasRecords (s : List ℕ) (m : ℕ) : Type 0 where
+  pub has-header : 8 ≤ length s
+  pub in-file : (i : ℕ) → i < m → InFile s (link s i)
+  pub different : (i j : ℕ) → i < j → j < m → link s i ≡ link s j → ⊥
 
 -- the kind of the record at position i, and whether its last four bytes are zero
 abbrev pub kindAt : List ℕ → ℕ → ℕ
@@ -21,36 +35,55 @@ kindAt s i = kind s (offset (link s i))
 abbrev pub tailZeroAt : List ℕ → ℕ → Bool
 tailZeroAt s i = tailZero s (offset (link s i))
 
--- "a used number": a point has three, a level point two
-abbrev pub usedNumbers : List ℕ → ℕ → List Float
-usedNumbers s at =
+-- the floats of the record at position i (rules 1.6, 1.7): a point has three, a level point two
+abbrev pub floatsOf : List ℕ → ℕ → List Float
+floatsOf s at =
     cond (eqb (kind s at) 1) (firstNumber s at ∷ secondNumber s at ∷ thirdNumber s at ∷ [])
     (cond (eqb (kind s at) 2) (firstNumber s at ∷ secondNumber s at ∷ []) [])
 
-abbrev pub usedAt : List ℕ → ℕ → List Float
-usedAt s i = usedNumbers s (offset (link s i))
+abbrev pub floatsAt : List ℕ → ℕ → List Float
+floatsAt s i = floatsOf s (offset (link s i))
 
-pub data Due (s : List ℕ) : ℕ → Type 0 where
-  -- "length isn't 8 + 16R, or is under 8, or R is over 256"
-  length-wrong : lengthWrong s ≡ true → Due s 1
-  -- "area factor over 16"
-  area-factor : 16 < areaFactor s → Due s 2
-  -- "first or next is over R"
-  link-over : (i : ℕ) → OnChain s i → recordCount s < link s i → Due s 3
-  -- "the chain meets a record a second time"
-  met-again : (i j : ℕ) → i < j → OnChain s j → link s i ≡ link s j → Due s 4
-  -- "the chain meets a 65th record"
-  too-many : OnChain s maxVertices → Due s 5
-  -- "kind isn't 1 or 2"
-  kind-unknown : (i : ℕ) → OnChain s i → (kindAt s i ≡ 1 → ⊥) → (kindAt s i ≡ 2 → ⊥) → Due s 6
-  -- "a level point has no kind 1 before it"
-  no-height : (i : ℕ) → OnChain s i → kindAt s i ≡ 2 → ((j : ℕ) → j < i → kindAt s j ≡ 1 → ⊥) → Due s 7
-  -- "a used number is infinite or not a number, or a level point's last four bytes aren't zero"
-  not-finite : (i : ℕ) (v : Float) → OnChain s i → List·Memᴰ v (usedAt s i) → finite v ≡ false → Due s 8
-  tail-not-zero : (i : ℕ) → OnChain s i → kindAt s i ≡ 2 → tailZeroAt s i ≡ false → Due s 8
-  -- "8v is out of range"
-  out-of-range : (i : ℕ) (v : Float) → OnChain s i → List·Memᴰ v (usedAt s i) → inRange v ≡ false → Due s 9
-  -- "fewer than 3 vertices"
-  too-few : (OnChain s 2 → ⊥) → Due s 10
-  -- "two vertices share a grid point"
-  vertex-repeated : (i j : ℕ) → i < j → OnChain s j → pointOf (vertexAt s i) ≡ pointOf (vertexAt s j) → Due s 11
+-- ---- what a vertex is
+-- all floats of the record at position i are finite and in range (rule 1.9)
+pub record OnGridAt (s : List ℕ) (i : ℕ) : Type 0 where
+  pub all-finite : (v : Float) → List·Memᴰ v (floatsAt s i) → finite v ≡ true
+  pub all-in-range : (v : Float) → List·Memᴰ v (floatsAt s i) → inRange v ≡ true
+
+-- the last point before position i is the one at position j (rule 1.7)
+pub record LastPoint (s : List ℕ) (j i : ℕ) : Type 0 where
+  pub before : j < i
+  pub is-point : kindAt s j ≡ 1
+  pub none-between : (m : ℕ) → j < m → m < i → kindAt s m ≡ 1 → ⊥
+
+-- the grid numbers of the record at position i (rule 1.10)
+abbrev pub xAt : List ℕ → ℕ → ℤ
+xAt s i = roundEighths (firstNumber s (offset (link s i)))
+
+abbrev pub yAt : List ℕ → ℕ → ℤ
+yAt s i = roundEighths (secondNumber s (offset (link s i)))
+
+abbrev pub heightAt : List ℕ → ℕ → ℤ
+heightAt s i = roundEighths (thirdNumber s (offset (link s i)))
+
+-- the record at position i gives the vertex p (rules 1.6, 1.7)
+pub data HasVertex (s : List ℕ) : ℕ → GridPoint → Type 0 where
+  a-point : (i : ℕ) → kindAt s i ≡ 1 → OnGridAt s i → HasVertex s i (point (xAt s i) (yAt s i) (heightAt s i))
+  a-level-point : (i j : ℕ) → kindAt s i ≡ 2 → tailZeroAt s i ≡ true → OnGridAt s i → LastPoint s j i → OnGridAt s j →
+      HasVertex s i (point (xAt s i) (yAt s i) (heightAt s j))
+
+-- ---- the numbers
+-- constructor by constructor, rules 4.1 to 4.11; 4.8 has two
+pub data DueAt (s : List ℕ) : Place → ℕ → Type 0 where
+  length-wrong : lengthWrong s ≡ true → DueAt s header 1
+  area-factor : 8 ≤ length s → maxAreaFactor < areaFactor s → DueAt s header 2
+  link-over : (i : ℕ) → HasRecords s i → recordCount s < link s i → DueAt s (position i) 3
+  met-again : (i j : ℕ) → i < j → HasRecords s j → link s i ≡ link s j → DueAt s (position j) 4
+  too-many : HasRecords s (suc maxVertices) → DueAt s (position maxVertices) 5
+  kind-unknown : (i : ℕ) → HasRecords s (suc i) → (kindAt s i ≡ 1 → ⊥) → (kindAt s i ≡ 2 → ⊥) → DueAt s (position i) 6
+  no-height : (i : ℕ) → HasRecords s (suc i) → kindAt s i ≡ 2 → ((j : ℕ) → j < i → kindAt s j ≡ 1 → ⊥) → DueAt s (position i) 7
+  not-finite : (i : ℕ) (v : Float) → HasRecords s (suc i) → List·Memᴰ v (floatsAt s i) → finite v ≡ false → DueAt s (position i) 8
+  tail-not-zero : (i : ℕ) → HasRecords s (suc i) → kindAt s i ≡ 2 → tailZeroAt s i ≡ false → DueAt s (position i) 8
+  out-of-range : (i : ℕ) (v : Float) → HasRecords s (suc i) → List·Memᴰ v (floatsAt s i) → inRange v ≡ false → DueAt s (position i) 9
+  too-few : (i : ℕ) → HasRecords s i → link s i ≡ 0 → i < minVertices → DueAt s rim 10
+  vertex-repeated : (i j : ℕ) (p : GridPoint) → i < j → HasRecords s (suc j) → HasVertex s i p → HasVertex s j p → DueAt s rim 11

@@ -2,6 +2,7 @@ pub mod File
 pub mod Record
 pub mod Chain
 pub mod Reading
+pub mod Order
 pub mod Due
 pub mod Rounded
 pub mod Steps

@@ -1,8 +1,9 @@
--- The reader's answer: the polygon, or the first number due of 1 to 11. Document 01, "Who causes which number". Definitions only.
+-- The reader's answer: the polygon, or the first number due of 1 to 11. Definitions only.
 use Prim.Native.Nat.{ℕ, zero, suc}
 use mathlib.Core.Bool.{cond}
 use mathlib.Core.List.{List}
 use lib.Dec.{ltb}
+use Rattle.terms.specs.Limits.{minVertices, maxAreaFactor}
 use Rattle.polygon.specs.Polygon.{emptyPolygon, repeatedVertex}
 use Rattle.polygon.specs.declared.Polygon.{Polygon}
 use Rattle.reader.specs.File.{areaFactor, bendFactor, lengthWrong}
@@ -16,26 +17,26 @@ abbrev pub firstDue : ℕ → ℕ → ℕ
 firstDue zero k = k
 firstDue (suc j) k = suc j
 
--- "Order for a file: 1, 2, then record by record along the chain ..; then 10 to 13": the first number due of 1 to 11, 0 where none is
+-- the first number due of 1 to 11, 0 where none is (rule 4.31)
 unfoldable pub numberDue : List ℕ → ℕ
 numberDue s =
     cond (lengthWrong s) 1
-    (cond (ltb 16 (areaFactor s)) 2
+    (cond (ltb maxAreaFactor (areaFactor s)) 2
     (firstDue (chainCode s)
-    (cond (ltb (vertexCount s) 3) 10
+    (cond (ltb (vertexCount s) minVertices) 10
     (cond (repeatedVertex (verticesOf s (vertexCount s)) (vertexCount s)) 11
     0))))
 
--- the polygon of a file on which no number is due
+-- the polygon of a file on which no number is due (rule 1.8)
 abbrev pub polygonOf : List ℕ → Polygon
 polygonOf s = record { n = vertexCount s; «area_factor» = areaFactor s; «bend_factor» = bendFactor s; vertices = verticesOf s (vertexCount s) }
 
--- document 01's number of each case of the answer
+-- the number of each case of the answer
 abbrev pub statusNumber : Status → ℕ
 statusNumber Complete = 0
 statusNumber (Refused k) = k
 
--- the answer that gives a number: with no polygon
+-- the answer that gives a number (rule 4.30): with no polygon
 abbrev pub refusal : ℕ → Reading
 refusal k = record { status = Refused k; polygon = emptyPolygon }
 

@@ -1,4 +1,4 @@
--- One record: what it decodes to, and its vertex or the first number due on it. Document 01, "The rim file" and numbers 6 to 9. Definitions only.
+-- One record: what it decodes to, and its vertex or the first number due on it. Definitions only.
 use Prim.Native.Nat.{ℕ, suc, zero}
 use mathlib.Core.Bool.{Bool, true, false, cond}
 use mathlib.Core.List.{List, [], _∷_}
@@ -19,7 +19,7 @@ use Rattle.reader.specs.declared.Vertex.{Vertex}
 use Rattle.reader.specs.declared.Vertex.the-variants.{At}
 use Rattle.reader.specs.declared.Vertex.the-variants as vertex-variants
 
--- is there a kind 1 before, whose height a level point takes?
+-- is there a point before, whose height a level point takes? and that height
 abbrev pub known : Height → Bool
 known Unknown = false
 known (Known h) = true
@@ -28,7 +28,7 @@ abbrev pub heightOf : Height → ℤ
 heightOf Unknown = pos 0
 heightOf (Known h) = h
 
--- "6 kind isn't 1 or 2. 7 a level point has no kind 1 before it. 8 .. or a level point's last four bytes aren't zero", of the record that starts at i
+-- what the record that starts at i decodes to (rules 1.6, 1.7): a point, a level point, or 6, 7, or 8 for its last four bytes
 unfoldable pub recordAt : List ℕ → ℕ → Bool → Record
 recordAt s i heightKnown =
     cond (eqb (kind s i) 1)
@@ -39,7 +39,7 @@ recordAt s i heightKnown =
     (record-variants.Refused 7))
     (record-variants.Refused 6))
 
--- "8 a used number is infinite or not a number", before "9 8v is out of range", of all used numbers of a record
+-- of all floats of a record, 8 where one is not finite, before 9 where one is out of range (rules 4.8, 4.9)
 abbrev pub everyNumber : (Float → Bool) → List Float → Bool
 everyNumber P [] = true
 everyNumber P (v ∷ vs) = both (P v) (everyNumber P vs)
@@ -52,7 +52,7 @@ abbrev pub vertexUnless : ℕ → GridPoint → Vertex
 vertexUnless zero p = At p
 vertexUnless (suc k) p = vertex-variants.Refused (suc k)
 
--- "Each point becomes a grid point by eighths of a millimetre"; a level point "takes that point's grid height"
+-- the vertex of a record (rules 1.6, 1.7, 1.10): a level point has the height h, that of the point before it
 unfoldable pub vertexOf : Record → ℤ → Vertex
 vertexOf (Point c) h = vertexUnless (numbersCode (c .x ∷ c .y ∷ c .z ∷ [])) (point (roundEighths (c .x)) (roundEighths (c .y)) (roundEighths (c .z)))
 vertexOf (Level x y) h = vertexUnless (numbersCode (x ∷ y ∷ [])) (point (roundEighths x) (roundEighths y) h)

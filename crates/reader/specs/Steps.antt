@@ -1,16 +1,21 @@
 -- What the reader's private functions return, in terms of the definitions beside this file. Definitions only.
-use Prim.Native.Nat.{ℕ, zero, suc}
+use mathlib.Core.Path.{_≡_}
+use Prim.Native.Nat.{ℕ, zero, suc, _+_, _≤_, _<_}
 use mathlib.Core.Bool.{Bool, true, false, cond}
 use mathlib.Core.List.{List}
 use lib.IntN.{ℤ, pos}
-use lib.ListN.{replicate}
+use lib.ListN.{length, getD, replicate}
 use Rattle.lists.specs.Lists.{both}
-use Rattle.grid.specs.Point.{point}
-use Rattle.polygon.specs.Polygon.{maxVertices, origin}
+use Rattle.grid.specs.Point.{point, OnGrid}
+use Rattle.terms.specs.Limits.{maxVertices}
+use Rattle.polygon.specs.Polygon.{origin}
 use Rattle.grid.specs.declared.GridNumber.{GridNumber}
 use Rattle.grid.specs.declared.GridNumber.the-variants.{Value, NotFinite, OutOfRange}
-use Rattle.reader.specs.Chain.{chainCode, vertexCount, verticesOf}
+use Rattle.reader.specs.File.{recordNumbers}
+use Rattle.reader.specs.Record.{heightOf}
+use Rattle.reader.specs.Chain.{link, metBefore, heightBefore, vertexAt, positionCode, chainCode, vertexCount, verticesOf}
 use Rattle.reader.specs.declared.Chain.{Chain}
+use Rattle.reader.specs.declared.Progress.{Progress}
 use Rattle.reader.specs.declared.Vertex.{Vertex}
 use Rattle.reader.specs.declared.Vertex.the-variants.{At, Refused}
 
@@ -38,6 +43,24 @@ placed x y z =
     (Refused 9))
     (Refused 8)
 
+-- ---- the walk
+-- no number is due before position n of the chain, and the walk w is there: its marks, its height and its link are those of the positions before n
+pub record Walking (s : List ℕ) (w : Progress) : Type 0 where
+  pub here : w .link ≡ link s (w .n)
+  pub marks : length (w .met) ≡ recordNumbers
+  pub marked : (k : ℕ) → k < recordNumbers → getD (w .met) k false ≡ metBefore s (w .n) k
+  pub level : w .height ≡ heightBefore s (w .n)
+  pub on-grid : OnGrid (heightOf (w .height))
+  pub within : w .n ≤ maxVertices
+
+-- the walk after one position: stopped by the number due there, or past its vertex
+pub record Stepped (s : List ℕ) (w r : Progress) : Type 0 where
+  pub number : r .code ≡ positionCode s (w .n)
+  pub walking : r .code ≡ 0 → Walking s r
+  pub next : r .code ≡ 0 → r .n ≡ w .n + 1
+  pub vertex-is : r .code ≡ 0 → vertexAt s (w .n) ≡ At (r .vertex)
+
+-- what the loop over the steps returns
 abbrev pub stoppedAt : ℕ → Chain
 stoppedAt k = record { code = k; n = 0; vertices = replicate maxVertices origin }
 

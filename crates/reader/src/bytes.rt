@@ -24,7 +24,7 @@ pub fn u32_at(s: &[u8], at: usize) -> u32
     wide(s[at]) + 256 * wide(s[at + 1]) + 65536 * wide(s[at + 2]) + 16777216 * wide(s[at + 3])
 }
 
-// Is the length not that of the header's record count, or the count over 256?
+// Is the length not what the header's record count asks for, or the count too large?
 pub fn length_wrong(s: &[u8]) -> bool
     ensures { λ r. ⌜ r ≡ lengthWrong (now (s .entry)) ⌝ }
 {
@@ -32,7 +32,7 @@ pub fn length_wrong(s: &[u8]) -> bool
         return true;
     }
     let count = u16_at(s, 2) as usize;
-    if 256 < count {
+    if crate::MAX_RECORDS < count {
         return true;
     }
     s.len() != 8 + 16 * count

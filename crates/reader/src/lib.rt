@@ -8,6 +8,11 @@ ghost use Rattle.reader.specs.Reading.{refusal, readingOf, statusNumber,
 use grid::GridPoint;
 use polygon::Polygon;
 
+// The most records of a file (rule 1.4). Marks go by record number, from 0, which names none.
+const MAX_RECORDS: usize = 256;
+
+const MARKS: usize = MAX_RECORDS + 1;
+
 // The coordinates of a point, in millimetres.
 struct Coordinates {
     pub x: f32,
@@ -22,7 +27,7 @@ enum Record {
     Refused(u32),
 }
 
-// The grid height of the nearest point before, which a level point takes.
+// The grid height of the last point before, which a level point takes.
 enum Height {
     Unknown,
     Known(i64),
@@ -34,11 +39,26 @@ enum Vertex {
     Refused(u32),
 }
 
+// How far the walk along the chain has come, carried by value from position to position. The vertices are listed beside it: no step copies them.
+struct Progress {
+    // The number that stops the walk, 0 while none does.
+    pub code: u32,
+    // A mark for each record number, set where the record was met.
+    pub met: [bool; MARKS],
+    // The height that a level point takes here.
+    pub height: Height,
+    // The vertex of the position before.
+    pub vertex: GridPoint,
+    // The positions behind, and the link that leads on.
+    pub n: usize,
+    pub link: usize,
+}
+
 // The chain followed to its end: its vertices, or a number and none.
 struct Chain {
     pub code: u32,
     pub n: usize,
-    pub vertices: [GridPoint; polygon::MAX_VERTICES],
+    pub vertices: [GridPoint; terms::MAX_VERTICES],
 }
 
 pub enum Status {
@@ -47,7 +67,7 @@ pub enum Status {
 }
 
 impl Status {
-    // Document 01's number, 0 where the file is read.
+    // The number of the case, 0 where the file is read.
     pub fn number(self) -> u32
         ensures { λ r. ⌜ r ≡ statusNumber self ⌝ }
     {
@@ -81,7 +101,7 @@ pub fn read_polygon(file: &[u8]) -> Reading
         return refused(codes::LENGTH);
     }
     let area_factor = bytes::u16_at(file, 4);
-    if polygon::MAX_AREA_FACTOR < area_factor {
+    if terms::MAX_AREA_FACTOR < area_factor {
         return refused(codes::AREA_FACTOR);
     }
     let chain = walk::follow_chain(file);
@@ -90,7 +110,7 @@ pub fn read_polygon(file: &[u8]) -> Reading
         return refused(code);
     }
     let n = chain.n;
-    if n < polygon::MIN_VERTICES {
+    if n < terms::MIN_VERTICES {
         return refused(codes::TOO_FEW_VERTICES);
     }
     let vertices = chain.vertices;

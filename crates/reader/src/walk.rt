@@ -2,9 +2,10 @@
 ghost use mathlib.Core.Path.{_≡_};
 ghost use mathlib.Core.Bool.{false};
 ghost use Rattle.reader.specs.File.{lengthWrong};
-ghost use Rattle.reader.specs.Steps.{chainOf, stoppedAt};
+ghost use Rattle.reader.specs.Steps.{Walking, Stepped, chainOf, stoppedAt};
 use crate::Chain;
 use crate::Height;
+use crate::Progress;
 use crate::Vertex;
 use crate::bytes;
 use crate::records;
@@ -13,11 +14,71 @@ use grid::GridPoint;
 fn stopped(code: u32) -> Chain
     ensures { λ r. ⌜ r ≡ stoppedAt code ⌝ }
 {
-    let vertices = [GridPoint { x: 0, y: 0, z: 0 }; polygon::MAX_VERTICES];
+    let vertices = [GridPoint { x: 0, y: 0, z: 0 }; terms::MAX_VERTICES];
     Chain {
         code,
         n: 0,
         vertices,
+    }
+}
+
+// The walk before the first position: no record is met.
+fn start(file: &[u8]) -> Progress
+    requires { ⌜ lengthWrong (now file) ≡ false ⌝ }
+    ensures { λ r. ⌜ (Walking (now (file .entry)) r) × (r .n ≡ 0) ⌝ }
+{
+    let met = [false; crate::MARKS];
+    Progress {
+        code: 0,
+        met,
+        height: Height::Unknown,
+        vertex: GridPoint { x: 0, y: 0, z: 0 },
+        n: 0,
+        link: bytes::u16_at(file, 0) as usize,
+    }
+}
+
+fn stop(walk: Progress, code: u32) -> Progress
+    ensures { λ r. ⌜ r .code ≡ code ⌝ }
+{
+    let mut next = walk;
+    next.code = code;
+    next
+}
+
+// One position of the chain: the walk past its record, or stopped by the first number due there.
+fn step(file: &[u8], walk: Progress) -> Progress
+    requires { ⌜ (lengthWrong (now file) ≡ false) × (Walking (now file) walk) × (walk .link ≡ 0 → ⊥) ⌝ }
+    ensures { λ r. ⌜ Stepped (now (file .entry)) walk r ⌝ }
+{
+    let link = walk.link;
+    let n = walk.n;
+    let mut met = walk.met;
+    let height = walk.height;
+    let count = bytes::u16_at(file, 2) as usize;
+    if count < link {
+        return stop(walk, codes::LINK);
+    }
+    if met[link] {
+        return stop(walk, codes::RECORD_REPEATED);
+    }
+    if n == terms::MAX_VERTICES {
+        return stop(walk, codes::TOO_MANY_VERTICES);
+    }
+    let at = 16 * link - 8;
+    match records::vertex_at(file, at, height) {
+        Vertex::Refused(code) => stop(walk, code),
+        Vertex::At(vertex) => {
+            met[link] = true;
+            Progress {
+                code: 0,
+                met,
+                height: Height::Known(vertex.z),
+                vertex,
+                n: n + 1,
+                link: bytes::u16_at(file, at) as usize,
+            }
+        }
     }
 }
 
@@ -26,36 +87,19 @@ pub fn follow_chain(file: &[u8]) -> Chain
     requires { ⌜ lengthWrong (now file) ≡ false ⌝ }
     ensures { λ r. ⌜ r ≡ chainOf (now (file .entry)) ⌝ }
 {
-    let count = bytes::u16_at(file, 2) as usize;
-    let mut met = [false; 257];
-    let mut vertices = [GridPoint { x: 0, y: 0, z: 0 }; polygon::MAX_VERTICES];
-    let mut height = Height::Unknown;
-    let mut n = 0;
-    let mut link = bytes::u16_at(file, 0) as usize;
-    while link != 0 {
-        if count < link {
-            return stopped(codes::LINK);
+    let mut vertices = [GridPoint { x: 0, y: 0, z: 0 }; terms::MAX_VERTICES];
+    let mut walk = start(file);
+    while walk.link != 0 {
+        let n = walk.n;
+        walk = step(file, walk);
+        let code = walk.code;
+        if code != 0 {
+            return stopped(code);
         }
-        if met[link] {
-            return stopped(codes::RECORD_REPEATED);
-        }
-        if n == polygon::MAX_VERTICES {
-            return stopped(codes::TOO_MANY_VERTICES);
-        }
-        let at = 16 * link - 8;
-        match records::vertex_at(file, at, height) {
-            Vertex::Refused(code) => {
-                return stopped(code);
-            }
-            Vertex::At(p) => {
-                met[link] = true;
-                vertices[n] = p;
-                height = Height::Known(p.z);
-                n += 1;
-                link = bytes::u16_at(file, at) as usize;
-            }
-        }
+        let vertex = walk.vertex;
+        vertices[n] = vertex;
     }
+    let n = walk.n;
     Chain {
         code: 0,
         n,

@@ -37,7 +37,7 @@ fn same_polygon(p: Polygon, n: u32, numbers: &Numbers) -> bool {
         return false;
     }
     let vertices = p.vertices;
-    for i in 0..polygon::MAX_VERTICES {
+    for i in 0..terms::MAX_VERTICES {
         if !is_point(vertices[i], numbers, 2 + 3 * i) {
             return false;
         }

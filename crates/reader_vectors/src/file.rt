@@ -15,7 +15,7 @@ const ONE: u32 = 0x3f80_0000;
 
 const THREE_QUARTERS: u32 = 0x3f40_0000;
 
-// A number of so many bytes, little-endian.
+// A number of so many bytes, the lowest first.
 fn put(file: &mut Bytes, at: usize, size: u32, value: u32) {
     let mut left = size;
     let mut rest = value;
@@ -64,7 +64,7 @@ fn set_record(file: &mut Bytes, record: u32, next: u32, kind: u32, numbers: [u32
     put(file, at + 12, 4, numbers[2]);
 }
 
-// Rim file P of document 01: (0, 0, 0), (1, 0, 0), (1, 1, 0.75), (0, 1, 0), 72 bytes.
+// Rim file P of rule 6.1, 72 bytes.
 pub(crate) fn four_points(file: &mut Bytes) {
     set_header(file, 1, 4);
     set_record(file, 1, 2, 1, [ZERO, ZERO, ZERO]);

@@ -1,6 +1,6 @@
-// The reader on stored files. The cases stand on standard input, with the answers that are worked out from
-// document 01, "The rim file" and "Who causes which number". Each case is printed with the answer that
-// came: a number, or ok.
+// The reader on stored files. The cases stand on standard input, with the answers that the rules of the rim
+// file and of the numbers ask for (parts 1 and 4 of docs/SPECIFICATION.md), worked out by hand. Each case is
+// printed with the answer that came: a number, or ok.
 mod answers;
 mod cases;
 mod compare;

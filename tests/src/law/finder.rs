@@ -1,4 +1,4 @@
-//! Candidates, weights and rows of a rim, or number 12.
+//! Candidates, weights and rows of a rim (rules 2.1 to 2.13), or number 12.
 
 use super::reader::{Point, Rim};
 use crate::calls::{Row, Triangle};
@@ -82,7 +82,7 @@ fn judge(points: &[Point], corners: [usize; 4]) -> Four {
     }
 }
 
-/// The faces of the fours that count.
+/// Rule 2.4, as a set.
 fn faces(points: &[Point]) -> Result<BTreeSet<Triangle>, u32> {
     let n = points.len();
     let mut faces = BTreeSet::new();
@@ -110,13 +110,13 @@ fn cross(u: Point, v: Point) -> Point {
     [u[1] * v[2] - u[2] * v[1], u[2] * v[0] - u[0] * v[2], u[0] * v[1] - u[1] * v[0]]
 }
 
-/// The cross product of b - a and c - a.
+/// Rule 2.6.
 pub fn normal(points: &[Point], [a, b, c]: Triangle) -> Point {
     let [p, q, r] = [a, b, c].map(|k| points[k as usize]);
     cross([0, 1, 2].map(|k| q[k] - p[k]), [0, 1, 2].map(|k| r[k] - p[k]))
 }
 
-/// The whole part of the length of a normal.
+/// Rule 2.7.
 pub fn whole_length(normal: Point) -> u64 {
     let square = squared(normal) as u128;
     let root = square.isqrt();
@@ -137,7 +137,7 @@ pub fn bend_of(inner: Point, outer: Point) -> u64 {
     bend(d, whole_length(inner), whole_length(outer))
 }
 
-/// t's edge (a, c) is u's (a, b) or u's (b, c).
+/// Rule 2.9.
 pub fn hangs_on(t: Triangle, u: Triangle) -> bool {
     (t[0], t[2]) == (u[0], u[1]) || (t[0], t[2]) == (u[1], u[2])
 }

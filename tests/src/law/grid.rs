@@ -1,4 +1,4 @@
-//! The grid number of a float, from the exact value of its bits.
+//! The grid number of a float (rules 1.9 and 1.10), from the exact value of its bits.
 
 #[derive(Clone, Copy, Debug, PartialEq, Eq)]
 pub enum GridNumber {

@@ -1,6 +1,6 @@
-//! A plain reference written from document 01, with nothing of the library's method: exact values
-//! of floats, spheres by their rational centres, triangulations as sets of candidates judged by
-//! edge counts.
+//! A plain reference written from the rules of docs/SPECIFICATION.md, with nothing of the library's
+//! method: exact values of floats, spheres by their rational centres, triangulations as sets of
+//! candidates judged by edge counts.
 
 pub mod finder;
 pub mod grid;
@@ -9,12 +9,12 @@ pub mod reader;
 pub mod tests_of_jobs;
 pub mod tilings;
 
-use crate::calls::{Calls, FindAnswer, Job, PatchAnswer, ReadAnswer, Tables};
+use crate::calls::{Calls, FindAnswer, Job, PatchAnswer, Places, ReadAnswer, Tables};
 use crate::interval;
 use finder::Lists;
 use tilings::Tiling;
 
-/// The reference: what document 01 says of a call, with a choice of how the best tiling is found.
+/// The reference: what the rules say of a call, with a choice of how the best tiling is found.
 pub struct Law {
     name: &'static str,
     best: fn(&Job) -> Option<Tiling>,
@@ -26,11 +26,17 @@ pub const BY_SETS: Law = Law { name: "law by sets", best: tilings::best };
 /// For polygons too large for sets.
 pub const BY_INTERVALS: Law = Law { name: "law by intervals", best: interval::best };
 
+/// The vertices and the lists of a file, or the number due of 1 to 12 (rule 4.31).
+fn lists_of(file: &[u8]) -> Result<(usize, Lists), u32> {
+    let rim = reader::read(file)?;
+    Ok((rim.points.len(), finder::find(&rim)?))
+}
+
 fn fill<T: Copy>(table: &mut [T], list: &[T]) {
     table[..list.len()].copy_from_slice(list);
 }
 
-/// The candidate, weight and row tables have a place for each element of the lists.
+/// Rule 4.13: the candidate, weight and row tables have a place for each element of the lists.
 fn lists_fit(lists: &Lists, tables: &Tables) -> bool {
     lists.candidates.len() <= tables.candidates.view().len()
         && lists.candidates.len() <= tables.weights.view().len()
@@ -43,7 +49,8 @@ fn write_lists(lists: &Lists, tables: &mut Tables) {
     fill(tables.rows.table(), &lists.rows);
 }
 
-/// After a patch or 'none': zero in one work place per candidate, and the triangles of a patch.
+/// Rules 3.8 and 3.9, after a patch or 'none': zero in one work place per candidate, and the
+/// triangles of a patch.
 fn write_patch(best: Option<Tiling>, candidates: usize, tables: &mut Tables) -> PatchAnswer {
     tables.work.table()[..candidates].fill(0);
     match best {
@@ -61,8 +68,7 @@ impl Calls for Law {
     }
 
     fn patch_rim(&self, file: &[u8], tables: &mut Tables) -> PatchAnswer {
-        let found = reader::read(file).and_then(|rim| Ok((rim.points.len(), finder::find(&rim)?)));
-        let (n, lists) = match found {
+        let (n, lists) = match lists_of(file) {
             Err(number) => return PatchAnswer::refused(number),
             Ok(found) => found,
         };
@@ -102,14 +108,26 @@ impl Calls for Law {
 
     fn find_candidates(&self, file: &[u8], tables: &mut Tables) -> FindAnswer {
         let refused = |number| FindAnswer { number, candidates: 0, rows: 0 };
-        let lists = match reader::read(file).and_then(|rim| finder::find(&rim)) {
+        let lists = match lists_of(file) {
             Err(number) => return refused(number),
-            Ok(lists) => lists,
+            Ok((_, lists)) => lists,
         };
         if !lists_fit(&lists, tables) {
             return refused(13);
         }
         write_lists(&lists, tables);
         FindAnswer { number: 0, candidates: lists.candidates.len(), rows: lists.rows.len() }
+    }
+
+    fn sizes(&self, file: &[u8]) -> Result<Places, u32> {
+        let (n, lists) = lists_of(file)?;
+        let candidates = lists.candidates.len();
+        Ok(Places {
+            triangles: n - 2,
+            candidates,
+            weights: candidates,
+            rows: lists.rows.len(),
+            work: candidates,
+        })
     }
 }

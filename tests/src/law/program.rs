@@ -1,4 +1,4 @@
-//! What the bench program prints for a file.
+//! What the bench program prints for a file (rules 5.3 and 5.4).
 
 use super::BY_INTERVALS;
 use crate::calls::{Calls, Places, Tables};

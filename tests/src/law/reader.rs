@@ -1,4 +1,4 @@
-//! The rim file: its polygon, or the first number due of 1 to 11.
+//! The rim file (rules 1.1 to 1.8): its polygon, or the first number due of 1 to 11.
 
 use super::grid::{grid_number, GridNumber};
 
@@ -33,7 +33,8 @@ fn coordinates(bits: &[u32]) -> Result<Vec<i64>, u32> {
     at.collect()
 }
 
-/// The point of a record, with the grid height of the nearest kind 1 before it: 6, 7, 8, 9.
+/// The point of a record (rules 1.6 and 1.7), with the grid height of the last point before it: 6,
+/// 7, 8, 9.
 fn point_of(record: &[u8], height: Option<i64>) -> Result<(Point, i64), u32> {
     let bits = [u32_at(record, 4), u32_at(record, 8), u32_at(record, 12)];
     match u16_at(record, 2) {
@@ -53,7 +54,8 @@ fn point_of(record: &[u8], height: Option<i64>) -> Result<(Point, i64), u32> {
     }
 }
 
-/// The points along the chain. A link is judged when it is followed: 3, 4, 5, then the record.
+/// The points along the chain. A link is judged when it is followed (rule 4.31): 3, 4, 5, then the
+/// record.
 fn chain(file: &[u8], records: usize) -> Result<Vec<Point>, u32> {
     let mut met = Vec::new();
     let mut points = Vec::new();

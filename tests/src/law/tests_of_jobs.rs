@@ -1,4 +1,5 @@
-//! The tests of a direct job: 14, 13, 15, 16, 17, each over the whole job before the next.
+//! The tests of a direct job (rule 4.32): 14, 13, 15, 16, 17, each over the whole job before the
+//! next.
 
 use super::finder::hangs_on;
 use crate::calls::Job;

@@ -1,4 +1,4 @@
-//! Tilings as sets of candidates, judged by edge counts.
+//! Tilings as sets of candidates, judged by edge counts (rules 3.2 to 3.7).
 
 use super::finder::hangs_on;
 use crate::calls::{Job, Triangle};
@@ -52,7 +52,7 @@ impl EdgeCounts {
         (self.between[self.at(i, j)], self.outside[self.at(i, j)])
     }
 
-    /// A rim edge is in exactly one triangle; another is unused, or used once from each side.
+    /// Rule 3.3 of one edge.
     fn edge_good(&self, i: usize, j: usize) -> bool {
         let (between, outside) = self.of(i, j);
         if self.is_rim_edge(i, j) {
@@ -131,7 +131,7 @@ fn grow(
     }
 }
 
-/// The weights of the triangles, plus the row weight of each hanging pair.
+/// Rule 3.4.
 pub fn total(job: &Job, rows: &HashMap<[u32; 2], u32>, set: &[usize]) -> u64 {
     let own: u64 = set.iter().map(|&k| job.weights[k] as u64).sum();
     let mut bends = 0;

@@ -1,65 +1,68 @@
 -- `finder::fill` meets its contract. Assumes nothing.
-use mathlib.Core.Path.{_≡_, sym, _∙_}
+use mathlib.Core.Path.{_≡_, sym, _∙_, ap}
 use mathlib.Core.List.{List}
-use Prim.Native.Nat.{ℕ}
+use Prim.Native.Nat.{ℕ, _-_}
 use native.Mathlib.Omega.{arith}
 use borrow.Author.Needs.{needs}
-use borrow.Author.Tests.{le-ltb, lt-ltb}
 use lib.ListN.{length}
 use Rattle.lists.proofs.Choice.{yes, no, gt-via, ge-via}
 use Rattle.dihedrals.specs.Weights.{rowsOf}
 use Rattle.dihedrals.proofs.Rows.{row-count}
 use Rattle.finder.specs.declared.Found.the-variants.{Lists}
+use Rattle.finder.specs.declared.Places.{Places}
 use Rattle.finder.specs.Finding.{finding}
 use Rattle.finder.specs.Filling.{facesOf, fillOr13}
 use Rattle.finder.proofs.fill.Statement.{statement}
 use Rattle.finder.proofs.fill.Tie as tie
 
-count-requires : tie.Need-count-requires
-count-requires c κs = search needs
-
-count-rows-requires : tie.Need-count-rows-requires
-count-rows-requires c κs = search needs
-
-sub-if1 : tie.Need-sub-if1
-sub-if1 c = search needs
+count-places-requires : tie.Need-count-places-requires
+count-places-requires c κs = let v = c .before .pre .valid in (v .least, v .most)
 
 -- the candidates and the rows were counted
-module _ (g : tie.After-count-rows) where
+module _ (g : tie.After-count-places) where
   abbrev begin : tie.Start
-  begin = g .before .before .before
+  begin = g .before .before
 
   abbrev triangles : List (List ℕ)
   triangles = facesOf (begin .args .p) (begin .args .masks .now)
 
-  count-is : g .before .count .result ≡ length triangles
-  count-is = g .before .count .ensures
+  triangles-are : g .count-places .result .triangles ≡ begin .args .p .n - 2
+  triangles-are = ap (λ (x : Places). x .triangles) (g .count-places .ensures)
 
-  rows-are : g .count-rows .result ≡ length (rowsOf (begin .args .p) triangles)
-  rows-are = g .count-rows .ensures ∙ sym (row-count (begin .args .p) triangles)
+  count-is : g .count-places .result .candidates ≡ length triangles
+  count-is = ap (λ (x : Places). x .candidates) (g .count-places .ensures)
+
+  rows-are : g .count-places .result .rows ≡ length (rowsOf (begin .args .p) triangles)
+  rows-are = ap (λ (x : Places). x .rows) (g .count-places .ensures) ∙ sym (row-count (begin .args .p) triangles)
 
 returns : tie.Need-returns
 unfolding fillOr13
-returns c = sym (yes _ _ (lt-ltb _ _ (c .if1 .taken)))
+returns c = sym (yes _ _ (gt-via (triangles-are (c .before)) (c .if1 .taken)))
 
 returns-2 : tie.Need-returns-2
 unfolding fillOr13
-returns-2 c = sym (no _ _ (le-ltb _ _ (c .before .if1 .left)) ∙ yes _ _ (gt-via (count-is (c .before .before)) (c .if2 .taken)))
+returns-2 c = sym (no _ _ (ge-via (triangles-are (c .before .before)) (c .before .if1 .left)) ∙ yes _ _ (gt-via (count-is (c .before .before)) (c .if2 .taken)))
 
 returns-3 : tie.Need-returns-3
 unfolding fillOr13
-returns-3 c = let n = count-is (c .before .before .before) in sym (no _ _ (le-ltb _ _ (c .before .before .if1 .left)) ∙ no _ _ (ge-via n (c .before .if2 .left)) ∙ yes _ _ (gt-via n (c .if3 .taken)))
+returns-3 c =
+    let g = c .before .before .before in
+    let n = count-is g in
+    sym (no _ _ (ge-via (triangles-are g) (c .before .before .if1 .left)) ∙ no _ _ (ge-via n (c .before .if2 .left)) ∙ yes _ _ (gt-via n (c .if3 .taken)))
 
 returns-4 : tie.Need-returns-4
 unfolding fillOr13
-returns-4 c = let n = count-is (c .before .before .before .before) in sym (no _ _ (le-ltb _ _ (c .before .before .before .if1 .left)) ∙ no _ _ (ge-via n (c .before .before .if2 .left)) ∙ no _ _ (ge-via n (c .before .if3 .left)) ∙ yes _ _ (gt-via n (c .if4 .taken)))
+returns-4 c =
+    let g = c .before .before .before .before in
+    let n = count-is g in
+    sym (no _ _ (ge-via (triangles-are g) (c .before .before .before .if1 .left)) ∙ no _ _ (ge-via n (c .before .before .if2 .left)) ∙ no _ _ (ge-via n (c .before .if3 .left)) ∙ yes _ _ (gt-via n (c .if4 .taken)))
 
 returns-5 : tie.Need-returns-5
 unfolding fillOr13
 returns-5 c =
     let g = c .before .before .before .before .before in
     let n = count-is g in
-    sym (no _ _ (le-ltb _ _ (c .before .before .before .before .if1 .left)) ∙ no _ _ (ge-via n (c .before .before .before .if2 .left)) ∙ no _ _ (ge-via n (c .before .before .if3 .left)) ∙ no _ _ (ge-via n (c .before .if4 .left)) ∙ yes _ _ (gt-via (rows-are g) (c .if5 .taken)))
+    sym (no _ _ (ge-via (triangles-are g) (c .before .before .before .before .if1 .left)) ∙ no _ _ (ge-via n (c .before .before .before .if2 .left)) ∙ no _ _ (ge-via n (c .before .before .if3 .left)) ∙ no _ _ (ge-via n (c .before .if4 .left)) ∙ yes _ _ (gt-via (rows-are g) (c .if5 .taken)))
 
 write-lists-requires : tie.Need-write-lists-requires
 write-lists-requires c κs =
@@ -91,15 +94,13 @@ returns-6 c =
     let r = rows-are g in
     let w = c .before .before .before .before .write-lists .ensures in
     (λ i. finding (Lists (n i) (r i)) (w .the-candidates i) (w .the-weights i) (w .the-rows i))
-    ∙ sym (no _ _ (le-ltb _ _ (e .before .before .before .before .if1 .left)) ∙ no _ _ (ge-via n (e .before .before .before .if2 .left)) ∙ no _ _ (ge-via n (e .before .before .if3 .left)) ∙ no _ _ (ge-via n (e .before .if4 .left)) ∙ no _ _ (ge-via r (e .if5 .left)))
+    ∙ sym (no _ _ (ge-via (triangles-are g) (e .before .before .before .before .if1 .left)) ∙ no _ _ (ge-via n (e .before .before .before .if2 .left)) ∙ no _ _ (ge-via n (e .before .before .if3 .left)) ∙ no _ _ (ge-via n (e .before .if4 .left)) ∙ no _ _ (ge-via r (e .if5 .left)))
 
 pub fill-spec : {M : Type 1} → statement M
 fill-spec =
     tie.close
     (tie.spec
-    count-requires
-    count-rows-requires
-    sub-if1
+    count-places-requires
     returns
     returns-2
     returns-3

@@ -98,7 +98,7 @@ write-rows-requires c κs =
     (solid g, w .before .before .block-starts .ensures, lengths-are w, omega (arith, ap (λ (l : List (List ℕ)). length (rowsOf (polygon g) l)) (found-are g), begin g .pre .1 .for-rows))
 
 scale-lengths-requires : tie.Need-scale-lengths-requires
-scale-lengths-requires c κs = let w = c .before .before .before .before .before .before .before .before in (begin (listed w) .pre .0 .valid .area-factor, room w, lengths w)
+scale-lengths-requires c κs = let w = c .before .before .before .before .before .before .before .before in (omega (arith, begin (listed w) .pre .0 .valid .area-factor), room w, lengths w)
 
 same-length : tie.Need-same-length
 same-length c = search needs

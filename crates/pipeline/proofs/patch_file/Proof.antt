@@ -2,6 +2,7 @@
 use denote.Ref.{now}
 use Rattle.pipeline.specs.Patching.{tables}
 use Rattle.pipeline.proofs.Files.{file-refused, file-read}
+use Rattle.pipeline.proofs.Values.{file-values}
 use borrow.Author.Needs.{needs}
 use Rattle.pipeline.proofs.patch_file.Statement.{statement}
 use Rattle.pipeline.proofs.patch_file.Tie as tie
@@ -19,7 +20,11 @@ patch-polygon-requires : tie.Need-patch-polygon-requires
 patch-polygon-requires c κs = search needs
 
 returns : tie.Need-returns
-returns c = file-refused (now (c .before .before .before .before .before .before .before .before .before .args .file)) (tables (now (c .before .before .before .before .before .before .before .before .before .args .triangles)) (now (c .before .before .before .before .before .before .before .before .before .args .candidates)) (now (c .before .before .before .before .before .before .before .before .before .args .weights)) (now (c .before .before .before .before .before .before .before .before .before .args .rows)) (now (c .before .before .before .before .before .before .before .before .before .args .work))) (c .before .status .given .1) (c .before .before .before .before .read-polygon .ensures .0)
+returns c =
+    let s = c .before .before .before .before .before .before .before .before .before in
+    let t = (tables (now (s .args .triangles)) (now (s .args .candidates)) (now (s .args .weights)) (now (s .args .rows)) (now (s .args .work))) in
+    let e = file-refused (now (s .args .file)) t _ (c .before .status .given .1) (c .before .before .before .before .read-polygon .ensures .0) in
+    (e, file-values (now (s .args .file)) t e)
 
 same-length : tie.Need-same-length
 same-length c = search needs
@@ -37,7 +42,11 @@ same-length-5 : tie.Need-same-length-5
 same-length-5 c = search needs
 
 returns-2 : tie.Need-returns-2
-returns-2 c = file-read (now (c .before .before .before .before .before .before .before .before .before .before .before .before .before .before .before .before .before .before .before .before .before .before .args .file)) (tables (now (c .before .before .before .before .before .before .before .before .before .before .before .before .before .before .before .before .before .before .before .before .before .before .args .triangles)) (now (c .before .before .before .before .before .before .before .before .before .before .before .before .before .before .before .before .before .before .before .before .before .before .args .candidates)) (now (c .before .before .before .before .before .before .before .before .before .before .before .before .before .before .before .before .before .before .before .before .before .before .args .weights)) (now (c .before .before .before .before .before .before .before .before .before .before .before .before .before .before .before .before .before .before .before .before .before .before .args .rows)) (now (c .before .before .before .before .before .before .before .before .before .before .before .before .before .before .before .before .before .before .before .before .before .before .args .work))) (c .before .before .before .before .before .before .before .before .before .before .before .before .before .before .enum-told .given .1) (c .before .before .before .before .before .before .before .before .before .before .before .before .before .before .before .before .before .read-polygon .ensures .0) (c .before .before .before .before .before .before .before .before .patch-polygon .ensures)
+returns-2 c =
+    let s = c .before .before .before .before .before .before .before .before .before .before .before .before .before .before .before .before .before .before .before .before .before .before in
+    let t = (tables (now (s .args .triangles)) (now (s .args .candidates)) (now (s .args .weights)) (now (s .args .rows)) (now (s .args .work))) in
+    let e = file-read (now (s .args .file)) t (c .before .before .before .before .before .before .before .before .before .before .before .before .before .before .enum-told .given .1) (c .before .before .before .before .before .before .before .before .before .before .before .before .before .before .before .before .before .read-polygon .ensures .0) (c .before .before .before .before .before .before .before .before .patch-polygon .ensures .0) in
+    (e, file-values (now (s .args .file)) t e)
 
 pub patch-file-spec : {M : Type 1} → statement M
 patch-file-spec =

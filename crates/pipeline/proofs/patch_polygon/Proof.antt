@@ -1,7 +1,9 @@
 -- `pipeline::patch_polygon` meets its contract. Assumes nothing.
 use denote.Ref.{now}
-use Rattle.pipeline.proofs.Finds.{find-refused-via}
+use Rattle.pipeline.proofs.Finds.{find-refused}
+use Rattle.pipeline.specs.Patching.{tables}
 use Rattle.pipeline.proofs.Ready.{ready, patched-all}
+use Rattle.pipeline.proofs.Values.{polygon-values}
 use borrow.Author.Needs.{needs}
 use Rattle.pipeline.proofs.patch_polygon.Statement.{statement}
 use Rattle.pipeline.proofs.patch_polygon.Tie as tie
@@ -17,7 +19,8 @@ enum-known-found-2 c = search needs
 
 triangulate-first-requires : tie.Need-triangulate-first-requires
 triangulate-first-requires c κs =
-    let r = ready (c .before .before .before .before .before .before .before .before .before .before .before .before .before .before .before .before .before .before .before .args .p) (now (c .before .before .before .before .before .before .before .before .before .before .before .before .before .before .before .before .before .before .before .args .triangles)) (now (c .before .before .before .before .before .before .before .before .before .before .before .before .before .before .before .before .before .before .before .args .candidates)) (now (c .before .before .before .before .before .before .before .before .before .before .before .before .before .before .before .before .before .before .before .args .weights)) (now (c .before .before .before .before .before .before .before .before .before .before .before .before .before .before .before .before .before .before .before .args .rows)) (now (c .before .before .before .before .before .before .before .before .before .before .before .before .before .before .before .before .before .before .before .args .work)) (c .before .before .before .before .before .before .found2 .given .1) (c .before .before .before .before .before .before .before .before .before .before .before .before .find-beside .ensures) in
+    let s = c .before .before .before .before .before .before .before .before .before .before .before .before .before .before .before .before .before .before .before in
+    let r = ready (s .args .p) (now (s .args .triangles)) (now (s .args .candidates)) (now (s .args .weights)) (now (s .args .rows)) (now (s .args .work)) (c .before .before .before .before .before .before .found2 .given .1) (c .before .before .before .before .before .before .before .before .before .before .before .before .find-beside .ensures .0) in
     ((r .candidate-places, r .weight-places, r .row-places, r .work-places, r .triangle-places), r .formed)
 
 same-length : tie.Need-same-length
@@ -30,7 +33,10 @@ same-length-3 : tie.Need-same-length-3
 same-length-3 c = search needs
 
 returns : tie.Need-returns
-returns c = find-refused-via (c .before .before .before .before .before .before .before .before .before .before .before .before .before .before .args .p) (now (c .before .before .before .before .before .before .before .before .before .before .before .before .before .before .args .triangles)) (now (c .before .before .before .before .before .before .before .before .before .before .before .before .before .before .args .candidates)) (now (c .before .before .before .before .before .before .before .before .before .before .before .before .before .before .args .weights)) (now (c .before .before .before .before .before .before .before .before .before .before .before .before .before .before .args .rows)) (now (c .before .before .before .before .before .before .before .before .before .before .before .before .before .before .args .work)) (c .before .found .given .1) (c .before .before .before .before .before .before .before .find-beside .ensures)
+returns c =
+    let s = c .before .before .before .before .before .before .before .before .before .before .before .before .before .before in
+    let e = find-refused (s .args .p) (now (s .args .triangles)) (now (s .args .candidates)) (now (s .args .weights)) (now (s .args .rows)) (now (s .args .work)) (c .before .found .given .1) (c .before .before .before .before .before .before .before .find-beside .ensures .0) in
+    (e, polygon-values (s .args .p) (tables (now (s .args .triangles)) (now (s .args .candidates)) (now (s .args .weights)) (now (s .args .rows)) (now (s .args .work))) e)
 
 same-length-4 : tie.Need-same-length-4
 same-length-4 c = search needs
@@ -48,7 +54,10 @@ same-length-8 : tie.Need-same-length-8
 same-length-8 c = search needs
 
 returns-2 : tie.Need-returns-2
-returns-2 c = patched-all (c .before .before .before .before .before .before .before .before .before .before .before .before .before .before .before .before .before .before .before .before .before .before .before .before .args .p) (now (c .before .before .before .before .before .before .before .before .before .before .before .before .before .before .before .before .before .before .before .before .before .before .before .before .args .triangles)) (now (c .before .before .before .before .before .before .before .before .before .before .before .before .before .before .before .before .before .before .before .before .before .before .before .before .args .candidates)) (now (c .before .before .before .before .before .before .before .before .before .before .before .before .before .before .before .before .before .before .before .before .before .before .before .before .args .weights)) (now (c .before .before .before .before .before .before .before .before .before .before .before .before .before .before .before .before .before .before .before .before .before .before .before .before .args .rows)) (now (c .before .before .before .before .before .before .before .before .before .before .before .before .before .before .before .before .before .before .before .before .before .before .before .before .args .work)) (c .before .before .before .before .before .before .before .before .before .before .before .found2 .given .1) (c .before .before .before .before .before .before .before .before .before .before .before .before .before .before .before .before .before .find-beside .ensures) (c .before .before .before .before .triangulate-first .ensures)
+returns-2 c =
+    let s = c .before .before .before .before .before .before .before .before .before .before .before .before .before .before .before .before .before .before .before .before .before .before .before .before in
+    let e = patched-all (s .args .p) (now (s .args .triangles)) (now (s .args .candidates)) (now (s .args .weights)) (now (s .args .rows)) (now (s .args .work)) (c .before .before .before .before .before .before .before .before .before .before .before .found2 .given .1) (c .before .before .before .before .before .before .before .before .before .before .before .before .before .before .before .before .before .find-beside .ensures .0) (c .before .before .before .before .triangulate-first .ensures) in
+    (e, polygon-values (s .args .p) (tables (now (s .args .triangles)) (now (s .args .candidates)) (now (s .args .weights)) (now (s .args .rows)) (now (s .args .work))) e)
 
 pub patch-polygon-spec : {M : Type 1} → statement M
 patch-polygon-spec =

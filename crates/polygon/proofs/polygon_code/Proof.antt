@@ -1,7 +1,10 @@
 -- `polygon::polygon_code` meets its contract. Assumes nothing.
 use mathlib.Core.Path.{sym, _∙_}
+use Prim.Native.Nat.{_<_}
+use native.Mathlib.Omega.{arith}
 use borrow.Author.Needs.{needs}
 use borrow.Author.Tests.{lt-ltb, le-ltb, not-true, not-false}
+use Rattle.terms.specs.Limits.{maxAreaFactor}
 use Rattle.lists.proofs.Choice.{yes, no}
 use Rattle.polygon.specs.Polygon.{codeOf}
 use Rattle.polygon.proofs.polygon_code.Statement.{statement}
@@ -9,7 +12,9 @@ use Rattle.polygon.proofs.polygon_code.Tie as tie
 
 returns : tie.Need-returns
 unfolding codeOf
-returns c = sym (yes _ _ (lt-ltb _ _ (c .if1 .taken)))
+returns c =
+    let over : maxAreaFactor < c .before .before .args .p .«area_factor» = omega (arith, c .if1 .taken) in
+    sym (yes _ _ (lt-ltb _ _ over))
 
 returns-2 : tie.Need-returns-2
 unfolding codeOf

@@ -1,7 +1,8 @@
 -- `reader::bytes::length_wrong` meets its contract. Assumes nothing.
 use borrow.Author.Tests.{lt-ltb, le-ltb}
+use native.Mathlib.Omega.{arith}
 use Rattle.lists.proofs.Choice.{gt-via, ge-via}
-use Rattle.reader.specs.File.{lengthWrong}
+use Rattle.reader.specs.File.{maxRecords, lengthWrong}
 use borrow.Author.Needs.{needs}
 use Rattle.reader.proofs.bytes.length_wrong.Statement.{statement}
 use Rattle.reader.proofs.bytes.length_wrong.Tie as tie
@@ -18,7 +19,7 @@ cast-count c = search needs
 
 returns-2 : tie.Need-returns-2
 unfolding lengthWrong
-returns-2 c = simp (le-ltb _ _ (c .before .before .if1 .left), gt-via (c .before .u16-at .ensures .0) (c .if2 .taken))
+returns-2 c = simp (le-ltb _ _ (c .before .before .if1 .left), gt-via {n = maxRecords} (c .before .u16-at .ensures .0) (omega (arith, c .if2 .taken)))
 
 mul-result : tie.Need-mul-result
 mul-result c = search needs
@@ -28,7 +29,7 @@ add-result c = search needs
 
 returns-3 : tie.Need-returns-3
 unfolding lengthWrong
-returns-3 c = rw (le-ltb _ _ (c .before .before .if1 .left), ge-via (c .before .u16-at .ensures .0) (c .if2 .left), ← (c .before .u16-at .ensures .0))
+returns-3 c = rw (le-ltb _ _ (c .before .before .if1 .left), ge-via {n = maxRecords} (c .before .u16-at .ensures .0) (omega (arith, c .if2 .left)), ← (c .before .u16-at .ensures .0))
 
 pub length-wrong-spec : {M : Type 1} → statement M
 length-wrong-spec =

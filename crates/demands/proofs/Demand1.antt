@@ -1,0 +1,214 @@
+-- Demand 1 for rim files (rules 4.30 to 4.33): of the numbers due on a file and its tables one is the first, or none is due; the one call gives exactly
+-- that number and changes no table, and ends in a patch or 'none' exactly where none is due. Assumes nothing.
+use mathlib.Core.Path.{_≡_, refl, sym, ap, _∙_, subst}
+use mathlib.Core.Bool.{true}
+use mathlib.Core.List.{List}
+use mathlib.Core.Logic.{_⊎_, inl, inr}
+use Prim.Native.Nat.{ℕ, zero, suc}
+use native.Mathlib.Omega.{arith}
+use borrow.Author.Tests.{ltb-true, lt-ltb, eq-eqb}
+use lib.Dec.{ltb}
+use lib.ListN.{length}
+use Rattle.lists.specs.Lists.{upFrom}
+use Rattle.lists.proofs.Choice.{Truth, holds, fails, truth, yes, no, true-not-false, either-left, either-right}
+use Rattle.polygon.specs.declared.Polygon.{Polygon}
+use Rattle.polygon.specs.Polygon.{codeOf, Valid, emptyPolygon}
+use Rattle.polygon.proofs.Validity.{valid-code}
+use Rattle.reader.specs.declared.Status.the-variants.{Complete}
+use Rattle.reader.specs.Order.{Place, rim, Precedes, in-rim, First, NoneDue}
+use Rattle.reader.specs.Due.{DueAt}
+use Rattle.reader.specs.Reading.{firstDue, polygonOf, answer, readingOf}
+use Rattle.reader.specs.Reading as reader
+use Rattle.reader.proofs.Order.{first-unique, none-first}
+use Rattle.reader.proofs.FirstNumber.{number-first}
+use Rattle.reader.proofs.Demand1.{read-only-when, refused-empty}
+use Rattle.reader.proofs.Accepted.{read-valid}
+use Rattle.delaunay.specs.Candidates.{candidatesOf, cospherical}
+use Rattle.finder.specs.Finding.{numberDue}
+use Rattle.finder.specs.Sizes.{placesOf}
+use Rattle.triangulation.specs.Triangulations.{best}
+use Rattle.triangulator.specs.declared.Outcome.{Outcome}
+use Rattle.triangulator.specs.declared.Outcome.the-variants.{Refused}
+use Rattle.triangulator.specs.Call.{numberOf}
+use Rattle.triangulator.specs.Demands.{Taken, a-patch, a-none}
+use Rattle.triangulator.proofs.Demands.{settled-taken}
+use Rattle.pipeline.specs.Patching.{Tables, Patching, refused, rowsIn, jobIn, tablesShort, patched, patchBy, polygonNumber, fileNumber, patchFile}
+use Rattle.demands.specs.Demand2.{Cospherical}
+use Rattle.demands.specs.Demand1.{Bytes, polygonIn, TooShort, triangles, candidates, weights, rows, work, CallDue, by-reader, twelve, thirteen}
+use Rattle.demands.proofs.Demand2.{cospherical-true, true-cospherical}
+
+-- ---- 13, as a test and as a statement
+module _ (p : Polygon) (t : Tables) where
+  pub short-true : tablesShort p t ≡ true → TooShort (placesOf p) t
+  unfolding tablesShort
+  short-true e = by (truth (ltb (length (t .triangles)) (placesOf p .triangles))) (truth (ltb (length (t .work)) (length (candidatesOf p)))) (truth (ltb (length (t .candidates)) (length (candidatesOf p)))) (truth (ltb (length (t .weights)) (length (candidatesOf p))))
+    where
+      by : Truth (ltb (length (t .triangles)) (placesOf p .triangles)) → Truth (ltb (length (t .work)) (length (candidatesOf p))) → Truth (ltb (length (t .candidates)) (length (candidatesOf p))) → Truth (ltb (length (t .weights)) (length (candidatesOf p))) → TooShort (placesOf p) t
+      by (holds a) b c d = triangles (ltb-true _ _ a)
+      by (fails a) (holds b) c d = work (ltb-true _ _ b)
+      by (fails a) (fails b) (holds c) d = candidates (ltb-true _ _ c)
+      by (fails a) (fails b) (fails c) (holds d) = weights (ltb-true _ _ d)
+      by (fails a) (fails b) (fails c) (fails d) = rows (ltb-true (length (t .rows)) (length (rowsIn p)) (sym (no _ _ a ∙ no _ _ b ∙ no _ _ c ∙ no _ _ d) ∙ e))
+
+  pub true-short : TooShort (placesOf p) t → tablesShort p t ≡ true
+  unfolding tablesShort
+  true-short (triangles h) = either-left _ _ (lt-ltb _ _ h)
+  true-short (work h) = either-right (ltb (length (t .triangles)) (placesOf p .triangles)) _ (either-left _ _ (lt-ltb _ _ h))
+  true-short (candidates h) = either-right (ltb (length (t .triangles)) (placesOf p .triangles)) _ (either-right (ltb (length (t .work)) (length (candidatesOf p))) _ (either-left _ _ (lt-ltb _ _ h)))
+  true-short (weights h) = either-right (ltb (length (t .triangles)) (placesOf p .triangles)) _ (either-right (ltb (length (t .work)) (length (candidatesOf p))) _ (either-right (ltb (length (t .candidates)) (length (candidatesOf p))) _ (either-left _ _ (lt-ltb _ _ h))))
+  true-short (rows h) = either-right (ltb (length (t .triangles)) (placesOf p .triangles)) _ (either-right (ltb (length (t .work)) (length (candidatesOf p))) _ (either-right (ltb (length (t .candidates)) (length (candidatesOf p))) _ (either-right (ltb (length (t .weights)) (length (candidatesOf p))) _ (lt-ltb _ _ h))))
+
+-- nothing is asked of the polygon that stands for a file which the reader refuses
+nothing-12 : Cospherical emptyPolygon → ⊥
+nothing-12 r = omega (arith, r .fifth<n)
+
+nothing-13 : {t : Tables} → TooShort (placesOf emptyPolygon) t → ⊥
+unfolding upFrom
+nothing-13 (triangles h) = omega arith
+nothing-13 (candidates h) = omega arith
+nothing-13 (weights h) = omega arith
+nothing-13 (rows h) = omega arith
+nothing-13 (work h) = omega arith
+
+module _ (file : List ℕ) (bytes : Bytes file) (t : Tables) where
+  -- what the call does: one of the two
+  data Verdict : Type 0 where
+    first-due : (k : ℕ) → First (CallDue file t) (suc k) → fileNumber file t ≡ suc k → Verdict
+    none-due : NoneDue (CallDue file t) → fileNumber file t ≡ 0 → Verdict
+
+  -- ---- the reader's numbers come first
+  reader-first : (k : ℕ) → First (DueAt file) (suc k) → First (CallDue file t) (suc k)
+  reader-first k f = record { place = f .place; is-due = by-reader (f .is-due); none-before = before }
+    where
+      empty : polygonIn file ≡ emptyPolygon
+      empty = refused-empty file (suc k) f
+
+      before : (p : Place) (j : ℕ) → Precedes p j (f .place) (suc k) → CallDue file t p j → ⊥
+      before p j h (by-reader d) = f .none-before p j h d
+      before p j h (twelve d) = nothing-12 (subst (λ (x : Polygon). Cospherical x) empty d)
+      before p j h (thirteen d) = nothing-13 (subst (λ (x : Polygon). TooShort (placesOf x) t) empty d)
+
+  -- ---- a file that is read
+  module _ (e : reader.numberDue file ≡ 0) where
+    complete : readingOf file .status ≡ Complete
+    complete = ap (λ (k : ℕ). answer k (polygonOf file) .status) e
+
+    polygon-is : polygonIn file ≡ polygonOf file
+    polygon-is = ap (λ (k : ℕ). answer k (polygonOf file) .polygon) e
+
+    no-reader : (p : Place) (k : ℕ) → DueAt file p k → ⊥
+    no-reader p k d = read-only-when file complete .none p k d
+
+    valid : Valid (polygonIn file)
+    valid = read-valid file complete bytes
+
+    number-is : fileNumber file t ≡ polygonNumber (polygonIn file) t
+    number-is = ap (λ (k : ℕ). firstDue k (polygonNumber (polygonOf file) t)) e ∙ ap (λ (p : Polygon). polygonNumber p t) (sym polygon-is)
+
+    no-code : Truth (cospherical (polygonIn file)) → Truth (tablesShort (polygonIn file) t) → Verdict
+    unfolding numberDue
+    no-code (holds a) b =
+        first-due 11 (record { place = rim; is-due = twelve (cospherical-true (polygonIn file) a); none-before = before })
+        (number-is ∙ yes _ _ (eq-eqb (codeOf (polygonIn file)) 0 (valid-code (polygonIn file) valid)) ∙ yes _ _ a)
+      where
+        before : (p : Place) (j : ℕ) → Precedes p j rim 12 → CallDue file t p j → ⊥
+        before p j h (by-reader d) = no-reader p j d
+        before _ _ (in-rim l) (twelve d) = omega arith
+        before _ _ (in-rim l) (thirteen d) = omega arith
+    no-code (fails a) (holds b) =
+        first-due 12 (record { place = rim; is-due = thirteen (short-true (polygonIn file) t b); none-before = before })
+        (number-is ∙ yes _ _ (eq-eqb (codeOf (polygonIn file)) 0 (valid-code (polygonIn file) valid)) ∙ no _ _ a ∙ yes _ _ b)
+      where
+        before : (p : Place) (j : ℕ) → Precedes p j rim 13 → CallDue file t p j → ⊥
+        before p j h (by-reader d) = no-reader p j d
+        before p j h (twelve d) = true-not-false (true-cospherical (polygonIn file) d) a
+        before _ _ (in-rim l) (thirteen d) = omega arith
+    no-code (fails a) (fails b) =
+        none-due (record { none = nothing })
+        (number-is ∙ yes _ _ (eq-eqb (codeOf (polygonIn file)) 0 (valid-code (polygonIn file) valid)) ∙ no _ _ a ∙ no _ _ b)
+      where
+        nothing : (p : Place) (k : ℕ) → CallDue file t p k → ⊥
+        nothing p k (by-reader d) = no-reader p k d
+        nothing p k (twelve d) = true-not-false (true-cospherical (polygonIn file) d) a
+        nothing p k (thirteen d) = true-not-false (true-short (polygonIn file) t d) b
+
+  verdict : Verdict
+  verdict = by (reader.numberDue file) refl
+    where
+      by : (k : ℕ) → reader.numberDue file ≡ k → Verdict
+      by zero e = no-code e (truth (cospherical (polygonIn file))) (truth (tablesShort (polygonIn file) t))
+      by (suc k) e = first-due k (reader-first k (number-first file k e)) (ap (λ (j : ℕ). firstDue j (polygonNumber (polygonOf file) t)) e)
+
+  -- ---- the call
+  refused-by : (k : ℕ) → fileNumber file t ≡ suc k → patchFile file t ≡ refused (suc k) t
+  unfolding patchFile
+  refused-by k e = ap (λ (n : ℕ). patchBy n (polygonOf file) t) e
+
+  accepted-by : fileNumber file t ≡ 0 → patchFile file t ≡ patched (polygonOf file) t
+  unfolding patchFile
+  accepted-by e = ap (λ (n : ℕ). patchBy n (polygonOf file) t) e
+
+  never-refused : {o : Outcome} {k : ℕ} → o ≡ Refused k → Taken o → ⊥
+  never-refused e a-patch = let z : _≡_ {A = ℕ} 0 1 = cc in omega arith
+  never-refused e a-none = let z : _≡_ {A = ℕ} 0 1 = cc in omega arith
+
+  taken : fileNumber file t ≡ 0 → Taken (patchFile file t .outcome)
+  taken e =
+      subst (λ (x : Patching). Taken (x .outcome)) (sym (accepted-by e))
+      (settled-taken (best (jobIn (polygonOf file))) (length (candidatesOf (polygonOf file))) (t .triangles) (t .work))
+
+  -- one number is the first that is due, or none is due; `first-unique` of the reader says that it is one only
+  pub first-or-none : ((k : ℕ) × First (CallDue file t) k) ⊎ NoneDue (CallDue file t)
+  first-or-none = by verdict
+    where
+      by : Verdict → ((k : ℕ) × First (CallDue file t) k) ⊎ NoneDue (CallDue file t)
+      by (first-due k f e) = inl (suc k, f)
+      by (none-due n e) = inr n
+
+  -- the first number due is given, and every lent table holds what it held
+  pub refused-first : (k : ℕ) → First (CallDue file t) k → patchFile file t ≡ refused k t
+  refused-first k f = by verdict
+    where
+      by : Verdict → patchFile file t ≡ refused k t
+      by (first-due j g e) = refused-by j e ∙ ap (λ (n : ℕ). refused n t) (first-unique g f)
+      by (none-due n e) = absurd (none-first n f)
+
+  -- and a number that is given is the first that is due
+  pub given-first : (k : ℕ) → numberOf (patchFile file t .outcome) ≡ suc k → First (CallDue file t) (suc k)
+  given-first k h = by verdict
+    where
+      by : Verdict → First (CallDue file t) (suc k)
+      by (first-due j g e) = subst (λ (n : ℕ). First (CallDue file t) n) (sym (ap (λ (x : Patching). numberOf (x .outcome)) (refused-by j e)) ∙ h) g
+      by (none-due n e) = absurd (untaken (taken e) h)
+        where
+          untaken : {o : Outcome} → Taken o → numberOf o ≡ suc k → ⊥
+          untaken a-patch q = omega (arith, q)
+          untaken a-none q = omega (arith, q)
+
+  -- the call ends in a patch or 'none' exactly when no number is due
+  pub taken-when : NoneDue (CallDue file t) → Taken (patchFile file t .outcome)
+  taken-when n = by verdict
+    where
+      by : Verdict → Taken (patchFile file t .outcome)
+      by (first-due k f e) = absurd (none-first n f)
+      by (none-due m e) = taken e
+
+  pub taken-only-when : Taken (patchFile file t .outcome) → NoneDue (CallDue file t)
+  taken-only-when h = by verdict
+    where
+      by : Verdict → NoneDue (CallDue file t)
+      by (first-due k f e) = absurd (never-refused (ap (λ (x : Patching). x .outcome) (refused-by k e)) h)
+      by (none-due n e) = n
+
+  -- what an accepted call is, for demands 2 and 3
+  pub record Accepted : Type 0 where
+    pub polygon-valid : Valid (polygonIn file)
+    pub call-is : patchFile file t ≡ patched (polygonIn file) t
+
+  pub accepted : NoneDue (CallDue file t) → Accepted
+  accepted n = by (reader.numberDue file) refl verdict
+    where
+      by : (k : ℕ) → reader.numberDue file ≡ k → Verdict → Accepted
+      by k e (first-due j f g) = absurd (none-first n f)
+      by zero e (none-due m g) = record { polygon-valid = valid e; call-is = accepted-by g ∙ ap (λ (p : Polygon). patched p t) (sym (polygon-is e)) }
+      by (suc k) e (none-due m g) = absurd (none-first n (reader-first k (number-first file k e)))

@@ -1,0 +1,7 @@
+pub mod Demand2
+pub mod Tables
+pub mod Demand1
+pub mod Demands
+pub mod Sizes
+pub mod Starred
+pub mod Cases

@@ -1,0 +1,80 @@
+-- The worked cases of rules 6.1 to 6.5 in one list: what the definitions give, and what it should be. Definitions only.
+use mathlib.Core.List.{List, [], _∷_, map}
+use Prim.Native.Nat.{ℕ}
+use lib.IntN.{pos, negsuc}
+use lib.ListN.{replicate}
+use Rattle.terms.specs.Entries.{triple}
+use Rattle.geometry.specs.declared.Vector.{Vector}
+use Rattle.geometry.specs.Faces.{bendOf, bendBetween}
+use Rattle.reader.specs.Reading.{polygonOf}
+use Rattle.triangulation.specs.Triangulations.{Job, triangulations, totalWeight}
+use Rattle.triangulator.specs.declared.Outcome.the-variants.{Patch, None, Refused}
+use Rattle.triangulator.specs.Call.{Result, result}
+use Rattle.triangulator.specs.Cases.{lists, answered, single, ties}
+use Rattle.pipeline.specs.Patching.{Tables, tables, Patching, patching, jobIn, patchFile}
+
+-- what a case computes: what the one call, or the call for a direct job, answers and leaves; tilings; a bend
+pub data Value : Type 0 where
+  of-file : Patching → Value
+  of-job : Result → Value
+  of-tilings : List (List ℕ) → Value
+  of-bend : ℕ → Value
+
+pub record Case : Type 0 where
+  pub computed : Value
+  pub expected : Value
+
+abbrev pub case : Value → Value → Case
+case computed expected = record { computed = computed; expected = expected }
+
+-- the bytes of rim file P (rule 6.1)
+abbrev pub fileP : List ℕ
+fileP =
+    1 ∷ 0 ∷ 4 ∷ 0 ∷ 1 ∷ 0 ∷ 1 ∷ 0
+    ∷ 2 ∷ 0 ∷ 1 ∷ 0 ∷ 0 ∷ 0 ∷ 0 ∷ 0 ∷ 0 ∷ 0 ∷ 0 ∷ 0 ∷ 0 ∷ 0 ∷ 0 ∷ 0
+    ∷ 3 ∷ 0 ∷ 1 ∷ 0 ∷ 0 ∷ 0 ∷ 128 ∷ 63 ∷ 0 ∷ 0 ∷ 0 ∷ 0 ∷ 0 ∷ 0 ∷ 0 ∷ 0
+    ∷ 4 ∷ 0 ∷ 1 ∷ 0 ∷ 0 ∷ 0 ∷ 128 ∷ 63 ∷ 0 ∷ 0 ∷ 128 ∷ 63 ∷ 0 ∷ 0 ∷ 64 ∷ 63
+    ∷ 0 ∷ 0 ∷ 1 ∷ 0 ∷ 0 ∷ 0 ∷ 0 ∷ 0 ∷ 0 ∷ 0 ∷ 128 ∷ 63 ∷ 0 ∷ 0 ∷ 0 ∷ 0 ∷ []
+
+-- tables with one place more than P needs, 9 in each
+abbrev pub lentP : Tables
+lentP = tables (replicate 3 9) (replicate 5 (triple 9 9 9)) (replicate 5 9) (replicate 3 (triple 9 9 9)) (replicate 5 9)
+
+-- all tilings of a job, each after its total
+abbrev pub withTotals : Job → List (List ℕ)
+withTotals job = map (λ s. totalWeight job s ∷ s) (triangulations job)
+
+abbrev pub upward : Vector
+upward = record { x = pos 0; y = pos 0; z = pos 64 }
+
+abbrev pub downward : Vector
+downward = record { x = pos 0; y = pos 0; z = negsuc 63 }
+
+abbrev pub sideward : Vector
+sideward = record { x = pos 48; y = pos 0; z = pos 0 }
+
+abbrev pub starred : List Case
+starred =
+    -- rule 6.1: P from its bytes through the one call; and its tilings, which are two
+    case (of-file (patchFile fileP lentP))
+    (of-file (patching (Patch 2 469) (tables (1 ∷ 3 ∷ 9 ∷ [])
+    (triple 0 1 2 ∷ triple 0 1 3 ∷ triple 0 2 3 ∷ triple 1 2 3 ∷ triple 9 9 9 ∷ [])
+    (80 ∷ 64 ∷ 80 ∷ 93 ∷ 9 ∷ [])
+    (triple 1 3 312 ∷ triple 2 0 360 ∷ triple 9 9 9 ∷ [])
+    (0 ∷ 0 ∷ 0 ∷ 0 ∷ 9 ∷ []))))
+    ∷ case (of-tilings (withTotals (jobIn (polygonOf fileP)))) (of-tilings ((520 ∷ 0 ∷ 2 ∷ []) ∷ (469 ∷ 1 ∷ 3 ∷ []) ∷ []))
+    -- rule 6.2: a candidate of weight 5; no candidate
+    ∷ case (of-job (answered single)) (of-job (result (Patch 1 5) (0 ∷ 9 ∷ []) (0 ∷ 9 ∷ [])))
+    ∷ case (of-job (answered (lists 3 [] [] []))) (of-job (result None (9 ∷ 9 ∷ []) (9 ∷ [])))
+    -- rule 6.3: four candidates of weight 1 without rows, with a row, with the row of a pair that does not hang
+    ∷ case (of-job (answered (ties []))) (of-job (result (Patch 2 2) (1 ∷ 3 ∷ 9 ∷ []) (0 ∷ 0 ∷ 0 ∷ 0 ∷ 9 ∷ [])))
+    ∷ case (of-job (answered (ties (triple 1 3 1 ∷ [])))) (of-job (result (Patch 2 2) (2 ∷ 0 ∷ 9 ∷ []) (0 ∷ 0 ∷ 0 ∷ 0 ∷ 9 ∷ [])))
+    ∷ case (of-job (answered (ties (triple 1 0 1 ∷ [])))) (of-job (result (Refused 16) (9 ∷ 9 ∷ 9 ∷ []) (9 ∷ 9 ∷ 9 ∷ 9 ∷ 9 ∷ [])))
+    -- rule 6.4: two candidates that leave a hole
+    ∷ case (of-job (answered (lists 5 (triple 0 1 2 ∷ triple 0 2 4 ∷ []) (1 ∷ 1 ∷ []) []))) (of-job (result None (9 ∷ 9 ∷ 9 ∷ 9 ∷ []) (0 ∷ 0 ∷ 9 ∷ [])))
+    -- rule 6.5: equal, perpendicular and opposite normals; a dot product of -1
+    ∷ case (of-bend (bendBetween upward upward)) (of-bend 0)
+    ∷ case (of-bend (bendBetween upward sideward)) (of-bend 1000)
+    ∷ case (of-bend (bendBetween upward downward)) (of-bend 2000)
+    ∷ case (of-bend (bendOf (negsuc 0) 100 100)) (of-bend 1001)
+    ∷ []

@@ -1,0 +1,117 @@
+-- The loop over the steps of the walk: what is left of the chain gives the same number and the same end. Assumes nothing.
+use mathlib.Core.Path.{_≡_, refl, sym, ap, _∙_}
+use mathlib.Core.Bool.{Bool, true, false, cond}
+use mathlib.Core.List.{List, [], _∷_, _++_}
+use Prim.Native.Nat.{ℕ, zero, suc, _+_, _-_, _<_}
+use native.Mathlib.Numerals.{add-one}
+use native.Mathlib.Omega.{arith}
+use borrow.Author.Tests.{eq-eqb, ne-eqb, leb-true, leb-false}
+use lib.ListN.{length, set, replicate}
+use lib.Dec.{leb, eqb}
+use Rattle.lists.specs.Lists.{upFrom, over, filled}
+use Rattle.lists.proofs.Choice.{yes, no}
+use Rattle.lists.proofs.Ranges.{over-last, over-length}
+use Rattle.lists.proofs.Writing.{filled-next}
+use Rattle.terms.specs.Limits.{maxVertices}
+use Rattle.polygon.specs.Polygon.{origin}
+use Rattle.grid.specs.declared.GridPoint.{GridPoint}
+use Rattle.reader.specs.Chain.{link, vertexAt, pointOf, positionCode, codeFrom, endFrom, chainCode, vertexCount, verticesOf}
+use Rattle.reader.specs.Steps.{Walking, Stepped, stoppedAt, walked, chainOf}
+use Rattle.reader.specs.declared.Progress.{Progress}
+use Rattle.reader.specs.declared.Vertex.{Vertex}
+use Rattle.reader.proofs.Answers.{code-step, end-step, past-limit}
+
+-- the vertices before the walk are listed, and what is left of the chain has its number and its end
+pub record Following (s : List ℕ) (vertices : List GridPoint) (w : Progress) : Type 0 where
+  pub walking : Walking s w
+  pub listed : vertices ≡ verticesOf s (w .n)
+  pub code-left : codeFrom s (w .n) (suc maxVertices - w .n) ≡ chainCode s
+  pub end-left : endFrom s (w .n) (suc maxVertices - w .n) ≡ vertexCount s
+
+pub following-start : {s : List ℕ} {w : Progress} → Walking s w → w .n ≡ 0 → Following s (replicate maxVertices origin) w
+unfolding upFrom
+following-start {s} {w} v e = record {
+  walking = v;
+  listed = sym (ap (λ (n : ℕ). verticesOf s n) e);
+  code-left = ap (λ (n : ℕ). codeFrom s n (suc maxVertices - n)) e;
+  end-left = ap (λ (n : ℕ). endFrom s n (suc maxVertices - n)) e;
+}
+
+module _ {s : List ℕ} {vertices : List GridPoint} {w : Progress} (f : Following s vertices w) where
+  -- one position, taken from what is left
+  code-here : codeFrom s (w .n) (suc maxVertices - w .n) ≡
+      cond (eqb (link s (w .n)) 0) 0 (cond (eqb (positionCode s (w .n)) 0) (codeFrom s (suc (w .n)) (maxVertices - w .n)) (positionCode s (w .n)))
+  code-here =
+      let e : suc maxVertices - w .n ≡ suc (maxVertices - w .n) = omega (arith, f .walking .within) in
+      ap (λ (k : ℕ). codeFrom s (w .n) k) e ∙ code-step s (w .n) (maxVertices - w .n)
+
+  end-here : endFrom s (w .n) (suc maxVertices - w .n) ≡ cond (eqb (link s (w .n)) 0) (w .n) (endFrom s (suc (w .n)) (maxVertices - w .n))
+  end-here =
+      let e : suc maxVertices - w .n ≡ suc (maxVertices - w .n) = omega (arith, f .walking .within) in
+      ap (λ (k : ℕ). endFrom s (w .n) k) e ∙ end-step s (w .n) (maxVertices - w .n)
+
+  -- the chain ends here
+  pub following-end : w .link ≡ 0 → record { code = 0; n = w .n; vertices = vertices } ≡ chainOf s
+  following-end z =
+      let e : eqb (link s (w .n)) 0 ≡ true = eq-eqb (link s (w .n)) 0 (sym (f .walking .here) ∙ z) in
+      let c : chainCode s ≡ 0 = sym (f .code-left) ∙ code-here ∙ yes 0 _ e in
+      let v : vertexCount s ≡ w .n = sym (f .end-left) ∙ end-here ∙ yes (w .n) _ e in
+      ap (λ (l : List GridPoint). record { code = 0; n = w .n; vertices = l }) (f .listed)
+      ∙ sym (ap (λ (k : ℕ). walked k (vertexCount s) s) c ∙ ap (λ (m : ℕ). walked 0 m s) v)
+
+  module _ (nonzero : w .link ≡ 0 → ⊥) {r : Progress} (step : Stepped s w r) where
+    not-ended : eqb (link s (w .n)) 0 ≡ false
+    not-ended = ne-eqb (link s (w .n)) 0 (λ e. nonzero (f .walking .here ∙ e))
+
+    -- a number stops the walk
+    pub following-stopped : (r .code ≡ 0 → ⊥) → stoppedAt (r .code) ≡ chainOf s
+    following-stopped some = by (r .code) refl
+      where
+        by : (k : ℕ) → r .code ≡ k → stoppedAt (r .code) ≡ chainOf s
+        by zero e = absurd (some e)
+        by (suc k) e =
+            let d : eqb (positionCode s (w .n)) 0 ≡ false = ne-eqb (positionCode s (w .n)) 0 (λ z. some (step .number ∙ z)) in
+            let c : chainCode s ≡ suc k = sym (f .code-left) ∙ code-here ∙ no 0 _ not-ended ∙ no _ _ d ∙ sym (step .number) ∙ e in
+            ap stoppedAt e ∙ sym (ap (λ (k : ℕ). walked k (vertexCount s) s) c)
+
+    -- the walk goes on
+    module _ (none : r .code ≡ 0) where
+      here-none : positionCode s (w .n) ≡ 0
+      here-none = sym (step .number) ∙ none
+
+      pub room : w .n < maxVertices
+      room = by (leb maxVertices (w .n)) refl
+        where
+          by : (b : Bool) → leb maxVertices (w .n) ≡ b → w .n < maxVertices
+          by true e = absurd (past-limit s (w .n) (leb-true maxVertices (w .n) e) here-none)
+          by false e = leb-false maxVertices (w .n) e
+
+      points : ℕ → List GridPoint
+      points i = pointOf (vertexAt s i) ∷ []
+
+      listed-next : set vertices (w .n) (r .vertex) ≡ verticesOf s (w .n + 1)
+      unfolding points
+      listed-next =
+          let counted : w .n ≡ length (over 0 (w .n) points) = omega (arith, over-length 0 (w .n) (λ i. pointOf (vertexAt s i))) in
+          ap (λ (l : List GridPoint). set l (w .n) (r .vertex)) (f .listed)
+          ∙ filled-next (over 0 (w .n) points) (replicate maxVertices origin) (r .vertex) (w .n) counted room
+          ∙ ap (λ (l : List GridPoint). filled l (replicate maxVertices origin))
+          (ap (λ (q : Vertex). over 0 (w .n) points ++ (pointOf q ∷ [])) (sym (step .vertex-is none)) ∙ sym (over-last 0 (w .n) points (omega arith)))
+
+      pub following-next : Following s (set vertices (w .n) (r .vertex)) r
+      following-next =
+          let n = step .next none in
+          let left : suc maxVertices - r .n ≡ maxVertices - w .n = omega arith in
+          let at : r .n ≡ suc (w .n) = n ∙ add-one (w .n) in
+          record {
+            walking = step .walking none;
+            listed = listed-next ∙ ap (λ (m : ℕ). verticesOf s m) (sym n);
+            code-left =
+                ap (λ (i : ℕ). codeFrom s i (suc maxVertices - r .n)) at ∙ ap (λ (k : ℕ). codeFrom s (suc (w .n)) k) left
+                ∙ sym (code-here ∙ no 0 _ not-ended ∙ yes _ _ (eq-eqb (positionCode s (w .n)) 0 here-none))
+                ∙ f .code-left;
+            end-left =
+                ap (λ (i : ℕ). endFrom s i (suc maxVertices - r .n)) at ∙ ap (λ (k : ℕ). endFrom s (suc (w .n)) k) left
+                ∙ sym (end-here ∙ no (w .n) _ not-ended)
+                ∙ f .end-left;
+          }

@@ -1,0 +1,50 @@
+-- The order of numbers at their places: of two one comes first, so there is at most one first number. Assumes nothing.
+use mathlib.Core.Path.{_≡_, refl}
+use mathlib.Core.Bool.{Bool, true, false}
+use Prim.Native.Nat.{ℕ, _<_}
+use native.Mathlib.Omega.{arith}
+use borrow.Author.Tests.{ltb-true, ltb-false}
+use lib.Dec.{ltb}
+use Rattle.reader.specs.Order.{Place, header, position, rim, Precedes, in-header, header-position, header-rim, earlier-position, in-position, position-rim, in-rim, First, NoneDue}
+
+-- of two numbers one comes first, or they are one number
+data Ordered (p : Place) (j : ℕ) (q : Place) (k : ℕ) : Type 0 where
+  earlier : Precedes p j q k → Ordered p j q k
+  later : Precedes q k p j → Ordered p j q k
+  same : j ≡ k → Ordered p j q k
+
+-- a case for each way in which two numbers can stand
+apart : {C : Type 0} (j k : ℕ) → (j < k → C) → (k < j → C) → (j ≡ k → C) → C
+apart {C} j k below above equal = by (ltb j k) (ltb k j) refl refl
+  where
+    by : (a b : Bool) → ltb j k ≡ a → ltb k j ≡ b → C
+    by true b p q = below (ltb-true j k p)
+    by false true p q = above (ltb-true k j q)
+    by false false p q = equal (omega (arith, ltb-false j k p, ltb-false k j q))
+
+ordered : (p : Place) (j : ℕ) (q : Place) (k : ℕ) → Ordered p j q k
+ordered header j header k = apart j k (λ l. earlier (in-header l)) (λ l. later (in-header l)) same
+ordered header j (position i) k = earlier header-position
+ordered header j rim k = earlier header-rim
+ordered (position h) j header k = later header-position
+ordered (position h) j (position i) k =
+    apart h i (λ l. earlier (earlier-position l)) (λ l. later (earlier-position l))
+    (λ e. apart j k (λ l. earlier (rw e (in-position l))) (λ l. later (rw e (in-position l))) same)
+ordered (position h) j rim k = earlier position-rim
+ordered rim j header k = later header-rim
+ordered rim j (position i) k = later position-rim
+ordered rim j rim k = apart j k (λ l. earlier (in-rim l)) (λ l. later (in-rim l)) same
+
+module _ {due : Place → ℕ → Type 0} where
+  -- at most one number is the first
+  pub first-unique : {j k : ℕ} → First due j → First due k → j ≡ k
+  first-unique {j} {k} a b = by (ordered (a .place) j (b .place) k)
+    where
+      by : Ordered (a .place) j (b .place) k → j ≡ k
+      by (earlier h) = absurd (b .none-before (a .place) j h (a .is-due))
+      by (later h) = absurd (a .none-before (b .place) k h (b .is-due))
+      by (same e) = e
+
+  -- where no number is due, none is the first
+  pub none-first : {k : ℕ} → NoneDue due → First due k → ⊥
+  none-first {k} n f = n .none (f .place) k (f .is-due)

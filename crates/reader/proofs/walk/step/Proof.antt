@@ -1,0 +1,132 @@
+-- `reader::walk::step` meets its contract. Assumes nothing.
+use borrow.Author.Needs.{needs}
+use native.Mathlib.Omega.{arith}
+use mathlib.Core.Path.{refl, sym, _∙_}
+use Rattle.reader.proofs.Lengths.{whole}
+use Rattle.reader.proofs.Walking.{positive, below-limit, stopped-by, link-due, repeated-due, too-many-due, record-stops, record-passes}
+use Rattle.reader.proofs.walk.step.Statement.{statement}
+use Rattle.reader.proofs.walk.step.Tie as tie
+
+u16-at-requires : tie.Need-u16-at-requires
+u16-at-requires c κs = let w = whole _ (c .before .before .pre .0) in omega (arith, w .header)
+
+cast-count : tie.Need-cast-count
+cast-count c = search needs
+
+stop-requires : tie.Need-stop-requires
+stop-requires c κs = search needs
+
+returns : tie.Need-returns
+returns c =
+    let s = c .before .before .before .before .before in
+    stopped-by (s .pre .1) 3 (omega arith) (link-due (s .pre .1) (omega (arith, c .before .before .u16-at .ensures .0, c .before .if1 .taken))) (c .stop .ensures)
+
+array-read-if2 : tie.Need-array-read-if2
+array-read-if2 c = let w = whole _ (c .before .before .before .before .pre .0) in omega (arith, w .few, c .before .u16-at .ensures .0, c .if1 .left)
+
+stop-requires-2 : tie.Need-stop-requires-2
+stop-requires-2 c κs = search needs
+
+returns-2 : tie.Need-returns-2
+returns-2 c =
+    let past = c .before .before in
+    let s = past .before .before .before .before in
+    stopped-by (s .pre .1) 4 (omega arith)
+    (repeated-due (s .pre .1) (omega (arith, past .before .u16-at .ensures .0, past .if1 .left)) (whole _ (s .pre .0) .few) (c .before .if2 .taken))
+    (c .stop2 .ensures)
+
+stop-requires-3 : tie.Need-stop-requires-3
+stop-requires-3 c κs = search needs
+
+returns-3 : tie.Need-returns-3
+returns-3 c =
+    let past = c .before .before .before in
+    let s = past .before .before .before .before in
+    stopped-by (s .pre .1) 5 (omega arith)
+    (too-many-due (s .pre .1) (omega (arith, past .before .u16-at .ensures .0, past .if1 .left)) (whole _ (s .pre .0) .few) (c .before .before .if2 .left) (c .before .if3 .taken))
+    (c .stop3 .ensures)
+
+mul-at : tie.Need-mul-at
+mul-at c = search needs
+
+sub-at : tie.Need-sub-at
+sub-at c = search needs
+
+vertex-at-requires : tie.Need-vertex-at-requires
+vertex-at-requires c κs =
+    let past = c .before .before in
+    let s = past .before .before .before .before in
+    let w = whole _ (s .pre .0) in
+    let p = positive _ (s .pre .2) in
+    (omega (arith, w .records, past .before .u16-at .ensures .0, past .if1 .left), s .pre .1 .on-grid)
+
+enum-known-code : tie.Need-enum-known-code
+enum-known-code c = search needs
+
+stop-requires-4 : tie.Need-stop-requires-4
+stop-requires-4 c κs = search needs
+
+enum-known-vertex : tie.Need-enum-known-vertex
+enum-known-vertex c = search needs
+
+array-write-met : tie.Need-array-write-met
+array-write-met c =
+    let past = c .before .before .before .before .before .before in
+    let w = whole _ (past .before .before .before .before .pre .0) in
+    omega (arith, w .few, past .before .u16-at .ensures .0, past .if1 .left)
+
+add-t23 : tie.Need-add-t23
+add-t23 c = search needs
+
+u16-at-requires-2 : tie.Need-u16-at-requires-2
+u16-at-requires-2 c κs =
+    let past = c .before .before .before .before .before .before .before in
+    let s = past .before .before .before .before in
+    let w = whole _ (s .pre .0) in
+    let p = positive _ (s .pre .2) in
+    omega (arith, w .records, past .before .u16-at .ensures .0, past .if1 .left)
+
+cast-t25 : tie.Need-cast-t25
+cast-t25 c = search needs
+
+returns-4 : tie.Need-returns-4
+returns-4 c =
+    let read = c .before .before .before .before in
+    let past = read .before .before .before in
+    let s = past .before .before .before .before in
+    record-stops (s .pre .1) (omega (arith, past .before .u16-at .ensures .0, past .if1 .left)) (whole _ (s .pre .0) .few) (read .before .before .if2 .left)
+    (below-limit (s .pre .1 .within) (read .before .if3 .left)) (s .pre .2) _ refl _ (sym (read .vertex-at .ensures) ∙ c .before .before .code .given .1) (c .stop4 .ensures)
+
+returns-5 : tie.Need-returns-5
+returns-5 c =
+    let read = c .before .before .before .before .before in
+    let past = read .before .before .before in
+    let s = past .before .before .before .before in
+    record-passes (s .pre .1) (omega (arith, past .before .u16-at .ensures .0, past .if1 .left)) (whole _ (s .pre .0) .few) (read .before .before .if2 .left)
+    (below-limit (s .pre .1 .within) (read .before .if3 .left)) (s .pre .2) _ refl _ _ (sym (read .vertex-at .ensures) ∙ c .before .before .before .vertex .given .1) (c .u16-at2 .ensures .0)
+
+pub step-spec : {M : Type 1} → statement M
+step-spec =
+    tie.close
+    (tie.spec
+    u16-at-requires
+    cast-count
+    stop-requires
+    returns
+    array-read-if2
+    stop-requires-2
+    returns-2
+    stop-requires-3
+    returns-3
+    mul-at
+    sub-at
+    vertex-at-requires
+    enum-known-code
+    stop-requires-4
+    enum-known-vertex
+    array-write-met
+    add-t23
+    u16-at-requires-2
+    cast-t25
+    returns-4
+    returns-5)

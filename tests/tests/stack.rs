@@ -1,0 +1,38 @@
+//! Every call on a stack of 64 KiB, as patch_box.h promises.
+
+#![cfg(feature = "library")]
+
+use outside_tests::calls::{Places, Tables};
+use outside_tests::jobs::random_job;
+use outside_tests::library::under_test;
+use outside_tests::random::Random;
+use outside_tests::rims::{RimFile, Shape};
+
+/// The whole stack of the thread: what the thread itself needs is within it.
+const STACK: usize = 64 * 1024;
+
+fn on_a_small_stack(call: impl FnOnce() + Send + 'static) {
+    let thread = std::thread::Builder::new().stack_size(STACK).spawn(call);
+    thread.expect("a thread").join().expect("no panic");
+}
+
+#[test]
+fn every_call() {
+    let mut random = Random::new(3);
+    for shape in [Shape::SkewLines, Shape::Saddle, Shape::Flat] {
+        let file = RimFile::plain(&shape.points(64, 1000, &mut random), 1, 1).bytes();
+        let mut tables = Tables::guarded(Places::ENOUGH);
+        on_a_small_stack(move || {
+            let library = under_test();
+            library.read_rim(&file);
+            let _ = library.sizes(&file);
+            library.find_candidates(&file, &mut tables);
+            library.patch_rim(&file, &mut tables);
+        });
+    }
+    let job = random_job(64, 100, 10, 1000, &mut random);
+    let mut tables = Tables::of_job(&job, 62, job.candidates.len());
+    on_a_small_stack(move || {
+        under_test().patch_job(64, &mut tables);
+    });
+}

@@ -1,0 +1,138 @@
+//! The words of the command line.
+
+use crate::output::Place;
+use crate::points::Comma;
+use crate::rim_file::MAX_AREA_FACTOR;
+use crate::view::View;
+use std::path::PathBuf;
+
+pub const HELP: &str = "\
+usage: ./rim make [--area N] [--bend N] [--decimal-comma] [-o FILE] POINTS
+       ./rim show [-o FILE] RIM
+       ./rim draw [--from VIEW] [-o FILE] RIM
+       ./rim stl|obj [-o FILE] RIM
+
+  make  a rim file from a list of points
+  show  a rim file as text: header, records, vertices, the outcome in words
+  draw  the patch as a picture (SVG)
+  stl   the patch as a mesh (ASCII STL), obj as OBJ; both in millimetres
+
+POINTS is text with a line for each point of the rim, in order around the gap; the last point joins
+the first. A line is x y z in millimetres, or x y for a level point, which has the height of the point
+before it. Numbers are separated by blanks or tabs, by commas, or by semicolons; # starts a comment.
+RIM is a rim file. For either, - is standard input.
+
+  --area N          area factor, 0 to 16 (default 1)
+  --bend N          bend factor, 0 to 65535 (default 1)
+  --decimal-comma   1,5 is one and a half, not 1 and 5; then no comma separates
+  --from VIEW       top (default), front, side, corner, or a direction X,Y,Z to look from
+  -o FILE           write to FILE, which is replaced only by a complete one (default: standard output)
+
+Status: 0 done; 1 the list or the rim is refused, or has no patch to mill; 2 it could not run.
+";
+
+/// What to write.
+#[derive(Clone, Copy, Debug, PartialEq)]
+pub enum Command {
+    Make { area: u16, bend: u16, comma: Comma },
+    Show,
+    Draw(View),
+    Stl,
+    Obj,
+}
+
+#[derive(Clone, Debug, PartialEq)]
+pub enum Request {
+    Help,
+    Run { command: Command, input: Place, output: Place },
+}
+
+/// The options that a command takes, with their defaults.
+struct Options {
+    area: u16,
+    bend: u16,
+    comma: Comma,
+    view: View,
+    output: Place,
+}
+
+fn place(word: String) -> Place {
+    if word == "-" {
+        Place::Standard
+    } else {
+        Place::File(PathBuf::from(word))
+    }
+}
+
+fn factor(option: &str, word: &str, highest: u16) -> Result<u16, String> {
+    match word.parse() {
+        Ok(factor) if factor <= highest => Ok(factor),
+        _ => Err(format!("{option} takes a whole number from 0 to {highest}, not '{word}'")),
+    }
+}
+
+impl Options {
+    const DEFAULT: Options = Options {
+        area: 1,
+        bend: 1,
+        comma: Comma::Separator,
+        view: View::TOP,
+        output: Place::Standard,
+    };
+
+    /// Takes an option, and its value from the words that follow.
+    fn take(
+        &mut self,
+        command: &str,
+        option: &str,
+        words: &mut dyn Iterator<Item = String>,
+    ) -> Result<(), String> {
+        let mut value = || words.next().ok_or(format!("{option} needs a value after it"));
+        match (command, option) {
+            (_, "-o") => self.output = place(value()?),
+            ("make", "--area") => self.area = factor(option, &value()?, MAX_AREA_FACTOR)?,
+            ("make", "--bend") => self.bend = factor(option, &value()?, u16::MAX)?,
+            ("make", "--decimal-comma") => self.comma = Comma::DecimalMark,
+            ("draw", "--from") => self.view = View::named(&value()?)?,
+            _ => return Err(format!("{command} has no option {option} (./rim --help)")),
+        }
+        Ok(())
+    }
+
+    fn command(&self, command: &str) -> Result<Command, String> {
+        match command {
+            "make" => Ok(Command::Make { area: self.area, bend: self.bend, comma: self.comma }),
+            "show" => Ok(Command::Show),
+            "draw" => Ok(Command::Draw(self.view)),
+            "stl" => Ok(Command::Stl),
+            "obj" => Ok(Command::Obj),
+            _ => Err(format!("there is no command '{command}': make, show, draw, stl or obj")),
+        }
+    }
+}
+
+/// The request of the words after the program's name.
+pub fn parse(words: Vec<String>) -> Result<Request, String> {
+    if words.iter().any(|word| word == "--help" || word == "-h") {
+        return Ok(Request::Help);
+    }
+    let mut words = words.into_iter();
+    let name =
+        words.next().ok_or("a command is expected: make, show, draw, stl or obj (./rim --help)")?;
+    Options::DEFAULT.command(&name)?;
+    let mut options = Options::DEFAULT;
+    let mut inputs = Vec::new();
+    while let Some(word) = words.next() {
+        if word.starts_with('-') && word != "-" {
+            options.take(&name, &word, &mut words)?;
+        } else {
+            inputs.push(word);
+        }
+    }
+    if inputs.len() != 1 {
+        let count = inputs.len();
+        return Err(format!("{name} takes one file, or - for standard input; {count} are given"));
+    }
+    let input = place(inputs.remove(0));
+    Ok(Request::Run { command: options.command(&name)?, input, output: options.output })
+}

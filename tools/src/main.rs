@@ -1,0 +1,109 @@
+//! The command line: `rim --help` says what it takes.
+
+#![forbid(unsafe_code)]
+
+use rim::arguments::{parse, Command, Request, HELP};
+use rim::diagnosis::diagnose;
+use rim::output::{is_screen, read, reason, write, Place};
+use rim::patch::{close, Patch};
+use rim::points::{points, Comma};
+use rim::{mesh, picture, rim_file, show, Failure};
+use std::io::Write;
+use std::process::ExitCode;
+
+/// Bytes of the longest list of points.
+const MAX_LIST: usize = 1 << 20;
+
+fn input(place: &Place, longest: usize) -> Result<Vec<u8>, Failure> {
+    read(place, longest as u64 + 1)
+        .map_err(|error| Failure::CannotRun(format!("{}: {}", place.name(), reason(&error))))
+}
+
+fn rim_input(place: &Place) -> Result<Vec<u8>, Failure> {
+    input(place, patch_box::MAX_FILE)
+}
+
+fn make(place: &Place, area: u16, bend: u16, comma: Comma) -> Result<Vec<u8>, Failure> {
+    let refused = |why: String| Failure::Refused(format!("{}: {why}", place.name()));
+    let list = input(place, MAX_LIST)?;
+    if list.len() > MAX_LIST {
+        return Err(refused(format!("a list of points has at most {MAX_LIST} bytes")));
+    }
+    let file = rim_file::encode(&points(&list, comma).map_err(refused)?, area, bend);
+    match patch_box::read(&file) {
+        Ok(_) => Ok(file),
+        Err(number) => Err(refused(show::refusal(number, &diagnose(&file)))),
+    }
+}
+
+fn closed(place: &Place) -> Result<Patch, Failure> {
+    let file = rim_input(place)?;
+    close(&file).map_err(|number| {
+        let why = show::refusal(number, &diagnose(&file));
+        Failure::Refused(format!("{}: {why}", place.name()))
+    })
+}
+
+/// The mesh of a patch that has triangles.
+fn milled(place: &Place, write: fn(&Patch) -> String) -> Result<Vec<u8>, Failure> {
+    let patch = closed(place)?;
+    if let Some(why) = patch.none {
+        return Err(Failure::Refused(format!("{}: {why}", place.name())));
+    }
+    Ok(write(&patch).into_bytes())
+}
+
+fn put(place: &Place, bytes: &[u8]) -> Result<(), Failure> {
+    let name = match place {
+        Place::Standard => "standard output".into(),
+        Place::File(_) => place.name(),
+    };
+    write(place, bytes).map_err(|error| Failure::CannotRun(format!("{name}: {}", reason(&error))))
+}
+
+/// What is written, and the status.
+fn answer(command: Command, from: &Place) -> Result<(Vec<u8>, u8), Failure> {
+    match command {
+        Command::Make { area, bend, comma } => Ok((make(from, area, bend, comma)?, 0)),
+        Command::Show => {
+            let (text, taken) = show::show(&rim_input(from)?);
+            Ok((text.into_bytes(), if taken { 0 } else { 1 }))
+        }
+        Command::Draw(view) => Ok((picture::svg(&closed(from)?, view).into_bytes(), 0)),
+        Command::Stl => Ok((milled(from, mesh::stl)?, 0)),
+        Command::Obj => Ok((milled(from, mesh::obj)?, 0)),
+    }
+}
+
+fn run() -> Result<u8, Failure> {
+    let words = std::env::args_os().skip(1);
+    let words = words.map(|word| {
+        word.into_string().map_err(|word| Failure::CannotRun(format!("{word:?} is no UTF-8 text")))
+    });
+    let (command, from, to) = match parse(words.collect::<Result<_, _>>()?) {
+        Err(why) => return Err(Failure::CannotRun(why)),
+        Ok(Request::Help) => return put(&Place::Standard, HELP.as_bytes()).map(|()| 0),
+        Ok(Request::Run { command, input, output }) => (command, input, output),
+    };
+    if matches!(command, Command::Make { .. }) && is_screen(&to) {
+        return Err(Failure::CannotRun(
+            "a rim file is no text for a screen: use -o FILE or > FILE".into(),
+        ));
+    }
+    let (bytes, status) = answer(command, &from)?;
+    put(&to, &bytes)?;
+    Ok(status)
+}
+
+fn main() -> ExitCode {
+    match run() {
+        Ok(status) => ExitCode::from(status),
+        Err(failure) => {
+            // Control characters of a file's name stay on the one line.
+            let line: String =
+                failure.line().chars().map(|c| if c.is_control() { '?' } else { c }).collect();
+            let _ = writeln!(std::io::stderr(), "rim: {line}");
+            ExitCode::from(failure.status())
+        }
+    }
+}

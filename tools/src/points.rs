@@ -1,0 +1,156 @@
+//! A list of points as people have it: a line `x y z` in millimetres for each, or `x y` for a level
+//! point, which takes the height of the point before it.
+
+use crate::rim_file::{grid_number, Point, LIMIT};
+use patch_box::MAX_VERTICES;
+
+/// A point and the line it stands on, counted from 1.
+#[derive(Clone, Copy, Debug, PartialEq)]
+pub struct Listed {
+    pub line: usize,
+    pub point: Point,
+}
+
+/// What a comma is in the list.
+#[derive(Clone, Copy, Debug, PartialEq, Eq)]
+pub enum Comma {
+    Separator,
+    DecimalMark,
+}
+
+/// The points of a list that makes an accepted file (rules 4.5, 4.7 to 4.11), or the first thing
+/// wrong with it.
+pub fn points(bytes: &[u8], comma: Comma) -> Result<Vec<Point>, String> {
+    let listed = parse(&text(bytes)?, comma)?;
+    check_count(&listed)?;
+    check_distinct(&listed)?;
+    Ok(listed.iter().map(|listed| listed.point).collect())
+}
+
+/// Bytes that are not UTF-8 can do no harm in a comment, and are no number elsewhere.
+fn text(bytes: &[u8]) -> Result<String, String> {
+    if bytes.starts_with(&[0xff, 0xfe]) || bytes.starts_with(&[0xfe, 0xff]) {
+        return Err("the list is UTF-16 text: save it as UTF-8 or plain text".into());
+    }
+    if bytes.contains(&0) {
+        return Err("this is no list of points: it has bytes that are no text".into());
+    }
+    let text = String::from_utf8_lossy(bytes);
+    Ok(text.strip_prefix('\u{feff}').unwrap_or(&text).to_string())
+}
+
+fn parse(text: &str, comma: Comma) -> Result<Vec<Listed>, String> {
+    let mut listed = Vec::new();
+    for (line, words) in (1..).zip(text.lines()) {
+        let words = words.split('#').next().unwrap_or("").trim();
+        if words.is_empty() {
+            continue;
+        }
+        let point = point(words, comma).and_then(|point| match (point.height, listed.len()) {
+            (_, MAX_VERTICES) => Err(format!("a rim has at most {MAX_VERTICES} points")),
+            (None, 0) => Err("a level point has the height of the point before it; the first point needs x, y and z".into()),
+            _ => Ok(point),
+        });
+        listed.push(Listed { line, point: point.map_err(|why| format!("line {line}: {why}"))? });
+    }
+    Ok(listed)
+}
+
+fn point(words: &str, comma: Comma) -> Result<Point, String> {
+    let fields = fields(words, comma)?;
+    match fields[..] {
+        [x, y] => Ok(Point { x: number("x", x)?, y: number("y", y)?, height: None }),
+        [x, y, z] => {
+            Ok(Point { x: number("x", x)?, y: number("y", y)?, height: Some(number("z", z)?) })
+        }
+        _ => Err(format!(
+            "a point has 3 numbers (x y z) and a level point 2 (x y), this line has {}{}",
+            fields.len(),
+            hint(words, comma)
+        )),
+    }
+}
+
+fn hint(words: &str, comma: Comma) -> &'static str {
+    let unclear = comma == Comma::Separator && words.contains(',');
+    if unclear {
+        "; where commas are decimal marks, use --decimal-comma"
+    } else {
+        ""
+    }
+}
+
+/// A line has one separator: semicolons, commas, or blanks and tabs. Blanks may stand beside the
+/// others, and a last separator may end the line.
+fn fields(words: &str, comma: Comma) -> Result<Vec<&str>, String> {
+    let separator = [';', ',']
+        .into_iter()
+        .find(|&mark| words.contains(mark) && (mark == ';' || comma == Comma::Separator));
+    let Some(separator) = separator else {
+        return Ok(words.split_whitespace().collect());
+    };
+    let words = words.strip_suffix(separator).unwrap_or(words);
+    let fields: Vec<&str> = words.split(separator).map(str::trim).collect();
+    if fields.contains(&"") {
+        return Err(format!("a number is missing beside a '{separator}'"));
+    }
+    let mixed = |field: &&str| {
+        field.contains(char::is_whitespace) || (comma == Comma::Separator && field.contains(','))
+    };
+    if fields.iter().any(mixed) {
+        return Err(format!("numbers are separated in two ways{}", hint(words, comma)));
+    }
+    Ok(fields)
+}
+
+/// A coordinate in range (rules 4.8 and 4.9). The words inf and nan have no digit.
+fn number(axis: &str, field: &str) -> Result<f32, String> {
+    let plain = field.replace('\u{2212}', "-").replace(',', ".");
+    match plain.parse::<f32>() {
+        Ok(value) if field.contains(|c: char| c.is_ascii_digit()) => {
+            if value.abs() <= LIMIT {
+                Ok(value)
+            } else {
+                Err(format!(
+                    "{axis} = {field} is out of range: a coordinate is from -{LIMIT} to {LIMIT} mm"
+                ))
+            }
+        }
+        _ => Err(format!("'{field}' is not a number (a comment starts with #)")),
+    }
+}
+
+fn check_count(listed: &[Listed]) -> Result<(), String> {
+    match listed.len() {
+        0 => Err("there is no point in the list".into()),
+        count @ 1..=2 => Err(format!("a rim has at least 3 points, the list has {count}")),
+        _ => Ok(()),
+    }
+}
+
+/// The grid points, with the heights of level points filled in.
+fn grid_points(listed: &[Listed]) -> Vec<[i64; 3]> {
+    let mut height = 0.0;
+    let grid = listed.iter().map(|&Listed { point, .. }| {
+        height = point.height.unwrap_or(height);
+        [point.x, point.y, height].map(grid_number)
+    });
+    grid.collect()
+}
+
+fn check_distinct(listed: &[Listed]) -> Result<(), String> {
+    let grid = grid_points(listed);
+    let last = grid.len() - 1;
+    for (later, point) in grid.iter().enumerate() {
+        if let Some(earlier) = grid[..later].iter().position(|other| other == point) {
+            let hint = if (earlier, later) == (0, last) {
+                "the last point joins the first by itself, so the first is not repeated"
+            } else {
+                "points closer than 0.125 mm can fall together"
+            };
+            let [one, other] = [earlier, later].map(|k| listed[k].line);
+            return Err(format!("lines {one} and {other} fall on one grid point: {hint}"));
+        }
+    }
+    Ok(())
+}

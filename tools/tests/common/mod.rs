@@ -1,0 +1,85 @@
+//! The tool as a user runs it.
+
+#![allow(dead_code)]
+
+use std::io::Write;
+use std::path::{Path, PathBuf};
+use std::process::{Command, Stdio};
+
+/// What a run left: its status, and what it wrote.
+#[derive(Debug, PartialEq, Eq)]
+pub struct Run {
+    pub status: i32,
+    pub out: Vec<u8>,
+    pub errors: String,
+}
+
+impl Run {
+    pub fn text(&self) -> String {
+        String::from_utf8(self.out.clone()).expect("text")
+    }
+
+    /// It ended with this status, one line of this text on standard error, and no output.
+    pub fn refused(&self, status: i32, line: &str) {
+        assert_eq!((self.status, self.out.len()), (status, 0), "{self:?}");
+        assert_eq!(self.errors, format!("rim: {line}\n"));
+    }
+
+    pub fn done(self) -> Run {
+        assert_eq!((self.status, self.errors.as_str()), (0, ""), "{self:?}");
+        self
+    }
+}
+
+pub fn run(words: &[&str], input: &[u8]) -> Run {
+    run_in(Path::new("."), words, input)
+}
+
+pub fn run_in(folder: &Path, words: &[&str], input: &[u8]) -> Run {
+    let mut command = Command::new(env!("CARGO_BIN_EXE_rim"));
+    command.current_dir(folder).args(words);
+    command.stdin(Stdio::piped()).stdout(Stdio::piped()).stderr(Stdio::piped());
+    let mut child = command.spawn().expect("the tool runs");
+    // The tool may end before it has read all.
+    let _ = child.stdin.take().expect("piped").write_all(input);
+    let output = child.wait_with_output().expect("the tool ends");
+    Run {
+        status: output.status.code().expect("a status"),
+        out: output.stdout,
+        errors: String::from_utf8(output.stderr).expect("text"),
+    }
+}
+
+/// A file of examples/.
+pub fn example(name: &str) -> PathBuf {
+    Path::new(env!("CARGO_MANIFEST_DIR")).join("../examples").join(name)
+}
+
+pub fn bytes_of(name: &str) -> Vec<u8> {
+    std::fs::read(example(name)).expect("an example")
+}
+
+/// An empty folder that goes with its value.
+pub struct Folder(pub PathBuf);
+
+impl Folder {
+    pub fn new(name: &str) -> Folder {
+        let path = std::env::temp_dir().join(format!("rim-{name}-{}", std::process::id()));
+        std::fs::create_dir_all(&path).expect("a folder for the test");
+        Folder(path)
+    }
+
+    pub fn names(&self) -> Vec<String> {
+        let files = std::fs::read_dir(&self.0).expect("the folder");
+        let name = |file: std::fs::DirEntry| file.file_name().to_string_lossy().into_owned();
+        let mut names: Vec<String> = files.map(|file| name(file.expect("a file"))).collect();
+        names.sort();
+        names
+    }
+}
+
+impl Drop for Folder {
+    fn drop(&mut self) {
+        let _ = std::fs::remove_dir_all(&self.0);
+    }
+}

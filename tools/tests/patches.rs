@@ -1,0 +1,118 @@
+//! Meshes and pictures of patches, and the files in examples/.
+
+mod common;
+
+use common::{bytes_of, example, run};
+use rim::patch::close;
+use std::collections::HashMap;
+
+const RIMS: [&str; 5] = ["p.rim", "saddle12.rim", "ring64.rim", "gap.rim", "skew64.rim"];
+
+/// Each example is what the tool makes today. `./rim` with the words writes it again.
+#[test]
+fn examples_are_up_to_date() {
+    let cases: [(&[&str], &str); 5] = [
+        (&["make", "gap.txt"], "gap.rim"),
+        (&["draw", "gap.rim"], "gap.svg"),
+        (&["stl", "gap.rim"], "gap.stl"),
+        (&["obj", "gap.rim"], "gap.obj"),
+        (&["make", "skew64.txt"], "skew64.rim"),
+    ];
+    for (words, name) in cases {
+        let input = example(words[1]).display().to_string();
+        let made = run(&[words[0], &input], b"").done().out;
+        assert!(made == bytes_of(name), "examples/{name} is not what ./rim {words:?} writes");
+    }
+}
+
+/// In a patch a rim edge is in one triangle, another in two, which run along it in turn.
+#[test]
+fn meshes_close_the_rim() {
+    for name in RIMS {
+        let patch = close(&bytes_of(name)).expect("accepted");
+        let n = patch.vertices.len() as i64;
+        let mut steps: HashMap<[i64; 2], i64> = HashMap::new();
+        for face in faces(&run(&["obj", "-"], &bytes_of(name)).done().text()) {
+            let [a, b, c] = face;
+            for step in [[a, b], [b, c], [c, a]] {
+                *steps.entry(step).or_default() += 1;
+            }
+        }
+        assert!(steps.values().all(|&count| count == 1), "{name}");
+        let rim = (0..n).all(|k| {
+            let (from, to) = (k, (k + 1) % n);
+            steps.contains_key(&[from, to]) && !steps.contains_key(&[to, from])
+        });
+        assert!(rim, "{name}");
+        let inner = steps.keys().filter(|step| steps.contains_key(&[step[1], step[0]])).count();
+        assert_eq!(inner + n as usize, steps.len(), "{name}");
+    }
+}
+
+fn faces(obj: &str) -> Vec<[i64; 3]> {
+    let face = |line: &str| {
+        let words = line.strip_prefix("f ")?.split(' ');
+        let numbers: Vec<i64> =
+            words.map(|word| word.parse::<i64>().expect("a number") - 1).collect();
+        Some([numbers[0], numbers[1], numbers[2]])
+    };
+    obj.lines().filter_map(face).collect()
+}
+
+/// The vertices of the STL are those of the triangles, and its normals are at right angles to them.
+#[test]
+fn stl_is_the_same_surface() {
+    for name in RIMS {
+        let patch = close(&bytes_of(name)).expect("accepted");
+        let stl = run(&["stl", "-"], &bytes_of(name)).done().text();
+        let numbers = |start: &str| -> Vec<[f64; 3]> {
+            let of_line = |line: &str| {
+                let words = line.trim().strip_prefix(start)?.split(' ');
+                let numbers: Vec<f64> = words.map(|word| word.parse().expect("a number")).collect();
+                Some([numbers[0], numbers[1], numbers[2]])
+            };
+            stl.lines().filter_map(of_line).collect()
+        };
+        let (normals, corners) = (numbers("facet normal "), numbers("vertex "));
+        assert_eq!(
+            (normals.len(), corners.len()),
+            (patch.triangles.len(), 3 * patch.triangles.len())
+        );
+        for (t, triangle) in patch.triangles.iter().enumerate() {
+            for (corner, vertex) in corners[3 * t..].iter().zip(triangle.vertices) {
+                assert_eq!(*corner, patch.vertices[vertex as usize].map(|g| g as f64 / 8.0));
+            }
+            let along = |k: usize| [0, 1, 2].map(|i| corners[3 * t + k][i] - corners[3 * t][i]);
+            for side in [along(1), along(2)] {
+                let dot: f64 = (0..3).map(|i| side[i] * normals[t][i]).sum();
+                assert!(dot.abs() < 1e-3, "{name}: {dot}");
+            }
+        }
+    }
+}
+
+/// Every element is closed, every number is finite, each vertex has its number.
+#[test]
+fn pictures_from_every_side() {
+    for name in RIMS.into_iter().chain(["flat5.rim"]) {
+        for view in ["top", "front", "side", "corner", "0,0,-1", "-3,2,0.5", "1e-5,0,0"] {
+            let svg = run(&["draw", "--from", view, "-"], &bytes_of(name)).done().text();
+            assert!(svg.starts_with("<svg ") && svg.ends_with("</svg>\n"), "{name} {view}");
+            assert!(!svg.contains("NaN") && !svg.contains("inf"), "{name} {view}");
+            let open = svg.matches('<').count();
+            let (closed, closing) = (svg.matches("/>").count(), svg.matches("</").count());
+            assert_eq!(open, closed + 2 * closing, "{name} {view}");
+            let patch = close(&bytes_of(name)).expect("accepted");
+            assert_eq!(svg.matches("<polygon").count(), patch.triangles.len());
+            let labelled = |k: usize| svg.contains(&format!(">{k}</text>"));
+            assert!((0..patch.vertices.len()).all(labelled), "{name} {view}");
+        }
+    }
+}
+
+/// A rim seen edge on has no width, and is drawn all the same.
+#[test]
+fn flat_rim_edge_on() {
+    let svg = run(&["draw", "--from", "front", "-"], &bytes_of("flat5.rim")).done().text();
+    assert!(svg.contains("seen from the front"));
+}

@@ -1,0 +1,146 @@
+//! Rim files as text, and the place of what is wrong with them.
+
+mod common;
+
+use common::{bytes_of, run};
+use patch_box::Number;
+use rim::diagnosis::diagnose;
+
+#[test]
+fn rim_file_p() {
+    let text = "\
+rim file of 72 bytes: first record 1, records 4, area factor 1, bend factor 1
+
+record   next   kind         x mm         y mm         z mm
+     1      2  point            0            0            0
+     2      3  point            1            0            0
+     3      4  point            1            1         0.75
+     4      0  point            0            1            0
+
+vertex record  grid: x      y      z         x mm         y mm         z mm
+     0      1        0      0      0            0            0            0
+     1      2        8      0      0            1            0            0
+     2      3        8      8      6            1            1         0.75
+     3      4        0      8      0            0            1            0
+
+patch of 2 triangles, total 469
+
+     a      b      c  area weight  bend weight
+     0      1      3           64            0
+     1      2      3           93          312
+";
+    assert_eq!(run(&["show", "-"], &bytes_of("p.rim")).done().text(), text);
+}
+
+/// P with some bytes changed.
+fn damaged(at: usize, bytes: &[u8]) -> Vec<u8> {
+    let mut file = bytes_of("p.rim");
+    file[at..at + bytes.len()].copy_from_slice(bytes);
+    file
+}
+
+#[test]
+fn every_number_of_a_file_with_its_place() {
+    let p = bytes_of("p.rim");
+    let longest: Vec<u8> = [vec![1, 0, 0, 1, 1, 0, 1, 0], vec![0; 16 * 256 + 1]].concat();
+    let mut long_chain = [1u16, 65, 1, 1].iter().flat_map(|x| x.to_le_bytes()).collect::<Vec<u8>>();
+    for k in 0..65u16 {
+        long_chain.extend((k + 2).to_le_bytes());
+        long_chain.extend([1, 0]);
+        long_chain.extend([k as f32, 0.0, (k * k % 7) as f32].iter().flat_map(|x| x.to_le_bytes()));
+    }
+    let cases: [(Vec<u8>, Number, &str); 18] = [
+        (vec![1, 0, 4], Number::Length, "3 bytes are too few for a header of 8"),
+        (p[..71].to_vec(), Number::Length, "4 records make 72 bytes, the file has 71"),
+        (longest, Number::Length, "256 records make 4104 bytes, the file has more"),
+        (damaged(2, &[1, 1]), Number::Length, "the header says 257 records"),
+        (damaged(4, &[17]), Number::AreaFactor, "the area factor is 17"),
+        (damaged(0, &[5]), Number::Link, "the header leads to record 5 of 4"),
+        (damaged(24, &[9]), Number::Link, "record 2 leads to record 9 of 4"),
+        (
+            damaged(24, &[1]),
+            Number::RecordRepeated,
+            "record 2 leads back to record 1, which is vertex 0",
+        ),
+        (long_chain, Number::TooManyVertices, "record 64 leads to a 65th record, 65"),
+        (damaged(26, &[3]), Number::Kind, "record 2, vertex 1: the kind is 3"),
+        (damaged(10, &[2]), Number::NoHeight, "record 1, vertex 0: a level point starts the chain"),
+        (damaged(28, &f32::NAN.to_le_bytes()), Number::NotFinite, "record 2, vertex 1: x is NaN"),
+        (
+            damaged(36, &f32::NEG_INFINITY.to_le_bytes()),
+            Number::NotFinite,
+            "record 2, vertex 1: z is -inf",
+        ),
+        (
+            damaged(42, &[2]),
+            Number::NotFinite,
+            "record 3, vertex 2: a level point with a third number",
+        ),
+        (
+            damaged(32, &(-125.5f32).to_le_bytes()),
+            Number::OutOfRange,
+            "record 2, vertex 1: y = -125.5",
+        ),
+        (damaged(32, &1e30f32.to_le_bytes()), Number::OutOfRange, "record 2, vertex 1: y = 1e30"),
+        (damaged(24, &[0]), Number::TooFewVertices, "the chain has 2 records"),
+        (
+            damaged(28, &[0; 12]),
+            Number::VertexRepeated,
+            "vertices 0 and 1 (records 1 and 2) are at (0, 0, 0)",
+        ),
+    ];
+    for (file, number, place) in cases {
+        let shown = run(&["show", "-"], &file);
+        assert_eq!((shown.status, shown.errors.as_str()), (1, ""), "{place}");
+        let text = shown.text();
+        assert_eq!(text.lines().last(), Some(format!("{number}: {place}").as_str()));
+    }
+    let list = run(&["show", "-"], &bytes_of("gap.txt")).text();
+    let hint = "this looks like text, ./rim make takes a list of points";
+    assert!(list.ends_with(&format!("the header says 8257 records; {hint}\n")), "{list}");
+    assert_eq!(list.lines().count(), 3, "{list}");
+    let cube = run(&["show", "-"], &bytes_of("cube5.rim")).text();
+    let place = "vertices 0, 1, 2, 4 and 3; moving one of them by 0.125 mm can help";
+    assert!(cube.ends_with(&format!("{}: {place}\n", Number::Cospherical)), "{cube}");
+}
+
+/// A small generator of numbers, the same in every run.
+struct Numbers(u64);
+
+impl Numbers {
+    fn below(&mut self, limit: usize) -> usize {
+        self.0 = self.0.wrapping_mul(6364136223846793005).wrapping_add(1442695040888963407);
+        (self.0 >> 33) as usize % limit
+    }
+}
+
+/// The tool finds the number that the library gives, on files damaged anywhere.
+#[test]
+fn the_diagnosis_is_the_librarys() {
+    let mut numbers = Numbers(1);
+    let mut met = [0; 18];
+    let files = ["p.rim", "flat5.rim", "cube5.rim", "saddle12.rim", "gap.rim"].map(bytes_of);
+    for case in 0..40_000 {
+        let mut file = files[case % files.len()].clone();
+        for _ in 0..numbers.below(3) + 1 {
+            let at = numbers.below(file.len());
+            file[at] = match numbers.below(3) {
+                0 => numbers.below(256) as u8,
+                1 => file[at] ^ 1 << numbers.below(8),
+                _ => numbers.below(6) as u8,
+            };
+        }
+        if numbers.below(20) == 0 {
+            file.truncate(numbers.below(file.len() + 1));
+        }
+        let expected = patch_box::sizes(&file).err();
+        let diagnosis = diagnose(&file);
+        assert_eq!(diagnosis.due.map(|due| due.number), expected, "{file:?}");
+        met[expected.map_or(0, |number| number.code() as usize)] += 1;
+        if let Ok(vertices) = patch_box::read(&file) {
+            assert_eq!(diagnosis.vertices.len(), vertices);
+        }
+    }
+    let all = [0, 1, 2, 3, 4, 6, 7, 8, 9, 10, 11, 12];
+    assert!(all.iter().all(|&number| met[number] > 0), "{met:?}");
+}
