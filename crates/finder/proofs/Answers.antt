@@ -23,7 +23,7 @@ use Rattle.finder.specs.declared.Places.{Places}
 use Rattle.finder.specs.declared.Sizes.the-variants.{Known}
 use Rattle.finder.specs.declared.Sizes.the-variants as sizes
 use Rattle.finder.specs.Sizes.{sizesBy, sizesOf}
-use Rattle.finder.specs.Finding.{Finding, finding, valuesOf, dueValues, short, shortTables, shortBeside, numberDue, findBy, findNumber, findCall, besideNumber, findBesideCall}
+use Rattle.finder.specs.Finding.{Finding, finding, valuesOf, dueValues, short, shortTables, shortBeside, numberDue, findBy, findNumber, besideNumber, findBesideCall}
 use Rattle.finder.specs.Filling.{placesFor, fillOr13}
 
 -- one test after the other, as one
