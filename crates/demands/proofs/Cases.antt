@@ -16,7 +16,6 @@ use Rattle.lists.specs.Lists.{upFrom, everyFrom, someFrom}
 use Rattle.terms.specs.Entries.{triple}
 use Rattle.faces.specs.Faces.{isFace}
 use Rattle.delaunay.specs.Candidates.{counts, isCandidate, cospherical}
-use Rattle.finder.specs.declared.Found.{Found}
 use Rattle.finder.specs.declared.Found.the-variants.{Lists, Refused}
 use Rattle.finder.specs.Finding.{Finding, candidateCountOf, rowCountOf, finding, numberDue, findCall}
 use Rattle.triangulator.specs.declared.Outcome.{Outcome}

@@ -1,7 +1,7 @@
 -- Demands 2 and 3 for rim files, of the outcome and the tables of the one call. Assumes nothing.
-use mathlib.Core.Path.{_≡_, sym, ap, _∙_, subst}
+use mathlib.Core.Path.{sym, ap, _∙_, subst}
 use mathlib.Core.List.{List}
-use Prim.Native.Nat.{ℕ, zero, suc}
+use Prim.Native.Nat.{ℕ}
 use lib.ListN.{length}
 use Rattle.reader.specs.Order.{NoneDue}
 use Rattle.delaunay.specs.Candidates.{candidatesOf}

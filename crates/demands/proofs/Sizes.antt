@@ -1,17 +1,15 @@
 -- The places that the sizing call gives (rule 5.5) are those that the one call needs: 13 is due exactly when a table has fewer. Assumes nothing.
 use mathlib.Core.Path.{_≡_, refl, sym, ap, _∙_, subst}
-use mathlib.Core.Bool.{Bool, true, false, cond}
+use mathlib.Core.Bool.{Bool, false, cond}
 use mathlib.Core.List.{List}
-use Prim.Native.Nat.{ℕ, zero, suc, _≤_}
+use Prim.Native.Nat.{ℕ, zero, suc}
 use native.Mathlib.Omega.{arith}
 use lib.ListN.{length}
 use Rattle.lists.proofs.Choice.{Truth, holds, fails, truth, true-not-false}
-use Rattle.polygon.specs.declared.Polygon.{Polygon}
 use Rattle.reader.specs.Reading.{firstDue, polygonOf}
 use Rattle.reader.specs.Reading as reader
 use Rattle.delaunay.specs.Candidates.{candidatesOf}
 use Rattle.finder.specs.declared.Places.{Places}
-use Rattle.finder.specs.declared.Sizes.{Sizes}
 use Rattle.finder.specs.declared.Sizes.the-variants.{Known, Refused}
 use Rattle.finder.specs.Finding.{numberDue}
 use Rattle.finder.specs.Sizes.{placesOf, sizesBy}
@@ -21,7 +19,7 @@ use Rattle.triangulator.specs.Call.{numberOf}
 use Rattle.triangulator.specs.Demands.{Taken, a-patch, a-none}
 use Rattle.triangulator.specs.declared.Outcome.{Outcome}
 use Rattle.triangulator.proofs.Demands.{settled-taken}
-use Rattle.pipeline.specs.Patching.{Tables, Patching, refused, jobIn, tablesShort, patched, patchBy, polygonNumber, fileNumber, patchFile}
+use Rattle.pipeline.specs.Patching.{Tables, Patching, refused, jobIn, tablesShort, patchBy, polygonNumber, fileNumber, patchFile}
 use Rattle.pipeline.specs.Sizes.{sizesFile}
 use Rattle.demands.specs.Demand1.{TooShort, triangles, candidates, weights, rows, work}
 use Rattle.demands.proofs.Demand1.{short-true, true-short}

@@ -1,5 +1,5 @@
 -- Demand 2 of the tables that the finder's call leaves. Assumes nothing.
-use mathlib.Core.Path.{_≡_, refl, sym, ap, _∙_, subst}
+use mathlib.Core.Path.{_≡_, refl, sym, ap, _∙_}
 use mathlib.Core.List.{List}
 use Prim.Native.Nat.{ℕ, zero, suc}
 use native.Mathlib.Omega.{arith}
@@ -12,10 +12,10 @@ use Rattle.polygon.specs.Polygon.{Valid}
 use Rattle.polygon.proofs.Validity.{code-valid}
 use Rattle.delaunay.specs.Candidates.{candidatesOf}
 use Rattle.dihedrals.specs.Weights.{faceWeight, weightsOf, rowsOf}
-use Rattle.finder.specs.declared.Found.the-variants.{Lists, Refused}
-use Rattle.finder.specs.Finding.{Finding, shortTables, findBy, findNumber, findCall}
+use Rattle.finder.specs.declared.Found.the-variants.{Lists}
+use Rattle.finder.specs.Finding.{shortTables, findBy, findNumber, findCall}
 use Rattle.finder.proofs.Answers.{clear}
-use Rattle.demands.specs.Demand2.{Demand2, TablesHold}
+use Rattle.demands.specs.Demand2.{TablesHold}
 use Rattle.demands.proofs.Demand2.{demand-2}
 
 -- the lists in the first places

@@ -23,7 +23,7 @@ use Rattle.finder.specs.declared.Places.{Places}
 use Rattle.finder.specs.declared.Sizes.the-variants.{Known}
 use Rattle.finder.specs.declared.Sizes.the-variants as sizes
 use Rattle.finder.specs.Sizes.{sizesBy, sizesOf}
-use Rattle.finder.specs.Finding.{Finding, finding, valuesOf, dueValues, short, shortTables, shortBeside, numberDue, findBy, findNumber, findCall, besideNumber, findBesideCall}
+use Rattle.finder.specs.Finding.{Finding, finding, valuesOf, dueValues, short, shortTables, shortBeside, numberDue, findBy, findNumber, besideNumber, findBesideCall}
 use Rattle.finder.specs.Filling.{placesFor, fillOr13}
 
 -- one test after the other, as one
@@ -93,13 +93,13 @@ module _ (p : Polygon) where
 
 -- ---- the answer and the tables
 -- the number and the counts of an answer, by the number due
-pub found-values : (p : Polygon) (k : ℕ) (candidates : List (List ℕ)) (weights : List ℕ) (rows : List (List ℕ)) → valuesOf (findBy k p candidates weights rows .answer) ≡ dueValues k p
+found-values : (p : Polygon) (k : ℕ) (candidates : List (List ℕ)) (weights : List ℕ) (rows : List (List ℕ)) → valuesOf (findBy k p candidates weights rows .answer) ≡ dueValues k p
 found-values p zero candidates weights rows = refl
 found-values p (suc k) candidates weights rows = refl
 
 pub values-found : (p : Polygon) (k : ℕ) (candidates : List (List ℕ)) (weights : List ℕ) (rows : List (List ℕ)) {x : Found} {c r : List (List ℕ)} {w : List ℕ} →
-    finding x c w r ≡ findBy k p candidates weights rows → valuesOf x ≡ dueValues k p
-values-found p k candidates weights rows e = ap (λ (f : Finding). valuesOf (f .answer)) e ∙ found-values p k candidates weights rows
+    finding x c w r ≡ findBy k p candidates weights rows → (finding x c w r ≡ findBy k p candidates weights rows) × (valuesOf x ≡ dueValues k p)
+values-found p k candidates weights rows e = (e, ap (λ (f : Finding). valuesOf (f .answer)) e ∙ found-values p k candidates weights rows)
 
 module _ (p : Polygon) (trianglePlaces workPlaces : ℕ) (candidates : List (List ℕ)) (weights : List ℕ) (rows : List (List ℕ)) where
   pub find-refused : (k : ℕ) → k ≡ numberDue false p → (k ≡ 0 → ⊥) → finding (Refused k) candidates weights rows ≡ findBesideCall p trianglePlaces workPlaces candidates weights rows

@@ -5,7 +5,6 @@ use mathlib.Core.List.{List}
 use Prim.Native.Nat.{ℕ, zero, suc}
 use native.Mathlib.Omega.{arith}
 use Rattle.polygon.specs.declared.Polygon.{Polygon}
-use Rattle.reader.specs.declared.Status.{Status}
 use Rattle.reader.specs.declared.Status.the-variants as status
 use Rattle.reader.specs.declared.Reading.{Reading}
 use Rattle.reader.specs.Reading.{firstDue, polygonOf, answer, readingOf}

@@ -15,7 +15,7 @@ use Rattle.delaunay.specs.Candidates.{candidatesOf}
 use Rattle.finder.specs.declared.Found.{Found}
 use Rattle.finder.specs.declared.Found.the-variants.{Lists}
 use Rattle.finder.specs.declared.Found.the-variants as found
-use Rattle.finder.specs.Finding.{Finding, finding, shortTables, shortBeside, numberDue, findBy, besideNumber, findBesideCall}
+use Rattle.finder.specs.Finding.{Finding, finding, shortTables, numberDue, findBy, besideNumber, findBesideCall}
 use Rattle.triangulator.specs.declared.Outcome.{Outcome}
 use Rattle.triangulator.specs.declared.Outcome.the-variants.{None, Refused}
 use Rattle.pipeline.specs.Patching.{Tables, tables, Patching, patching, weightsIn, rowsIn, tablesShort, patchBy, patched, polygonNumber, patchPolygon}

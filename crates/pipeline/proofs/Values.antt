@@ -35,14 +35,16 @@ module _ (p : Polygon) (t : Tables) where
   none-valid : polygonNumber p t ≡ 0 → Valid p
   none-valid e = code-valid p (clear p (tablesShort p t) e .code)
 
-  pub polygon-values : {o : Outcome} {left : Tables} → patching o left ≡ patchPolygon p t → valuesOf o ≡ dueValues (polygonNumber p t) (p .n) (best (jobIn p))
+  -- the call's equation gives its values
+  pub polygon-values : {o : Outcome} {left : Tables} → patching o left ≡ patchPolygon p t →
+      (patching o left ≡ patchPolygon p t) × (valuesOf o ≡ dueValues (polygonNumber p t) (p .n) (best (jobIn p)))
   unfolding patchPolygon
-  polygon-values e = ap (λ (x : Patching). valuesOf (x .outcome)) e ∙ by-number (polygonNumber p t) none-valid
+  polygon-values e = (e, ap (λ (x : Patching). valuesOf (x .outcome)) e ∙ by-number (polygonNumber p t) none-valid)
 
 pub file-values : (s : List ℕ) (t : Tables) {o : Outcome} {left : Tables} → patching o left ≡ patchFile s t →
-    valuesOf o ≡ dueValues (fileNumber s t) (polygonOf s .n) (best (jobIn (polygonOf s)))
+    (patching o left ≡ patchFile s t) × (valuesOf o ≡ dueValues (fileNumber s t) (polygonOf s .n) (best (jobIn (polygonOf s))))
 unfolding patchFile
-file-values s t e = ap (λ (x : Patching). valuesOf (x .outcome)) e ∙ by-number (polygonOf s) t (fileNumber s t) (by (reader.numberDue s))
+file-values s t e = (e, ap (λ (x : Patching). valuesOf (x .outcome)) e ∙ by-number (polygonOf s) t (fileNumber s t) (by (reader.numberDue s)))
   where
     by : (k : ℕ) → firstDue k (polygonNumber (polygonOf s) t) ≡ 0 → Valid (polygonOf s)
     by zero e = none-valid (polygonOf s) t e

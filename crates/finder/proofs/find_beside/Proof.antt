@@ -22,15 +22,14 @@ search-requires c κs = search needs
 -- the number and the counts, from the answer
 values : (s : tie.Start) {x : Found} {c r : List (List ℕ)} {w : List ℕ} →
     finding x c w r ≡ findBesideCall (s .args .p) (s .args .triangle-places) (s .args .work-places) (s .args .candidates .now) (s .args .weights .now) (s .args .rows .now) →
-    valuesOf x ≡ dueValues (besideNumber (s .args .p) (s .args .triangle-places) (s .args .work-places) (s .args .candidates .now) (s .args .weights .now) (s .args .rows .now)) (s .args .p)
+    (finding x c w r ≡ findBesideCall (s .args .p) (s .args .triangle-places) (s .args .work-places) (s .args .candidates .now) (s .args .weights .now) (s .args .rows .now)) × (valuesOf x ≡ dueValues (besideNumber (s .args .p) (s .args .triangle-places) (s .args .work-places) (s .args .candidates .now) (s .args .weights .now) (s .args .rows .now)) (s .args .p))
 values s e =
     values-found (s .args .p) (besideNumber (s .args .p) (s .args .triangle-places) (s .args .work-places) (s .args .candidates .now) (s .args .weights .now) (s .args .rows .now)) (s .args .candidates .now) (s .args .weights .now) (s .args .rows .now) e
 
 returns : tie.Need-returns
 returns c =
     let s = c .before .before .before .before in
-    let e = find-refused (s .args .p) (s .args .triangle-places) (s .args .work-places) (s .args .candidates .now) (s .args .weights .now) (s .args .rows .now) _ (c .before .search .ensures .is-due) (c .if1 .taken) in
-    (e, values s e)
+    values s (find-refused (s .args .p) (s .args .triangle-places) (s .args .work-places) (s .args .candidates .now) (s .args .weights .now) (s .args .rows .now) _ (c .before .search .ensures .is-due) (c .if1 .taken))
 
 -- no number is due so far
 module _ (g : tie.Else1) where
@@ -66,10 +65,10 @@ returns-2 c =
     let g = c .before .before .before .before .before .before .before .before .before in
     let s = begin g in
     let p = polygon g in
-    let e = c .before .before .before .before .fill .ensures
+    values s
+    (c .before .before .before .before .fill .ensures
     ∙ ap (λ (l : List (List ℕ)). fillOr13 p l (s .args .triangle-places) (s .args .work-places) (s .args .candidates .now) (s .args .weights .now) (s .args .rows .now)) (candidates-are g)
-    ∙ filled-is p (s .args .triangle-places) (s .args .work-places) (s .args .candidates .now) (s .args .weights .now) (s .args .rows .now) (none-due g) in
-    (e, values s e)
+    ∙ filled-is p (s .args .triangle-places) (s .args .work-places) (s .args .candidates .now) (s .args .weights .now) (s .args .rows .now) (none-due g))
 
 pub find-beside-spec : {M : Type 1} → statement M
 find-beside-spec =
