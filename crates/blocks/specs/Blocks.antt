@@ -1,4 +1,4 @@
--- Blocks: candidates of one first vertex stand together. Definitions only.
+-- Blocks: candidates of one first vertex stand together. What functions say to each other; nobody has to believe it.
 use mathlib.Core.List.{List}
 use Prim.Native.Nat.{ℕ, suc, _≤_, _<_}
 use lib.ListN.{length, getD}

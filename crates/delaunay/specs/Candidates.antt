@@ -10,7 +10,7 @@ use Rattle.geometry.specs.Spheres.{coplanar, strictlyInside, onSphere}
 use Rattle.lists.specs.Lists.{both, either, every, some}
 use Rattle.faces.specs.Faces.{isFace, someFour, triplesOf}
 
--- vertex i of the rim
+-- vertex i of the rim (rule 1.8)
 abbrev pub vertex : Polygon → ℕ → GridPoint
 vertex p i = vertexAt (p .vertices) i
 
@@ -34,7 +34,7 @@ isCandidate p x y z = someFour (p .n) (λ a b c d. both (isFace a b c d x y z) (
 abbrev pub candidatesOf : Polygon → List (List ℕ)
 candidatesOf p = triplesOf (p .n) (isCandidate p)
 
--- vertex v is one of the four
+-- vertex v is one of the four (rule 4.12)
 abbrev pub isCorner : ℕ → ℕ → ℕ → ℕ → ℕ → Bool
 isCorner a b c d v = either (eqb v a) (either (eqb v b) (either (eqb v c) (eqb v d)))
 

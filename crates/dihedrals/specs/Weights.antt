@@ -34,7 +34,7 @@ hingeWeight p t u = bendWeightOf (p .«bend_factor») (bendBetween (faceNormal p
 abbrev pub rowAt : Polygon → List (List ℕ) → ℕ → ℕ → List ℕ
 rowAt p candidates o i = o ∷ i ∷ hingeWeight p (entryAt candidates i) (entryAt candidates o) ∷ []
 
--- the rows of outer o, by rising inner
+-- the rows of outer o, by rising inner (rule 2.13)
 abbrev pub rowsOn : Polygon → List (List ℕ) → ℕ → List (List ℕ)
 rowsOn p candidates o = over 0 (length candidates) (λ i. when (hangs (entryAt candidates i) (entryAt candidates o)) (rowAt p candidates o i))
 

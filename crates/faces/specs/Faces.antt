@@ -9,7 +9,7 @@ use Rattle.lists.specs.Lists.{over, when, both, either, some}
 abbrev pub sameTriple : ℕ → ℕ → ℕ → ℕ → ℕ → ℕ → Bool
 sameTriple a b c x y z = both (eqb a x) (both (eqb b y) (eqb c z))
 
--- (x, y, z) is a face of the four (a, b, c, d)
+-- (x, y, z) is a face of the four (a, b, c, d) (rule 2.4)
 unfoldable pub isFace : ℕ → ℕ → ℕ → ℕ → ℕ → ℕ → ℕ → Bool
 isFace a b c d x y z = either (sameTriple a b c x y z) (either (sameTriple a b d x y z) (either (sameTriple a c d x y z) (sameTriple b c d x y z)))
 
@@ -17,6 +17,6 @@ isFace a b c d x y z = either (sameTriple a b c x y z) (either (sameTriple a b d
 abbrev pub triplesOf : ℕ → (ℕ → ℕ → ℕ → Bool) → List (List ℕ)
 triplesOf n P = over 0 n (λ a. over (a + 1) n (λ b. over (b + 1) n (λ c. when (P a b c) (triple a b c))))
 
--- P holds of some four a < b < c < d of n vertices
+-- P holds of some four a < b < c < d of n vertices (rule 2.3)
 abbrev pub someFour : ℕ → (ℕ → ℕ → ℕ → ℕ → Bool) → Bool
 someFour n P = some 0 n (λ a. some (a + 1) n (λ b. some (b + 1) n (λ c. some (c + 1) n (λ d. P a b c d))))

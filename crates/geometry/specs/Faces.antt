@@ -26,7 +26,7 @@ ratioOf d m k = clamped (negsuc 999) (pos 1000) (floorDiv (pos 1000 *ℤ d) (m *
 unfoldable pub bendOf : ℤ → ℕ → ℕ → ℕ
 bendOf d m k = natAbs (pos 1000 -ℤ ratioOf d m k)
 
--- the bend between two triangles, by their normals
+-- the bend between two triangles, by their normals (rule 2.11)
 abbrev pub bendBetween : Vector → Vector → ℕ
 bendBetween n k = bendOf (dotOf n k) (lengthOf n) (lengthOf k)
 

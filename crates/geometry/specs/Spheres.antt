@@ -7,7 +7,7 @@ use Rattle.geometry.specs.declared.Vector.{Vector}
 use Rattle.integers.specs.Order.{equal}
 use Rattle.geometry.specs.Vectors.{differenceOf, dotOf, crossOf, squareOf, scaledBy, plus, minus}
 
--- six times the volume of the four, negative where they turn the other way: u·(v×t)
+-- six times the volume of the four, negative where they turn the other way: u·(v×t) (rule 2.1)
 unfoldable pub orientOf : GridPoint → GridPoint → GridPoint → GridPoint → ℤ
 orientOf p q r s = dotOf (differenceOf q p) (crossOf (differenceOf r p) (differenceOf s p))
 
@@ -23,7 +23,7 @@ centreOf p q r s =
     let t = differenceOf s p in
     plus (plus (scaledBy (squareOf u) (crossOf v t)) (scaledBy (squareOf v) (crossOf t u))) (scaledBy (squareOf t) (crossOf u v))
 
--- the squared distance of w from the centre, times (2 · orientOf p q r s) squared
+-- the squared distance of w from the centre, times (2 · orientOf p q r s) squared (rule 2.2)
 unfoldable pub distanceOf : GridPoint → GridPoint → GridPoint → GridPoint → GridPoint → ℤ
 distanceOf p q r s w = squareOf (minus (scaledBy (pos 2 *ℤ orientOf p q r s) (differenceOf w p)) (centreOf p q r s))
 

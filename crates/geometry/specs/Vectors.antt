@@ -3,19 +3,19 @@ use lib.IntN.{ℤ, pos, _+ℤ_, _-ℤ_, _*ℤ_}
 use Rattle.grid.specs.declared.GridPoint.{GridPoint}
 use Rattle.geometry.specs.declared.Vector.{Vector}
 
--- from the point q to the point p
+-- from the point q to the point p (rule 2.6)
 abbrev pub differenceOf : GridPoint → GridPoint → Vector
 differenceOf p q = record { x = p .x -ℤ q .x; y = p .y -ℤ q .y; z = p .z -ℤ q .z }
 
--- the dot product
+-- the dot product (rule 2.10)
 abbrev pub dotOf : Vector → Vector → ℤ
 dotOf u v = u .x *ℤ v .x +ℤ u .y *ℤ v .y +ℤ u .z *ℤ v .z
 
--- the cross product
+-- the cross product (rule 2.6)
 abbrev pub crossOf : Vector → Vector → Vector
 crossOf u v = record { x = u .y *ℤ v .z -ℤ u .z *ℤ v .y; y = u .z *ℤ v .x -ℤ u .x *ℤ v .z; z = u .x *ℤ v .y -ℤ u .y *ℤ v .x }
 
--- the squared length
+-- the squared length (rule 2.7)
 abbrev pub squareOf : Vector → ℤ
 squareOf v = dotOf v v
 

@@ -15,7 +15,7 @@ finite nan = false
 finite (inf s) = false
 finite (fin s m e) = true
 
--- 8 |v| as a fraction, numerator v / denominator v; v is below zero, or minus zero, where negative v
+-- 8 |v| as a fraction, numerator v / denominator v; v is below zero, or minus zero, where negative v (rule 1.9)
 unfoldable pub numerator : Float → ℕ
 numerator nan = 0
 numerator (inf s) = 0
@@ -31,7 +31,7 @@ negative nan = false
 negative (inf s) = s
 negative (fin s m e) = s
 
--- a whole number with a sign; minus zero is 0
+-- a whole number with a sign; minus zero is 0 (rule 1.10)
 abbrev pub signed : Bool → ℕ → ℤ
 signed true n = negℤ (pos n)
 signed false n = pos n
@@ -51,7 +51,7 @@ unfoldable pub gridNumberOf : Float → GridNumber
 unfolding finite inRange roundEighths
 gridNumberOf v = cond (finite v) (cond (inRange v) (Value (roundEighths v)) OutOfRange) NotFinite
 
--- How far a whole number g is from 8v: | g - 8v | times the denominator, which is a whole number.
+-- How far a whole number g is from 8v: | g - 8v | times the denominator, which is a whole number (rule 1.10).
 abbrev pub distance : ℤ → Float → ℕ
 distance g v = natAbs ((g *ℤ pos (denominator v)) -ℤ signed (negative v) (numerator v))
 

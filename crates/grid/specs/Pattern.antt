@@ -1,4 +1,4 @@
--- The value of an f32's bit pattern in whole numbers, with no word of floats. Definitions only.
+-- The value of an f32's bit pattern in whole numbers, with no word of floats. What functions say to each other; nobody has to believe it.
 use Prim.Native.Nat.{ℕ, zero, suc, _+_, _*_, _/_, _%_, _^_}
 use mathlib.Core.Bool.{Bool, cond}
 use lib.Dec.{leb}

@@ -1,4 +1,4 @@
--- Hinges: pairs of candidates that share an edge, the inner hanging on the outer (rule 2.9). Definitions only.
+-- Hinges: pairs of candidates that share an edge, the inner hanging on the outer (rule 2.9). What functions say to each other; nobody has to believe it.
 use mathlib.Core.Bool.{Bool}
 use mathlib.Core.List.{List}
 use Prim.Native.Nat.{ℕ, _+_, _*_, _≤_, _<_}

@@ -1,4 +1,4 @@
--- How far an integer is from 0: what functions on i64 ask, so that no sum or product wraps. Definitions only.
+-- How far an integer is from 0: what functions on i64 ask, so that no sum or product wraps. What functions say to each other; nobody has to believe it.
 use Prim.Native.Nat.{ℕ, _≤_}
 use lib.IntN.{ℤ, natAbs}
 

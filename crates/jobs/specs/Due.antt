@@ -13,14 +13,14 @@ use Rattle.jobs.specs.Job.{ascends, before, namesPair, rowBefore}
 abbrev pub order : List ℕ
 order = 14 ∷ 13 ∷ 15 ∷ 16 ∷ 17 ∷ []
 
--- the numbers of a list that stand before k
+-- the numbers of a list that stand before k (rule 4.32)
 abbrev pub upTo : ℕ → List ℕ → List ℕ
 upTo k [] = []
 upTo k (x ∷ xs) = cond (eqb x k) [] (x ∷ upTo k xs)
 
 -- of a job's n and lists, and the places of its triangle and work tables
 module _ (n : ℕ) (candidates : List (List ℕ)) (weights : List ℕ) (rows : List (List ℕ)) (trianglePlaces workPlaces : ℕ) where
-  -- number k is due
+  -- number k is due (rules 4.13 to 4.17)
   pub data Due : ℕ → Type 0 where
     -- n is not from 3 to 64 (rule 4.14)
     few-vertices : n < minVertices → Due 14

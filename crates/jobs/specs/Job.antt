@@ -21,7 +21,7 @@ enough needed lent = leb needed lent
 unfoldable pub ascends : ℕ → ℕ → ℕ → ℕ → Bool
 ascends n a b c = both (ltb a b) (both (ltb b c) (ltb c n))
 
--- the smaller number comes first, and of equal numbers the rest decides
+-- the smaller number comes first, and of equal numbers the rest decides (rules 2.4, 2.13)
 abbrev pub lexicographic : ℕ → ℕ → Bool → Bool
 lexicographic x y rest = either (ltb x y) (both (eqb x y) rest)
 
@@ -41,7 +41,7 @@ candidateFits n candidates i =
 abbrev pub candidatesFit : ℕ → List (List ℕ) → Bool
 candidatesFit n candidates = every 0 (length candidates) (candidateFits n candidates)
 
--- the edge (i, j) is the edge (k, l)
+-- the edge (i, j) is the edge (k, l) (rule 2.9)
 abbrev pub sameEdge : ℕ → ℕ → ℕ → ℕ → Bool
 sameEdge i j k l = both (eqb i k) (eqb j l)
 
@@ -74,7 +74,7 @@ rowsFit candidates rows = every 0 (length rows) (rowFits candidates rows)
 abbrev pub weightsFit : List ℕ → ℕ → Bool
 weightsFit weights count = every 0 count (λ i. leb (getD weights i 0) maxWeight)
 
--- nor one of a row
+-- nor one of a row (rule 4.17)
 abbrev pub rowWeightsFit : List (List ℕ) → Bool
 rowWeightsFit rows = every 0 (length rows) (λ i. leb (rowWeight (entryAt rows i)) maxWeight)
 
@@ -82,11 +82,11 @@ rowWeightsFit rows = every 0 (length rows) (λ i. leb (rowWeight (entryAt rows i
 abbrev pub unless : Bool → ℕ → ℕ → ℕ
 unless test number next = cond test next number
 
--- 14 alone, or 0
+-- 14 alone, or 0 (rule 4.14)
 abbrev pub countCode : ℕ → ℕ
 countCode n = unless (countFits n) 14 0
 
--- 13 for the weights, 15, 16 and 17: all that a job's lists are tested for
+-- 13 for the weights, 15, 16 and 17: all that a job's lists are tested for (rule 4.32)
 unfoldable pub listsCode : ℕ → List (List ℕ) → List ℕ → List (List ℕ) → ℕ
 listsCode n candidates weights rows =
     unless (enough (length candidates) (length weights)) 13
@@ -94,7 +94,7 @@ listsCode n candidates weights rows =
     (unless (rowsFit candidates rows) 16
     (unless (both (weightsFit weights (length candidates)) (rowWeightsFit rows)) 17 0)))
 
--- the number of a job and of the places lent with it, 0 where it is accepted: that it is the first number due is proved (Due.antt)
+-- the number of a job and of the places lent with it, 0 where it is accepted: that it is the first number due is proved (Due.antt) (rule 4.32)
 unfoldable pub jobCode : ℕ → List (List ℕ) → List ℕ → List (List ℕ) → ℕ → ℕ → ℕ
 jobCode n candidates weights rows trianglePlaces workPlaces =
     unless (countFits n) 14

@@ -4,7 +4,7 @@ use mathlib.Core.List.{List, [], _∷_, _++_}
 use Prim.Native.Nat.{ℕ, zero, suc, _-_}
 use lib.ListN.{length, drop}
 
--- the first places hold the list l, all further places what the table t held
+-- the first places hold the list l, all further places what the table t held (rule 3.9)
 abbrev pub filled : {A : Type 0} → List A → List A → List A
 filled l t = l ++ drop (length l) t
 

@@ -1,4 +1,4 @@
--- What the dynamic programme computes from the tables of a job. Contracts of inner functions cite this file; no reader has to believe it.
+-- What the dynamic programme computes from the tables of a job. What functions say to each other; nobody has to believe it.
 use Prim.Native.Nat.{ℕ, zero, suc, _+_, _-_, _≤_, _<_}
 use mathlib.Core.Path.{_≡_}
 use mathlib.Core.Logic.{_≢_, _⊎_}

@@ -16,7 +16,7 @@ use Rattle.triangulator.specs.declared.Outcome.{Outcome}
 use Rattle.triangulator.specs.declared.Outcome.the-variants.{Refused}
 use Rattle.triangulator.specs.Call.{Result, settled}
 
--- the five lent tables
+-- the five lent tables (rule 5.1)
 pub record Tables : Type 0 where
   pub triangles : List ℕ
   pub candidates : List (List ℕ)

@@ -20,11 +20,11 @@ origin = point (pos 0) (pos 0) (pos 0)
 abbrev pub vertexAt : List GridPoint → ℕ → GridPoint
 vertexAt vertices i = getD vertices i origin
 
--- what stands for a polygon in a refusal: no vertex, and the origin at each place
+-- what stands for a polygon in a refusal: no vertex, and the origin at each place (rule 4.30)
 abbrev pub emptyPolygon : Polygon
 emptyPolygon = record { n = 0; «area_factor» = 0; «bend_factor» = 0; vertices = replicate maxVertices origin }
 
--- two grid points are one
+-- two grid points are one (rule 4.11)
 abbrev pub samePoint : GridPoint → GridPoint → Bool
 samePoint p q = both (equal (p .x) (q .x)) (both (equal (p .y) (q .y)) (equal (p .z) (q .z)))
 
@@ -48,7 +48,7 @@ codeOf p =
     (cond (repeatedVertex (p .vertices) (p .n)) 11 0))
     9)))
 
--- a polygon on which no number is due
+-- a polygon on which no number is due (rule 4.34)
 pub record Valid (p : Polygon) : Type 0 where
   pub area-factor : p .«area_factor» ≤ maxAreaFactor
   pub bend-factor : p .«bend_factor» ≤ maxBendFactor

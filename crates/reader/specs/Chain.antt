@@ -32,7 +32,7 @@ heightBefore s zero = Unknown
 heightBefore s (suc i) =
     cond (eqb (kind s (offset (link s i))) 1) (Known (roundEighths (thirdNumber s (offset (link s i))))) (heightBefore s i)
 
--- the vertex at position i, or the first number due on its record
+-- the vertex at position i, or the first number due on its record (rule 1.8)
 abbrev pub vertexAt : List ℕ → ℕ → Vertex
 vertexAt s i = vertexOf (recordAt s (offset (link s i)) (known (heightBefore s i))) (heightOf (heightBefore s i))
 
@@ -52,7 +52,7 @@ positionCode s i =
     (cond (leb maxVertices i) 5
     (numberOf (vertexAt s i))))
 
--- the first number due from position i on, of k positions, 0 where the chain ends before
+-- the first number due from position i on, of k positions, 0 where the chain ends before (rule 4.31)
 unfoldable pub codeFrom : List ℕ → ℕ → ℕ → ℕ
 codeFrom s i zero = 0
 codeFrom s i (suc k) =
@@ -66,7 +66,7 @@ endFrom s i (suc k) =
     let rest = endFrom s (suc i) k in
     cond (eqb (link s i) 0) i rest
 
--- a link after the last vertex that may be is refused unless it is 0, so that one position more is all
+-- a link after the last vertex that may be is refused unless it is 0, so that one position more is all (rule 4.5)
 abbrev pub chainCode : List ℕ → ℕ
 chainCode s = codeFrom s 0 (suc maxVertices)
 

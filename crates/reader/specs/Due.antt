@@ -28,7 +28,7 @@ pub record HasRecords (s : List ℕ) (m : ℕ) : Type 0 where
   pub in-file : (i : ℕ) → i < m → InFile s (link s i)
   pub different : (i j : ℕ) → i < j → j < m → link s i ≡ link s j → ⊥
 
--- the kind of the record at position i, and whether its last four bytes are zero
+-- the kind of the record at position i, and whether its last four bytes are zero (rules 1.3, 1.7)
 abbrev pub kindAt : List ℕ → ℕ → ℕ
 kindAt s i = kind s (offset (link s i))
 

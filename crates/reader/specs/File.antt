@@ -31,7 +31,7 @@ bendFactor s = u16At s 6
 abbrev pub maxRecords : ℕ
 maxRecords = 256
 
--- the numbers that a link can have up to that, with 0, which names no record
+-- the numbers that a link can have up to that, with 0, which names no record (rule 1.5)
 abbrev pub recordNumbers : ℕ
 recordNumbers = suc maxRecords
 

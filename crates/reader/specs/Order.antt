@@ -1,7 +1,7 @@
 -- Where a number can be due on a rim file, which of two comes first, and what the first number due is. Definitions only.
 use Prim.Native.Nat.{ℕ, _<_}
 
--- a number is due on the header, at a position of the chain, or on the rim as a whole
+-- a number is due on the header, at a position of the chain, or on the rim as a whole (rule 4.31)
 pub data Place : Type 0 where
   header : Place
   position : ℕ → Place

@@ -12,7 +12,7 @@ use Rattle.reader.specs.declared.Status.{Status}
 use Rattle.reader.specs.declared.Status.the-variants.{Complete, Refused}
 use Rattle.reader.specs.declared.Reading.{Reading}
 
--- the first of two numbers that is due
+-- the first of two numbers that is due (rule 4.31)
 abbrev pub firstDue : ℕ → ℕ → ℕ
 firstDue zero k = k
 firstDue (suc j) k = suc j
@@ -31,7 +31,7 @@ numberDue s =
 abbrev pub polygonOf : List ℕ → Polygon
 polygonOf s = record { n = vertexCount s; «area_factor» = areaFactor s; «bend_factor» = bendFactor s; vertices = verticesOf s (vertexCount s) }
 
--- the number of each case of the answer
+-- the number of each case of the answer (rule 5.2)
 abbrev pub statusNumber : Status → ℕ
 statusNumber Complete = 0
 statusNumber (Refused k) = k
@@ -40,7 +40,7 @@ statusNumber (Refused k) = k
 abbrev pub refusal : ℕ → Reading
 refusal k = record { status = Refused k; polygon = emptyPolygon }
 
--- the answer with a number that is due, and with none
+-- the answer with a number that is due, and with none (rule 5.1)
 abbrev pub answer : ℕ → Polygon → Reading
 answer zero p = record { status = Complete; polygon = p }
 answer (suc k) p = refusal (suc k)

@@ -19,7 +19,7 @@ use Rattle.reader.specs.declared.Vertex.{Vertex}
 use Rattle.reader.specs.declared.Vertex.the-variants.{At}
 use Rattle.reader.specs.declared.Vertex.the-variants as vertex-variants
 
--- is there a point before, whose height a level point takes? and that height
+-- is there a point before, whose height a level point takes? and that height (rule 1.7)
 abbrev pub known : Height → Bool
 known Unknown = false
 known (Known h) = true
@@ -47,7 +47,7 @@ everyNumber P (v ∷ vs) = both (P v) (everyNumber P vs)
 unfoldable pub numbersCode : List Float → ℕ
 numbersCode vs = cond (everyNumber finite vs) (cond (everyNumber inRange vs) 0 9) 8
 
--- the vertex, unless a number is due
+-- the vertex, unless a number is due (rule 4.31)
 abbrev pub vertexUnless : ℕ → GridPoint → Vertex
 vertexUnless zero p = At p
 vertexUnless (suc k) p = vertex-variants.Refused (suc k)

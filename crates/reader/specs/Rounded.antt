@@ -17,7 +17,7 @@ pub record RoundsTo (v : Float) (g : ℤ) : Type 0 where
   pub half-step : HalfStep v g
   pub even-half : EvenHalf v g
 
--- where the record at position i of the chain starts in the file
+-- where the record at position i of the chain starts in the file (rule 1.3)
 abbrev pub recordStart : List ℕ → ℕ → ℕ
 recordStart s i = offset (link s i)
 

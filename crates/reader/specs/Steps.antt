@@ -1,4 +1,4 @@
--- What the reader's private functions return, in terms of the definitions beside this file. Definitions only.
+-- What the reader's private functions return, in terms of the definitions beside this file. What functions say to each other; nobody has to believe it.
 use mathlib.Core.Path.{_≡_}
 use Prim.Native.Nat.{ℕ, zero, suc, _+_, _≤_, _<_}
 use mathlib.Core.Bool.{Bool, true, false, cond}

@@ -3,7 +3,7 @@ use mathlib.Core.List.{List, [], _∷_}
 use Prim.Native.Nat.{ℕ}
 use lib.ListN.{getD}
 
--- three numbers as an entry
+-- three numbers as an entry (rules 2.4, 2.13)
 abbrev pub triple : ℕ → ℕ → ℕ → List ℕ
 triple x y z = x ∷ y ∷ z ∷ []
 

@@ -9,7 +9,7 @@ minVertices = 3
 abbrev pub maxVertices : ℕ
 maxVertices = 64
 
--- the triples of that many vertices, 64 * 63 * 62 / 6: there are no more candidates
+-- the triples of that many vertices, 64 * 63 * 62 / 6: there are no more candidates (rule 2.4)
 abbrev pub maxTriples : ℕ
 maxTriples = 41664
 

@@ -33,7 +33,7 @@ pub record Demand3 (job : Job) (answer : Answer) : Type 0 where
   pub none-is : answer ≡ none → (s : List ℕ) → Triangulates job s → ⊥
   pub none-if : ((s : List ℕ) → Triangulates job s → ⊥) → answer ≡ none
 
--- a list names each member of a set, nothing else, and nothing twice
+-- a list names each member of a set, nothing else, and nothing twice (rule 3.8)
 pub record NamesOnce (listed set : List ℕ) : Type 0 where
   pub all : (k : ℕ) → List·Memᴰ k set → List·Memᴰ k listed
   pub only : (k : ℕ) → List·Memᴰ k listed → List·Memᴰ k set

@@ -13,7 +13,7 @@ abbrev pub pairWeight : List (List ℕ) → ℕ → ℕ → ℕ
 pairWeight [] o i = 0
 pairWeight (r ∷ rows) o i = cond (eqb (outer r) o && eqb (inner r) i) (rowWeight r) (pairWeight rows o i)
 
--- of candidates (a, b, c), their weights, and rows (outer, inner, weight)
+-- of candidates (a, b, c), their weights, and rows (outer, inner, weight) (rule 3.1)
 abbrev pub jobOf : ℕ → List (List ℕ) → List ℕ → List (List ℕ) → Job
 jobOf n candidates weights rows = record {
   n = n;

@@ -1,4 +1,4 @@
--- The recursion that the dynamic programme computes. That it gives the answer is proved: no reader has to believe this file.
+-- The recursion that the dynamic programme computes; that it gives the answer is proved. What functions say to each other; nobody has to believe it.
 use Prim.Native.Nat.{ℕ, zero, suc, _+_, _*_, _^_}
 use mathlib.Core.Bool.{cond}
 use mathlib.Core.List.{List, [], _∷_, _++_, map}

@@ -16,14 +16,14 @@ pub record Job : Type 0 where
   pub weight : ℕ → ℕ
   pub row : ℕ → ℕ → ℕ
 
--- what the theorems ask of a job: at least three vertices, and a < b < c < n for each candidate; an accepted job and a rim's have it
+-- what the theorems ask of a job: at least three vertices, and a < b < c < n for each candidate; an accepted job and a rim's have it (rules 4.14, 4.15)
 pub record Valid (job : Job) : Type 0 where
   pub n3 : 3 ≤ job .n
   pub ab : (k : ℕ) → k < job .size → job .a k < job .b k
   pub bc : (k : ℕ) → k < job .size → job .b k < job .c k
   pub cn : (k : ℕ) → k < job .size → job .c k < job .n
 
--- 'none', or a patch with its total and its triangles (candidate numbers) in preorder
+-- 'none', or a patch with its total and its triangles (candidate numbers) in preorder (rule 3.7)
 pub data Answer : Type 0 where
   none : Answer
   patch : ℕ → List ℕ → Answer
@@ -58,7 +58,7 @@ abbrev pub upFrom : ℕ → ℕ → List ℕ
 upFrom i zero = []
 upFrom i (suc k) = i ∷ upFrom (suc i) k
 
--- the subsets of a list, each in the list's order
+-- the subsets of a list, each in the list's order (rule 3.3)
 abbrev pub subsets : List ℕ → List (List ℕ)
 subsets [] = [] ∷ []
 subsets (x ∷ xs) = map (λ s. x ∷ s) (subsets xs) ++ subsets xs
@@ -69,30 +69,30 @@ noLater xs [] = true
 noLater [] (y ∷ ys) = false
 noLater (x ∷ xs) (y ∷ ys) = ltb x y || eqb x y && noLater xs ys
 
--- the first in that order, or [] of no list
+-- the first in that order, or [] of no list (rule 3.7)
 abbrev pub least : List (List ℕ) → List ℕ
 least [] = []
 least (x ∷ xs) = cond (noLater x (least xs)) x (least xs)
 
--- an answer from its total and then its triangles
+-- an answer from its total and then its triangles (rule 3.7)
 abbrev pub answerOf : List ℕ → Answer
 answerOf [] = none
 answerOf (x ∷ l) = patch x l
 
 module _ (job : Job) where
-  -- (i, j) is an edge of candidate k, with the third vertex between i and j
+  -- (i, j) is an edge of candidate k, with the third vertex between i and j (rule 3.3)
   abbrev pub longEdge : ℕ → ℕ → ℕ → Bool
   longEdge i j k = eqb (job .a k) i && eqb (job .c k) j
 
-  -- (i, j) is an edge of candidate k, with the third vertex outside i to j
+  -- (i, j) is an edge of candidate k, with the third vertex outside i to j (rule 3.3)
   abbrev pub shortEdge : ℕ → ℕ → ℕ → Bool
   shortEdge i j k = eqb (job .a k) i && eqb (job .b k) j || eqb (job .b k) i && eqb (job .c k) j
 
-  -- how many candidates of s have the edge (i, j), with the third vertex between
+  -- how many candidates of s have the edge (i, j), with the third vertex between (rule 3.3)
   unfoldable pub countBetween : List ℕ → ℕ → ℕ → ℕ
   countBetween s i j = sum (λ k. only (longEdge i j k) 1) s
 
-  -- how many candidates of s have the edge (i, j), with the third vertex outside
+  -- how many candidates of s have the edge (i, j), with the third vertex outside (rule 3.3)
   unfoldable pub countOutside : List ℕ → ℕ → ℕ → ℕ
   countOutside s i j = sum (λ k. only (shortEdge i j k) 1) s
 
@@ -128,7 +128,7 @@ module _ (job : Job) where
   unfolding totalWeight preorderFrom
   key s = totalWeight s ∷ preorder s
 
-  -- all sets of candidates that are triangulations
+  -- all sets of candidates that are triangulations (rule 3.3)
   abbrev pub triangulations : List (List ℕ)
   triangulations = keep isTriangulation (subsets (upFrom 0 (job .size)))
 
@@ -137,6 +137,6 @@ module _ (job : Job) where
   unfolding isTriangulation key
   bestKey = least (map key triangulations)
 
-  -- the answer
+  -- the answer (rule 3.7)
   abbrev pub best : Answer
   best = answerOf bestKey

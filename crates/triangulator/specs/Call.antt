@@ -27,7 +27,7 @@ totalOf (Patch count total) = total
 totalOf None = 0
 totalOf (Refused number) = 0
 
--- the three together
+-- the three together (rule 5.2)
 pub record Values : Type 0 where
   pub number : ℕ
   pub triangles : ℕ
@@ -52,7 +52,7 @@ dueValues (suc k) n answer = values (suc k) 0 0
 abbrev pub partOf : Outcome → List ℕ → List ℕ
 partOf outcome table = cond (leb (trianglesOf outcome) (length table)) (take (trianglesOf outcome) table) []
 
--- an outcome, and what the triangle and work tables hold after the call
+-- an outcome, and what the triangle and work tables hold after the call (rule 5.1)
 pub record Result : Type 0 where
   pub outcome : Outcome
   pub triangles : List ℕ
