@@ -15,7 +15,8 @@ use Rattle.pipeline.specs.Patching.{Tables, Patching}
 use Rattle.exports.specs.declared.PatchAnswer.{PatchAnswer}
 use Rattle.exports.specs.declared.ReadAnswer.{ReadAnswer}
 use Rattle.finder.specs.declared.Sizes.{Sizes}
-use Rattle.finder.specs.declared.Sizes.the-variants as sizes
+use Rattle.finder.specs.Sizes.{placesIn}
+use Rattle.finder.specs.Sizes as sizes
 use Rattle.exports.specs.declared.FindAnswer.{FindAnswer}
 use Rattle.exports.specs.declared.SizesAnswer.{SizesAnswer}
 
@@ -73,8 +74,7 @@ rimListsOf f =
     rimLists (record { number = finder.numberOf (f .answer); candidates = candidateCountOf (f .answer); rows = rowCountOf (f .answer) })
     (f .candidates) (f .weights) (f .rows)
 
--- the places of each table: one per candidate in three of them; zeros with a number (rule 5.5)
+-- the number and the places of each table: those for candidates in three of them (rule 5.5)
 abbrev pub sizesAnswerOf : Sizes → SizesAnswer
-sizesAnswerOf (sizes.Known places) =
-    record { number = 0; triangles = places .triangles; candidates = places .candidates; weights = places .candidates; rows = places .rows; work = places .candidates }
-sizesAnswerOf (sizes.Refused number) = record { number = number; triangles = 0; candidates = 0; weights = 0; rows = 0; work = 0 }
+sizesAnswerOf s =
+    record { number = sizes.numberOf s; triangles = placesIn s .triangles; candidates = placesIn s .candidates; weights = placesIn s .candidates; rows = placesIn s .rows; work = placesIn s .candidates }
