@@ -1,4 +1,4 @@
--- What the exported calls answer, and what they leave in every place of every lent table. Definitions only.
+-- What the exported calls answer (rule 5.6), and what they leave in every place of every lent table. Definitions only.
 use Prim.Native.Nat.{ℕ}
 use mathlib.Core.List.{List}
 use Rattle.polygon.specs.declared.Polygon.{Polygon}
@@ -24,7 +24,7 @@ use Rattle.exports.specs.declared.SizesAnswer.{SizesAnswer}
 abbrev pub patchAnswerOf : Outcome → PatchAnswer
 patchAnswerOf o = record { number = numberOf o; triangles = trianglesOf o; total = totalOf o }
 
--- the one call's answer, with the five tables after it (rule 5.1)
+-- the one call's answer, with the five tables after it (rules 3.8, 3.9)
 pub record RimPatch : Type 0 where
   pub answer : PatchAnswer
   pub left : Tables
@@ -35,7 +35,7 @@ rimPatch answer left = record { answer = answer; left = left }
 abbrev pub rimPatchOf : Patching → RimPatch
 rimPatchOf p = rimPatch (patchAnswerOf (p .outcome)) (p .left)
 
--- a direct job's answer, with the triangle and work tables after it
+-- a direct job's answer, with the triangle and work tables after it (rules 3.8, 3.9)
 pub record JobPatch : Type 0 where
   pub answer : PatchAnswer
   pub triangles : List ℕ
@@ -47,7 +47,7 @@ jobPatch answer triangles work = record { answer = answer; triangles = triangles
 abbrev pub jobPatchOf : Result → JobPatch
 jobPatchOf r = jobPatch (patchAnswerOf (r .outcome)) (r .triangles) (r .work)
 
--- the reader's number, and how many vertices: 0 in a refusal, whose polygon is the empty one
+-- the reader's number, and how many vertices: 0 in a refusal, whose polygon is the empty one (rule 5.6)
 abbrev pub readAnswerOf : Reading → ReadAnswer
 readAnswerOf r = record { number = statusNumber (r .status); vertices = r .polygon .n }
 
@@ -59,7 +59,7 @@ findAfter status.Complete p candidates weights rows = findCall p candidates weig
 unfoldable pub findFile : List ℕ → List (List ℕ) → List ℕ → List (List ℕ) → Finding
 findFile file candidates weights rows = findAfter (readingOf file .status) (readingOf file .polygon) candidates weights rows
 
--- the finder's answer as three numbers, with its three tables after it
+-- the finder's answer as three numbers, with its three tables after it (rule 5.6)
 pub record RimLists : Type 0 where
   pub answer : FindAnswer
   pub candidates : List (List ℕ)
