@@ -20,14 +20,14 @@ use Rattle.triangulator.specs.Demands.{Taken, a-patch, a-none}
 use Rattle.triangulator.specs.declared.Outcome.{Outcome}
 use Rattle.triangulator.proofs.Demands.{settled-taken}
 use Rattle.pipeline.specs.Patching.{Tables, Patching, refused, jobIn, tablesShort, patchBy, polygonNumber, fileNumber, patchFile}
-use Rattle.pipeline.specs.Sizes.{sizesFile}
+use Rattle.pipeline.specs.Sizes.{sizesNumber, sizesFile}
 use Rattle.demands.specs.Demand1.{TooShort, triangles, candidates, weights, rows, work}
 use Rattle.demands.proofs.Demand1.{short-true, true-short}
 
 module _ (file : List ℕ) (t : Tables) where
   -- the number that no table has a part in
   abbrev own : ℕ
-  own = firstDue (reader.numberDue file) (numberDue false (polygonOf file))
+  own = sizesNumber file
 
   -- it is that of the call
   own-first : (k : ℕ) → own ≡ suc k → fileNumber file t ≡ suc k

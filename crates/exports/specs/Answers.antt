@@ -1,4 +1,4 @@
--- What the exported calls answer, and what they leave in every place of every lent table. Definitions only.
+-- What the exported calls answer (rule 5.6), and what they leave in every place of every lent table. Definitions only.
 use Prim.Native.Nat.{ℕ}
 use mathlib.Core.List.{List}
 use Rattle.polygon.specs.declared.Polygon.{Polygon}
@@ -15,7 +15,8 @@ use Rattle.pipeline.specs.Patching.{Tables, Patching}
 use Rattle.exports.specs.declared.PatchAnswer.{PatchAnswer}
 use Rattle.exports.specs.declared.ReadAnswer.{ReadAnswer}
 use Rattle.finder.specs.declared.Sizes.{Sizes}
-use Rattle.finder.specs.declared.Sizes.the-variants as sizes
+use Rattle.finder.specs.Sizes.{placesIn}
+use Rattle.finder.specs.Sizes as sizes
 use Rattle.exports.specs.declared.FindAnswer.{FindAnswer}
 use Rattle.exports.specs.declared.SizesAnswer.{SizesAnswer}
 
@@ -23,7 +24,7 @@ use Rattle.exports.specs.declared.SizesAnswer.{SizesAnswer}
 abbrev pub patchAnswerOf : Outcome → PatchAnswer
 patchAnswerOf o = record { number = numberOf o; triangles = trianglesOf o; total = totalOf o }
 
--- the one call's answer, with the five tables after it (rule 5.1)
+-- the one call's answer, with the five tables after it (rules 3.8, 3.9)
 pub record RimPatch : Type 0 where
   pub answer : PatchAnswer
   pub left : Tables
@@ -34,7 +35,7 @@ rimPatch answer left = record { answer = answer; left = left }
 abbrev pub rimPatchOf : Patching → RimPatch
 rimPatchOf p = rimPatch (patchAnswerOf (p .outcome)) (p .left)
 
--- a direct job's answer, with the triangle and work tables after it
+-- a direct job's answer, with the triangle and work tables after it (rules 3.8, 3.9)
 pub record JobPatch : Type 0 where
   pub answer : PatchAnswer
   pub triangles : List ℕ
@@ -46,7 +47,7 @@ jobPatch answer triangles work = record { answer = answer; triangles = triangles
 abbrev pub jobPatchOf : Result → JobPatch
 jobPatchOf r = jobPatch (patchAnswerOf (r .outcome)) (r .triangles) (r .work)
 
--- the reader's number, and how many vertices: 0 in a refusal, whose polygon is the empty one
+-- the reader's number, and how many vertices: 0 in a refusal, whose polygon is the empty one (rule 5.6)
 abbrev pub readAnswerOf : Reading → ReadAnswer
 readAnswerOf r = record { number = statusNumber (r .status); vertices = r .polygon .n }
 
@@ -58,7 +59,7 @@ findAfter status.Complete p candidates weights rows = findCall p candidates weig
 unfoldable pub findFile : List ℕ → List (List ℕ) → List ℕ → List (List ℕ) → Finding
 findFile file candidates weights rows = findAfter (readingOf file .status) (readingOf file .polygon) candidates weights rows
 
--- the finder's answer as three numbers, with its three tables after it
+-- the finder's answer as three numbers, with its three tables after it (rule 5.6)
 pub record RimLists : Type 0 where
   pub answer : FindAnswer
   pub candidates : List (List ℕ)
@@ -73,8 +74,7 @@ rimListsOf f =
     rimLists (record { number = finder.numberOf (f .answer); candidates = candidateCountOf (f .answer); rows = rowCountOf (f .answer) })
     (f .candidates) (f .weights) (f .rows)
 
--- the places of each table: one per candidate in three of them; zeros with a number (rule 5.5)
+-- the number and the places of each table: those for candidates in three of them (rule 5.5)
 abbrev pub sizesAnswerOf : Sizes → SizesAnswer
-sizesAnswerOf (sizes.Known places) =
-    record { number = 0; triangles = places .triangles; candidates = places .candidates; weights = places .candidates; rows = places .rows; work = places .candidates }
-sizesAnswerOf (sizes.Refused number) = record { number = number; triangles = 0; candidates = 0; weights = 0; rows = 0; work = 0 }
+sizesAnswerOf s =
+    record { number = sizes.numberOf s; triangles = placesIn s .triangles; candidates = placesIn s .candidates; weights = placesIn s .candidates; rows = placesIn s .rows; work = placesIn s .candidates }

@@ -21,8 +21,10 @@ use Rattle.finder.specs.declared.Found.{Found}
 use Rattle.finder.specs.declared.Found.the-variants.{Refused}
 use Rattle.finder.specs.declared.Places.{Places}
 use Rattle.finder.specs.declared.Sizes.the-variants.{Known}
-use Rattle.finder.specs.declared.Sizes.the-variants as sizes
-use Rattle.finder.specs.Sizes.{sizesBy, sizesOf}
+use Rattle.finder.specs.declared.Sizes.the-variants as variants
+use Rattle.finder.specs.declared.Sizes.{Sizes}
+use Rattle.finder.specs.Sizes.{placesIn, duePlaces, sizesBy, sizesOf}
+use Rattle.finder.specs.Sizes as sizes
 use Rattle.finder.specs.Finding.{Finding, finding, valuesOf, dueValues, short, shortTables, shortBeside, numberDue, findBy, findNumber, besideNumber, findBesideCall}
 use Rattle.finder.specs.Filling.{placesFor, fillOr13}
 
@@ -82,7 +84,7 @@ module _ (p : Polygon) where
   due-13 tooShort e = thirteen-last tooShort ∙ ap (λ (k : ℕ). then13 k tooShort) e
 
   -- ---- the places
-  pub sizes-refused : (k : ℕ) → k ≡ numberDue false p → (k ≡ 0 → ⊥) → sizes.Refused k ≡ sizesOf p
+  pub sizes-refused : (k : ℕ) → k ≡ numberDue false p → (k ≡ 0 → ⊥) → variants.Refused k ≡ sizesOf p
   sizes-refused zero e h = absurd (h refl)
   sizes-refused (suc k) e h = ap (λ (k : ℕ). sizesBy k p) e
 
@@ -90,6 +92,18 @@ module _ (p : Polygon) where
   sizes-known {places} {found} e f g =
       ap (λ (x : Places). Known x) (g ∙ ap (placesFor (p .n)) f ∙ ap (λ (m : ℕ). record { triangles = p .n - 2; candidates = length (candidatesOf p); rows = m }) (sym (row-count p (candidatesOf p))))
       ∙ ap (λ (k : ℕ). sizesBy k p) (sym e)
+
+-- the number and the places of a sizing call, by the number due
+pub sizes-values : (p : Polygon) (k : ℕ) {r : Sizes} → r ≡ sizesBy k p → (r ≡ sizesBy k p) × ((sizes.numberOf r ≡ k) × (placesIn r ≡ duePlaces k p))
+sizes-values p k e = (e, (ap sizes.numberOf e ∙ number k, ap placesIn e ∙ places k))
+  where
+    number : (k : ℕ) → sizes.numberOf (sizesBy k p) ≡ k
+    number zero = refl
+    number (suc k) = refl
+
+    places : (k : ℕ) → placesIn (sizesBy k p) ≡ duePlaces k p
+    places zero = refl
+    places (suc k) = refl
 
 -- ---- the answer and the tables
 -- the number and the counts of an answer, by the number due

@@ -14,6 +14,23 @@ use Rattle.finder.specs.Finding.{numberDue}
 abbrev pub placesOf : Polygon → Places
 placesOf p = record { triangles = p .n - 2; candidates = length (candidatesOf p); rows = length (rowsOf p (candidatesOf p)) }
 
+-- the number and the places of each case of an answer (rules 5.2, 5.5)
+abbrev pub noPlaces : Places
+noPlaces = record { triangles = 0; candidates = 0; rows = 0 }
+
+abbrev pub numberOf : Sizes → ℕ
+numberOf (Known places) = 0
+numberOf (Refused number) = number
+
+abbrev pub placesIn : Sizes → Places
+placesIn (Known places) = places
+placesIn (Refused number) = noPlaces
+
+-- what the places are by the first number due
+abbrev pub duePlaces : ℕ → Polygon → Places
+duePlaces zero p = placesOf p
+duePlaces (suc k) p = noPlaces
+
 -- the places, or the first number due on the polygon itself, before any table is looked at (rule 5.5)
 abbrev pub sizesBy : ℕ → Polygon → Sizes
 sizesBy zero p = Known (placesOf p)

@@ -1,13 +1,15 @@
 // The candidate finder: from a polygon to its candidates, their weights and the rows of hanging pairs.
 use polygon::Polygon;
 ghost use mathlib.Core.Path.{_≡_};
+ghost use mathlib.Core.Bool.{false};
 ghost use Prim.Native.Nat.{_≤_};
 ghost use Rattle.terms.specs.Limits.{minVertices, maxVertices};
 ghost use Rattle.faces.specs.Faces.{triplesOf};
 ghost use Rattle.faces.specs.Masks.{has, emptySet};
 ghost use Rattle.dihedrals.specs.Lists.{Solid};
-ghost use Rattle.finder.specs.Finding.{numberOf, candidateCountOf, rowCountOf, valuesOf, dueValues, finding, findNumber, findCall, besideNumber, findBesideCall};
-ghost use Rattle.finder.specs.Sizes.{sizesOf};
+ghost use Rattle.finder.specs.Finding.{numberOf, candidateCountOf, rowCountOf, valuesOf, dueValues, finding, numberDue, findNumber, findCall, besideNumber, findBesideCall};
+ghost use Rattle.finder.specs.Sizes.{placesIn, duePlaces, sizesOf};
+ghost use Rattle.finder.specs.Sizes as sizes;
 ghost use Rattle.finder.specs.Filling.{facesOf, placesFor, Searched, Room, Written, fillOr13};
 
 // What the finder answers.
@@ -99,6 +101,7 @@ fn count_places(n: usize, masks: &[u64; faces::PAIRS]) -> Places
 // The places that the lent tables need for this polygon, or the number due on it: 2, 5, 9, 10, 11 or 12.
 pub fn table_sizes(p: Polygon) -> Sizes
     ensures { λ r. ⌜ r ≡ sizesOf p ⌝ }
+    ensures { λ r. ⌜ (sizes.numberOf r ≡ numberDue false p) × (placesIn r ≡ duePlaces (numberDue false p) p) ⌝ }
 {
     let mut masks = [0u64; faces::PAIRS];
     let number = search(p, &mut masks);

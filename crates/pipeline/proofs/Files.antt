@@ -12,10 +12,11 @@ use Rattle.reader.specs.Reading as reader
 use Rattle.finder.specs.Finding.{numberDue}
 use Rattle.finder.specs.declared.Sizes.{Sizes}
 use Rattle.finder.specs.declared.Sizes.the-variants as sizes
-use Rattle.finder.specs.Sizes.{sizesBy, sizesOf}
+use Rattle.finder.specs.Sizes.{noPlaces, numberOf, placesIn, duePlaces, sizesBy, sizesOf}
+use Rattle.finder.proofs.Answers.{sizes-values}
 use Rattle.triangulator.specs.declared.Outcome.the-variants.{Refused}
 use Rattle.pipeline.specs.Patching.{Tables, Patching, patching, patchBy, polygonNumber, patchPolygon, patchFile}
-use Rattle.pipeline.specs.Sizes.{sizesFile}
+use Rattle.pipeline.specs.Sizes.{sizesNumber, sizesFile}
 
 -- what the reader's answer says of the first number due
 module _ (s : List ℕ) {r : Reading} (e : r ≡ readingOf s) where
@@ -58,11 +59,18 @@ module _ (s : List ℕ) (t : Tables) {r : Reading} where
   unfolding patchFile patchPolygon
   file-read d e f = f ∙ by-polygon s e (λ (k : ℕ) (p : Polygon). patchBy k p t) (λ (k : ℕ). patching (Refused k) t) (λ k. refl) (λ (p : Polygon). polygonNumber p t) d
 
-module _ (s : List ℕ) {r : Reading} where
-  pub sizes-refused : (k : ℕ) → r .status ≡ status.Refused k → r ≡ readingOf s → sizes.Refused k ≡ sizesFile s
-  unfolding sizesFile
-  sizes-refused k d e = by-refusal s e sizesBy (λ (k : ℕ). sizes.Refused k) (λ k. refl) (λ (p : Polygon). numberDue false p) k d
+-- the equation of the sizing call gives its number and places
+values : (s : List ℕ) {x : Sizes} → x ≡ sizesFile s → (x ≡ sizesFile s) × ((numberOf x ≡ sizesNumber s) × (placesIn x ≡ duePlaces (sizesNumber s) (polygonOf s)))
+unfolding sizesFile
+values s e = sizes-values (polygonOf s) (sizesNumber s) e
 
-  pub sizes-read : {x : Sizes} → r .status ≡ status.Complete → r ≡ readingOf s → x ≡ sizesOf (r .polygon) → x ≡ sizesFile s
+module _ (s : List ℕ) {r : Reading} where
+  pub sizes-refused : (k : ℕ) → r .status ≡ status.Refused k → r ≡ readingOf s →
+      (sizes.Refused k ≡ sizesFile s) × ((k ≡ sizesNumber s) × (noPlaces ≡ duePlaces (sizesNumber s) (polygonOf s)))
   unfolding sizesFile
-  sizes-read d e f = f ∙ by-polygon s e sizesBy (λ (k : ℕ). sizes.Refused k) (λ k. refl) (λ (p : Polygon). numberDue false p) d
+  sizes-refused k d e = values s (by-refusal s e sizesBy (λ (k : ℕ). sizes.Refused k) (λ k. refl) (λ (p : Polygon). numberDue false p) k d)
+
+  pub sizes-read : {x : Sizes} → r .status ≡ status.Complete → r ≡ readingOf s → x ≡ sizesOf (r .polygon) →
+      (x ≡ sizesFile s) × ((numberOf x ≡ sizesNumber s) × (placesIn x ≡ duePlaces (sizesNumber s) (polygonOf s)))
+  unfolding sizesFile
+  sizes-read d e f = values s (f ∙ by-polygon s e sizesBy (λ (k : ℕ). sizes.Refused k) (λ k. refl) (λ (p : Polygon). numberDue false p) d)

@@ -8,6 +8,10 @@ use Rattle.finder.specs.declared.Sizes.{Sizes}
 use Rattle.finder.specs.Finding.{numberDue}
 use Rattle.finder.specs.Sizes.{sizesBy}
 
--- 1 to 11 in the reader's order, then those of its polygon, before any table is looked at; else the places (rule 5.5)
+-- the first number due before any table is looked at (rule 4.31): 1 to 11 in the reader's order, then those of its polygon
+abbrev pub sizesNumber : List ℕ → ℕ
+sizesNumber file = firstDue (reader.numberDue file) (numberDue false (polygonOf file))
+
+-- that number, or the places (rule 5.5)
 unfoldable pub sizesFile : List ℕ → Sizes
-sizesFile file = sizesBy (firstDue (reader.numberDue file) (numberDue false (polygonOf file))) (polygonOf file)
+sizesFile file = sizesBy (sizesNumber file) (polygonOf file)

@@ -8,12 +8,14 @@ ghost use mathlib.Core.Path.{_≡_};
 ghost use Prim.Native.Nat.{_+_, _≤_};
 ghost use lib.ListN.{length, take};
 ghost use Rattle.reader.specs.Reading.{polygonOf};
+ghost use Rattle.finder.specs.Sizes.{placesIn, duePlaces};
+ghost use Rattle.finder.specs.Sizes as sizes;
 ghost use Rattle.triangulation.specs.Triangulations.{best};
 ghost use Rattle.triangulation.specs.Jobs.{jobOf};
 ghost use Rattle.minimum_weight.specs.Tables.{WellFormed};
 ghost use Rattle.triangulator.specs.Call.{valuesOf, dueValues, result, settled};
 ghost use Rattle.pipeline.specs.Patching.{tables, patching, jobIn, polygonNumber, patchPolygon, fileNumber, patchFile};
-ghost use Rattle.pipeline.specs.Sizes.{sizesFile};
+ghost use Rattle.pipeline.specs.Sizes.{sizesNumber, sizesFile};
 
 // The best triangulation by the lists in the first places of the tables.
 fn triangulate_first(
@@ -96,6 +98,7 @@ pub fn patch_file(
 // The places that the lent tables need for a rim file, or the number due on it: 1 to 12.
 pub fn table_sizes(file: &[u8]) -> Sizes
     ensures { λ r. ⌜ r ≡ sizesFile (now (file .entry)) ⌝ }
+    ensures { λ r. ⌜ (sizes.numberOf r ≡ sizesNumber (now (file .entry))) × (placesIn r ≡ duePlaces (sizesNumber (now (file .entry))) (polygonOf (now (file .entry)))) ⌝ }
 {
     let reading = reader::read_polygon(file);
     let status = reading.status;

@@ -12,7 +12,7 @@ sizes-answer-requires : tie.Need-sizes-answer-requires
 sizes-answer-requires c κs = search needs
 
 returns : tie.Need-returns
-returns c = c .sizes-answer .ensures ∙ ap sizesAnswerOf (c .before .table-sizes .ensures)
+returns c = c .sizes-answer .ensures ∙ ap sizesAnswerOf (c .before .table-sizes .ensures .0)
 
 pub patch-box-sizes-spec : {M : Type 1} → statement M
 patch-box-sizes-spec = tie.close (tie.spec table-sizes-requires sizes-answer-requires returns)

@@ -5,7 +5,7 @@ use borrow.Author.Needs.{needs}
 use Rattle.polygon.specs.Polygon.{Valid}
 use Rattle.polygon.proofs.Validity.{code-valid}
 use Rattle.finder.specs.Finding.{numberDue}
-use Rattle.finder.proofs.Answers.{clear, sizes-refused, sizes-known}
+use Rattle.finder.proofs.Answers.{clear, sizes-refused, sizes-known, sizes-values}
 use Rattle.finder.proofs.table_sizes.Statement.{statement}
 use Rattle.finder.proofs.table_sizes.Tie as tie
 
@@ -13,7 +13,9 @@ search-requires : tie.Need-search-requires
 search-requires c κs = search needs
 
 returns : tie.Need-returns
-returns c = sizes-refused (c .before .before .before .args .p) _ (c .before .search .ensures .is-due) (c .if1 .taken)
+returns c =
+    let p = c .before .before .before .args .p in
+    sizes-values p (numberDue false p) (sizes-refused p _ (c .before .search .ensures .is-due) (c .if1 .taken))
 
 none-due : (g : tie.Else1) → numberDue false (g .before .before .before .args .p) ≡ 0
 none-due g = sym (g .before .search .ensures .is-due) ∙ g .if1 .left
@@ -27,7 +29,9 @@ count-places-requires c κs =
 returns-2 : tie.Need-returns-2
 returns-2 c =
     let g = c .before .before in
-    sizes-known (g .before .before .before .args .p) (none-due g) (g .before .search .ensures .listed (g .if1 .left)) (c .count-places .ensures)
+    let p = g .before .before .before .args .p in
+    sizes-values p (numberDue false p)
+    (sizes-known p (none-due g) (g .before .search .ensures .listed (g .if1 .left)) (c .count-places .ensures))
 
 pub table-sizes-spec : {M : Type 1} → statement M
 table-sizes-spec = tie.close (tie.spec search-requires returns count-places-requires returns-2)

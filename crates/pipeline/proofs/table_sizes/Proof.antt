@@ -22,7 +22,7 @@ returns c = sizes-refused (now (c .before .before .before .before .before .befor
 
 returns-2 : tie.Need-returns-2
 returns-2 c =
-    sizes-read (now (c .before .before .before .before .before .before .args .file)) (c .before .enum-told .given .1) (c .before .before .before .before .read-polygon .ensures .0) (c .table-sizes .ensures)
+    sizes-read (now (c .before .before .before .before .before .before .args .file)) (c .before .enum-told .given .1) (c .before .before .before .before .read-polygon .ensures .0) (c .table-sizes .ensures .0)
 
 pub table-sizes-spec : {M : Type 1} → statement M
 table-sizes-spec =
