@@ -3,3 +3,4 @@ pub mod Ring
 pub mod Bounds
 pub mod Order
 pub mod Rounding
+pub mod Newton

@@ -6,22 +6,18 @@ ghost use lib.Signed.{_<ℤ_};
 ghost use Rattle.integers.specs.Bounds.{AtMost};
 ghost use Rattle.integers.specs.Rounding.{floorRoot, floorDiv, clamped};
 
-// The square root, cut down to a whole number: it is at least `root` and below root + span. A round takes the machine no branch,
-// which it could not foresee.
+// The square root, cut down to a whole number, by Newton's iteration: (r + x / r) / 2 is at least the root, and it is below r where
+// r is above the root. The first step is from 2 ^ k, which is above the root, and divides by a shift.
 pub fn floor_root(x: u64) -> u64
     requires { ⌜ x < 2 ^ 52 ⌝ }
     ensures { λ r. ⌜ r ≡ floorRoot x ⌝ }
 {
-    let mut root: u64 = 0;
-    let mut span: u64 = 0x400_0000;
-    while span > 1 {
-        let half = span / 2;
-        let next = root + half;
-        let fits = (next * next <= x) as u64;
-        root += half * fits;
-        span -= half;
+    let k = (65 - u64::leading_zeros(x)) / 2;
+    let mut r = ((1u64 << k) + (x >> k)) / 2;
+    while x < r * r {
+        r = (r + x / r) / 2;
     }
-    root
+    r
 }
 
 // n / k, rounded down. The machine rounds toward zero: one too many where the remainder is below zero.

@@ -1,7 +1,10 @@
 //! Times of the reader, the finder, the tiler and the whole call beside the fast reference in the
 //! same run, over changing rims and jobs. Each figure is the least mean of several rounds, in
-//! microseconds of processor time per call: library, reference, and library / reference. The
-//! finder's call reads the file too. Without the library only the reference is timed.
+//! microseconds per call: library, reference, and library / reference. The time is the clock's:
+//! the machine should be quiet, and the least round is the one that other work disturbed least.
+//! The finder's call reads the file too. Without the library only the reference is timed.
+
+#![forbid(unsafe_code)]
 
 use outside_tests::calls::{Calls, Job, Places, Tables};
 use outside_tests::fast::Fast;
@@ -10,32 +13,13 @@ use outside_tests::library::library;
 use outside_tests::random::Random;
 use outside_tests::rims::{RimFile, Shape};
 use std::hint::black_box;
+use std::time::Instant;
 
 const SIZES: [usize; 6] = [8, 16, 24, 32, 48, 64];
 const ROUNDS: usize = 5;
 
 /// A round takes about so many microseconds.
 const ROUND: f64 = 15_000.0;
-
-#[repr(C)]
-struct Timespec {
-    seconds: i64,
-    nanoseconds: i64,
-}
-
-extern "C" {
-    fn clock_gettime(clock: i32, time: *mut Timespec) -> i32;
-}
-
-/// Microseconds that this thread has run: other work on the machine does not count.
-fn processor_time() -> f64 {
-    const THREAD_CLOCK: i32 = 3;
-    let mut time = Timespec { seconds: 0, nanoseconds: 0 };
-    // The C library that std links has the function, and `time` is its to write.
-    let status = unsafe { clock_gettime(THREAD_CLOCK, &mut time) };
-    assert_eq!(status, 0, "no clock of the thread's time");
-    time.seconds as f64 * 1e6 + time.nanoseconds as f64 / 1e3
-}
 
 /// Microseconds per call over all cases, by each of the two in turn.
 struct Times {
@@ -56,11 +40,11 @@ impl Times {
 
 /// One pass over the cases, as often as fills a round.
 fn round(calls: &dyn Calls, cases: usize, times: usize, call: &mut Call) -> f64 {
-    let start = processor_time();
+    let start = Instant::now();
     for _ in 0..times {
         (0..cases).for_each(|case| call(calls, case));
     }
-    (processor_time() - start) / (times * cases) as f64
+    start.elapsed().as_secs_f64() * 1e6 / (times * cases) as f64
 }
 
 type Call<'a> = dyn FnMut(&dyn Calls, usize) + 'a;

@@ -1,101 +1,100 @@
--- `integers::floor_root` meets its contract. The loop's invariant: the root is at least `root` and below root + span.
-use mathlib.Core.Path.{_≡_, refl, subst}
-use mathlib.Core.Bool.{Bool, true, false}
-use Prim.Native.Nat.{ℕ, _+_, _*_, _-_, _/_, _^_, _≤_, _<_}
-use native.Mathlib.Nat.{le-trans, lt-of-le-of-lt, lt-of-lt-of-le, mul-le-mul-left, mul-le-mul-right}
+-- `integers::floor_root` meets its contract. The loop's invariant: the guess is at least the root, and its square fits. The measure is
+-- the guess (`next-below` of proofs/Newton.antt).
+use mathlib.Core.Path.{_≡_, sym, _∙_, subst}
+use Prim.Native.Nat.{ℕ, _+_, _*_, _-_, _/_, _%_, _^_, _≤_, _<_}
+use native.Mathlib.Nat.{le-trans, lt-of-le-of-lt, mul-le-mul-left, mul-le-mul-right, div-le-self, one-mul}
 use native.Mathlib.Omega.{arith}
-use lib.Dec.{leb, lit<}
-use mir.Syntax.{w64}
-use mir.Val.{Fits, boolByte}
-use borrow.Author.Tests.{leb-true, leb-false}
+use lib.Count.{leading-le}
+use lib.Dec.{lit<}
+use lib.Pow.{pow-mono, pow-pos, shl-exact}
+use Rattle.integers.proofs.Newton.{next, next-above, next-below, guess-above-0, exponent, exponent-small, shifted-below}
 use Rattle.integers.proofs.Rounding.{is-floor-root}
 use Rattle.integers.proofs.floor_root.Statement.{statement}
 use Rattle.integers.proofs.floor_root.Tie as tie
 
-record Inv (x root span : ℕ) : Type 0 where
-  under : root * root ≤ x
-  over : x < (root + span) * (root + span)
-  some : 0 < span
-  small : root + span ≤ 67108864
+record Inv (x r : ℕ) : Type 0 where
+  over : x < (r + 1) * (r + 1)
+  small : r < 4294967296
 
 abbrev Inv-loop : tie.InvT-loop
-Inv-loop x root₀ span₀ root span = Inv x root span
+Inv-loop x k r₀ r = Inv x r
 
 abbrev μ-loop : tie.MeasureT-loop
-μ-loop x root₀ span₀ root span = span
+μ-loop x k r₀ r = r
 
-square-le : {a b : ℕ} → a ≤ b → a * a ≤ b * b
-square-le {a} {b} h = le-trans (mul-le-mul-right a h) (mul-le-mul-left b h)
+below : {x : ℕ} → x < 2 ^ 52 → x < 2 ^ 64
+below h = omega arith
 
-square-as : (x : ℕ) {a b : ℕ} → a ≡ b → x < a * a → x < b * b
-square-as x e p = subst (λ (n : ℕ). x < n * n) e p
+-- the first guess: one step from 2 ^ k
+module _ (x : ℕ) (h : x < 2 ^ 52) where
+  abbrev k : ℕ
+  k = exponent x
 
--- the root is above the middle, or it is not
-module _ (x root span : ℕ) (i : Inv x root span) where
-  upper : (root + span / 2) * (root + span / 2) ≤ x → Inv x (root + span / 2) (span - span / 2)
-  upper h = record { under = h; over = square-as x (omega arith) (i .over); some = omega (arith, i .some); small = omega (arith, i .small) }
+  k-small : k ≤ 32
+  k-small = exponent-small x (below h)
 
-  lower : x < (root + span / 2) * (root + span / 2) → Inv x root (span - span / 2)
-  lower h = record { under = i .under; over = lt-of-lt-of-le h (square-le (omega arith)); some = omega (arith, i .some); small = omega (arith, i .small) }
+  power-is : 1 * 2 ^ k % 2 ^ 64 ≡ 2 ^ k
+  power-is = shl-exact 1 k 64 (lit< tt) (omega (arith, k-small)) ∙ one-mul (2 ^ k)
 
-  abbrev tested : Bool
-  tested = leb ((root + span / 2) * (root + span / 2)) x
+  power-small : 2 ^ k ≤ 4294967296
+  power-small = pow-mono {j = 32} k-small
 
-  chosen : Inv x (root + span / 2 * boolByte tested) (span - span / 2)
-  chosen = go tested refl
-    where
-      go : (b : Bool) → tested ≡ b → Inv x (root + span / 2 * boolByte b) (span - span / 2)
-      go true e = let s : root + span / 2 * 1 ≡ root + span / 2 = omega arith in rw s (upper (leb-true _ x e))
-      go false e = let s : root + span / 2 * 0 ≡ root = omega arith in rw s (lower (leb-false _ x e))
+  sum-small : 1 * 2 ^ k % 2 ^ 64 + x / 2 ^ k < 8589934592
+  sum-small = omega (arith, power-is, power-small, shifted-below x (below h))
 
-  step-fits : Fits w64 (span / 2 * boolByte tested) × Fits w64 (root + span / 2 * boolByte tested)
-  step-fits = go tested
-    where
-      go : (b : Bool) → Fits w64 (span / 2 * boolByte b) × Fits w64 (root + span / 2 * boolByte b)
-      go true = (omega (arith, i .small), omega (arith, i .small))
-      go false = (omega arith, omega (arith, i .small))
+  first : Inv x ((1 * 2 ^ k % 2 ^ 64 + x / 2 ^ k) / 2)
+  first = record { over = subst (λ (p : ℕ). x < ((p + x / 2 ^ k) / 2 + 1) * ((p + x / 2 ^ k) / 2 + 1)) (sym power-is) (next-above x (2 ^ k) (pow-pos k)); small = omega (arith, sum-small) }
+
+step : (x r : ℕ) → Inv x r → x < r * r → Inv x (next x r)
+step x r i h = record { over = next-above x r (guess-above-0 x r h); small = omega (arith, i .small, next-below x r h) }
+
+square-fits : (r : ℕ) → r < 4294967296 → r * r < 2 ^ 64
+square-fits r h = lt-of-le-of-lt (le-trans (mul-le-mul-right r le) (mul-le-mul-left 4294967295 le)) (lit< tt)
+  where
+    le : r ≤ 4294967295
+    le = omega arith
+
+sub-k : tie.Need-sub-k Inv-loop μ-loop
+sub-k c = omega (arith, leading-le 64 (c .args .x))
+
+cast-r : tie.Need-cast-r Inv-loop μ-loop
+cast-r c = omega (arith, k-small (c .args .x) (c .pre))
+
+shl-r : tie.Need-shl-r Inv-loop μ-loop
+shl-r c = omega (arith, k-small (c .args .x) (c .pre))
+
+cast-r-2 : tie.Need-cast-r-2 Inv-loop μ-loop
+cast-r-2 c = omega (arith, k-small (c .args .x) (c .pre))
+
+shr-r : tie.Need-shr-r Inv-loop μ-loop
+shr-r c = omega (arith, k-small (c .args .x) (c .pre))
+
+add-r : tie.Need-add-r Inv-loop μ-loop
+add-r c = omega (arith, sum-small (c .args .x) (c .pre))
 
 loop-holds : tie.Need-loop-holds Inv-loop μ-loop
-loop-holds c = record { under = omega arith; over = omega arith; some = omega arith; small = omega arith }
+loop-holds c = first (c .args .x) (c .pre)
 
-loop-again : tie.Need-loop-again Inv-loop μ-loop
-loop-again c = let k = c .before .loop in chosen (c .before .before .args .x) (k .root) (k .span) (k .inv)
-
-add-next : tie.Need-add-next Inv-loop μ-loop
-add-next c = omega (arith, c .before .loop .inv .small)
-
-next-small : (root span : ℕ) → root + span ≤ 67108864 → root + span / 2 ≤ 67108864
-next-small root span h = omega arith
-
-mul-fits : tie.Need-mul-fits Inv-loop μ-loop
-mul-fits c = let k = c .before .loop in record { fits = lt-of-le-of-lt (square-le (next-small (k .root) (k .span) (k .inv .small))) (lit< tt) }
-
-cast-fits : tie.Need-cast-fits Inv-loop μ-loop
-cast-fits c = tt
-
-mul-root : tie.Need-mul-root Inv-loop μ-loop
-mul-root c = let k = c .before .loop in step-fits (c .before .before .args .x) (k .root) (k .span) (k .inv) .0
-
-add-root : tie.Need-add-root Inv-loop μ-loop
-add-root c = let k = c .before .loop in step-fits (c .before .before .args .x) (k .root) (k .span) (k .inv) .1
-
-sub-span : tie.Need-sub-span Inv-loop μ-loop
-sub-span c = omega arith
+mul-loop : tie.Need-mul-loop Inv-loop μ-loop
+mul-loop c = record { fits = square-fits (c .loop .r) (c .loop .inv .small) }
 
 loop-less : tie.Need-loop-less Inv-loop μ-loop
-loop-less c = omega arith
+loop-less c = next-below (c .before .before .args .x) (c .before .loop .r) (c .loop-test .taken)
+
+div-r : tie.Need-div-r Inv-loop μ-loop
+div-r c = guess-above-0 (c .before .before .args .x) (c .before .loop .r) (c .loop-test .taken)
+
+add-r-2 : tie.Need-add-r-2 Inv-loop μ-loop
+add-r-2 c = omega (arith, c .before .loop .inv .small, c .before .before .pre, div-le-self (c .before .before .args .x) (c .before .loop .r))
+
+loop-again : tie.Need-loop-again Inv-loop μ-loop
+loop-again c = step (c .before .before .args .x) (c .before .loop .r) (c .before .loop .inv) (c .loop-test .taken)
 
 returns : tie.Need-returns Inv-loop μ-loop
 returns c =
-    let k = c .before .loop in
     let x = c .before .before .args .x in
-    is-floor-root x (k .root) (below (c .before .before .pre)) (record { low = k .inv .under; high = square-as x (last (k .root) (k .inv .some) (c .loop-test .left)) (k .inv .over) })
-  where
-    below : {x : ℕ} → x < 2 ^ 52 → x < 2 ^ 64
-    below h = omega arith
-
-    last : (root : ℕ) {span : ℕ} → 0 < span → span ≤ 1 → root + span ≡ root + 1
-    last root h l = omega arith
+    is-floor-root x (c .before .loop .r) (below (c .before .before .pre)) (record { low = c .loop-test .left; high = c .before .loop .inv .over })
 
 pub floor-root-spec : {M : Type 1} → statement M
-floor-root-spec = tie.close (tie.spec Inv-loop μ-loop loop-holds add-next mul-fits cast-fits mul-root add-root sub-span loop-less loop-again returns)
+floor-root-spec =
+    tie.close (tie.spec Inv-loop μ-loop sub-k cast-r shl-r cast-r-2 shr-r add-r loop-holds mul-loop div-r add-r-2 loop-less loop-again returns)
