@@ -9,3 +9,7 @@ pub record AtMost (n : ℕ) (z : ℤ) : Type 0 where
 -- the largest i64
 abbrev pub largest : ℕ
 largest = 9223372036854775807
+
+-- a number that is divided: its quotient, and one less, are i64 with room to spare
+abbrev pub maxDividend : ℕ
+maxDividend = 4000000000000000000

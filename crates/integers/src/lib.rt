@@ -3,7 +3,7 @@ ghost use mathlib.Core.Path.{_≡_};
 ghost use Prim.Native.Nat.{_<_, _^_};
 ghost use lib.IntN.{pos, natAbs};
 ghost use lib.Signed.{_<ℤ_};
-ghost use Rattle.integers.specs.Bounds.{AtMost};
+ghost use Rattle.integers.specs.Bounds.{AtMost, maxDividend};
 ghost use Rattle.integers.specs.Rounding.{floorRoot, floorDiv, clamped};
 
 // The square root, cut down to a whole number, by Newton's iteration: (r + x / r) / 2 is at least the root, and it is below r where
@@ -22,7 +22,7 @@ pub fn floor_root(x: u64) -> u64
 
 // n / k, rounded down. The machine rounds toward zero: one too many where the remainder is below zero.
 pub fn floor_div(n: i64, k: i64) -> i64
-    requires { ⌜ (AtMost 4000000000000000000 n) × (pos 0 <ℤ k) ⌝ }
+    requires { ⌜ (AtMost maxDividend n) × (pos 0 <ℤ k) ⌝ }
     ensures { λ r. ⌜ r ≡ floorDiv n (natAbs k) ⌝ }
 {
     let q = n / k;

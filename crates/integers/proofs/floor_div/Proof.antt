@@ -6,6 +6,7 @@ use lib.Signed.{ltZ}
 use mir.Syntax.{w64}
 use mir.Val.{toZ, ofZ}
 use mir.ValLaws.{toZ-ofZ}
+use Rattle.integers.specs.Bounds.{maxDividend}
 use Rattle.integers.proofs.Bounds.{Holds, given, stored, fits, _-!_}
 use Rattle.integers.proofs.Rounding.{quotient-less-one, quotient-kept, positive-divisor, quotient-held, remainder-held}
 use Rattle.integers.proofs.floor_div.Statement.{statement}
@@ -15,7 +16,7 @@ module _ (s : tie.Start) where
   k! : toZ w64 (ofZ w64 (s .args .k)) ≡ pos (natAbs (s .args .k))
   k! = toZ-ofZ w64 (s .args .k) (s .fits .k) ∙ positive-divisor (s .args .k) (s .pre .1) .1
 
-  n! : Holds 4000000000000000000 (s .args .n) (toZ w64 (ofZ w64 (s .args .n)))
+  n! : Holds maxDividend (s .args .n) (toZ w64 (ofZ w64 (s .args .n)))
   n! = given tt (s .pre .0)
 
   above : 0 < ofZ w64 (s .args .k)
