@@ -1,7 +1,7 @@
 -- `integers::floor_root` meets its contract. The loop's invariant: the guess is at least the root, and its square fits. The measure is
 -- the guess (`next-below` of proofs/Newton.antt).
 use mathlib.Core.Path.{_≡_, sym, _∙_, subst}
-use Prim.Native.Nat.{ℕ, _+_, _*_, _-_, _/_, _%_, _^_, _≤_, _<_}
+use Prim.Native.Nat.{ℕ, _+_, _*_, _/_, _%_, _^_, _≤_, _<_}
 use native.Mathlib.Nat.{le-trans, lt-of-le-of-lt, mul-le-mul-left, mul-le-mul-right, div-le-self, one-mul}
 use native.Mathlib.Omega.{arith}
 use lib.Count.{leading-le}
