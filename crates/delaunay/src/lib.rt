@@ -68,7 +68,7 @@ fn scanned(last: usize, i: usize) -> usize
     i - 1
 }
 
-// Do the two vertices that refuted an earlier three refute this one? Asked where six vertices or more come after c: fewer are tried sooner.
+// Do two vertices that an earlier three was left for, or dropped by, refute this one? Asked where six vertices or more come after c: fewer are tried sooner.
 fn still_refuted(n: usize, c: usize, pencil: Pencil, one: Lifted, other: Lifted) -> bool
     requires { ⌜ (n ≤ maxVertices) × (c < n) × (PencilBounds pencil) × (LiftedBounds one) × (LiftedBounds other) ⌝ }
     ensures { λ r. ⌜ (r ≡ true → refutedBy pencil one other ≡ true) ⌝ }

@@ -22,8 +22,8 @@ use Rattle.triangulator.specs.declared.Outcome.{Outcome}
 use Rattle.triangulator.specs.declared.Outcome.the-variants.{Patch}
 use Rattle.triangulator.specs.Call.{totalOf}
 use Rattle.pipeline.specs.Patching.{Tables, Patching, patching, patchFile}
-use Rattle.demands.specs.Starred.{fileP, lentP}
-use Rattle.demands.proofs.Starred.{file-P}
+use Rattle.demands.specs.Worked.{fileP, lentP}
+use Rattle.demands.proofs.Worked.{file-P}
 
 -- the rim of rule 6.1 with a bend factor
 abbrev rim : ℕ → Polygon

@@ -3,5 +3,5 @@ pub mod Tables
 pub mod Demand1
 pub mod Demands
 pub mod Sizes
-pub mod Starred
+pub mod Worked
 pub mod Cases

@@ -15,7 +15,8 @@ use Rattle.demands.specs.Demand2.{Cospherical}
 abbrev pub Bytes : List ℕ → Type 0
 Bytes file = (i : ℕ) → getD file i 0 < 256
 
--- the polygon of a file, which has no vertex where the reader refuses it: 12 and 13 are asked only of what there is (rule 4.31)
+-- the polygon of a file: its vertices are what the records give (`read-vertices` of reader/proofs/Accepted.antt), and none where the reader refuses
+-- the file, so that 12 and 13 are asked only of what there is (rule 4.31)
 abbrev pub polygonIn : List ℕ → Polygon
 polygonIn file = readingOf file .polygon
 

@@ -1,3 +1,3 @@
 pub mod Demand2
 pub mod Demand1
-pub mod Starred
+pub mod Worked

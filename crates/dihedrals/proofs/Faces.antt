@@ -30,14 +30,14 @@ pub record Read (p : Polygon) (t : List ℕ) (a b c : ℕ) : Type 0 where
   pub c-is : c ≡ vertexC t
 
 module _ {p : Polygon} {t : List ℕ} {a b c : ℕ} (r : Read p t a b c) where
-  pub a<64 : a < maxVertices
-  a<64 = omega (arith, r .a-is, r .corners .a<n, r .valid .most)
+  pub a<limit : a < maxVertices
+  a<limit = omega (arith, r .a-is, r .corners .a<n, r .valid .most)
 
-  pub b<64 : b < maxVertices
-  b<64 = omega (arith, r .b-is, r .corners .b<n, r .valid .most)
+  pub b<limit : b < maxVertices
+  b<limit = omega (arith, r .b-is, r .corners .b<n, r .valid .most)
 
-  pub c<64 : c < maxVertices
-  c<64 = omega (arith, r .c-is, r .corners .c<n, r .valid .most)
+  pub c<limit : c < maxVertices
+  c<limit = omega (arith, r .c-is, r .corners .c<n, r .valid .most)
 
   pub on-grid : (PointOnGrid (vertexAt (p .vertices) a)) × (PointOnGrid (vertexAt (p .vertices) b)) × (PointOnGrid (vertexAt (p .vertices) c))
   on-grid = (r .valid .on-grid a (omega (arith, r .a-is, r .corners .a<n)), r .valid .on-grid b (omega (arith, r .b-is, r .corners .b<n)), r .valid .on-grid c (omega (arith, r .c-is, r .corners .c<n)))

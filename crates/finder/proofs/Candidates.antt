@@ -73,7 +73,7 @@ module _ (p : Polygon) (v : Valid p) where
     few = triples-bound (p .n) (isCandidate p) (v .most);
     a<b = λ i h. let t = candidate-at i h in omega (arith, ap vertexA (t .is), ap vertexB (t .is), t .a<b);
     b<c = λ i h. let t = candidate-at i h in omega (arith, ap vertexB (t .is), ap vertexC (t .is), t .b<c);
-    c<64 = λ i h. let t = candidate-at i h in omega (arith, ap vertexC (t .is), t .c<n, v .most);
+    c<limit = λ i h. let t = candidate-at i h in omega (arith, ap vertexC (t .is), t .c<n, v .most);
     by-first = record { up = λ i j h k. before-first (ascending-at [] (triples-ascend (p .n) (isCandidate p)) i j h k) };
   }
 

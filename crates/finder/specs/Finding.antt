@@ -25,7 +25,7 @@ abbrev pub rowCountOf : Found → ℕ
 rowCountOf (Lists candidates rows) = rows
 rowCountOf (Refused number) = 0
 
--- the three together
+-- the three together (rule 5.2)
 pub record Values : Type 0 where
   pub number : ℕ
   pub candidates : ℕ
@@ -42,7 +42,7 @@ abbrev pub dueValues : ℕ → Polygon → Values
 dueValues zero p = values 0 (length (candidatesOf p)) (length (rowsOf p (candidatesOf p)))
 dueValues (suc k) p = values (suc k) 0 0
 
--- an answer, and what the tables hold then
+-- an answer, and what the tables hold then (rule 5.1)
 pub record Finding : Type 0 where
   pub answer : Found
   pub candidates : List (List ℕ)
@@ -56,14 +56,14 @@ finding answer candidates weights rows = record { answer = answer; candidates = 
 abbrev pub short : ℕ → ℕ → Bool
 short lent needed = ltb lent needed
 
--- one of the finder's tables has: one place for each candidate, in two of them, and for each row (rule 4.13)
+-- one of the finder's tables has too few: candidates and weights need a place for each candidate, rows one for each row (rule 4.13)
 abbrev pub shortTables : Polygon → List (List ℕ) → List ℕ → List (List ℕ) → Bool
 shortTables p candidates weights rows =
     either (short (length candidates) (length (candidatesOf p)))
     (either (short (length weights) (length (candidatesOf p)))
     (short (length rows) (length (rowsOf p (candidatesOf p)))))
 
--- the same of a triangle table and a work table, which are lent to a later stage (rule 4.13)
+-- the triangle table or the work table, which are lent to a later stage, has too few (rule 4.13)
 abbrev pub shortBeside : Polygon → ℕ → ℕ → Bool
 shortBeside p trianglePlaces workPlaces = either (short trianglePlaces (p .n - 2)) (short workPlaces (length (candidatesOf p)))
 
@@ -80,14 +80,14 @@ findBy zero p candidates weights rows =
     (filled (rowsOf p (candidatesOf p)) rows)
 findBy (suc k) p candidates weights rows = finding (Refused (suc k)) candidates weights rows
 
--- the finder's call (rule 5.1)
+-- the finder's call, by its first number due (rule 5.1)
 abbrev pub findNumber : Polygon → List (List ℕ) → List ℕ → List (List ℕ) → ℕ
 findNumber p candidates weights rows = numberDue (shortTables p candidates weights rows) p
 
 abbrev pub findCall : Polygon → List (List ℕ) → List ℕ → List (List ℕ) → Finding
 findCall p candidates weights rows = findBy (findNumber p candidates weights rows) p candidates weights rows
 
--- the same, where a triangle table and a work table are lent too
+-- the same, where a triangle table and a work table are lent too (rules 4.13, 5.1)
 abbrev pub besideNumber : Polygon → ℕ → ℕ → List (List ℕ) → List ℕ → List (List ℕ) → ℕ
 besideNumber p trianglePlaces workPlaces candidates weights rows =
     numberDue (either (shortBeside p trianglePlaces workPlaces) (shortTables p candidates weights rows)) p

@@ -26,7 +26,7 @@ abbrev pub placesIn : Sizes → Places
 placesIn (Known places) = places
 placesIn (Refused number) = noPlaces
 
--- what the places are by the first number due
+-- what the places are by the first number due (rule 5.5)
 abbrev pub duePlaces : ℕ → Polygon → Places
 duePlaces zero p = placesOf p
 duePlaces (suc k) p = noPlaces

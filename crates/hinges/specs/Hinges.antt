@@ -39,5 +39,5 @@ pub record Sorted (candidates : List (List ℕ)) : Type 0 where
   pub few : length candidates ≤ maxTriples
   pub a<b : (i : ℕ) → i < length candidates → vertexA (entryAt candidates i) < vertexB (entryAt candidates i)
   pub b<c : (i : ℕ) → i < length candidates → vertexB (entryAt candidates i) < vertexC (entryAt candidates i)
-  pub c<64 : (i : ℕ) → i < length candidates → vertexC (entryAt candidates i) < maxVertices
+  pub c<limit : (i : ℕ) → i < length candidates → vertexC (entryAt candidates i) < maxVertices
   pub by-first : ByFirst candidates

@@ -7,7 +7,7 @@ ghost use Rattle.integers.specs.Bounds.{AtMost, maxDividend};
 ghost use Rattle.integers.specs.Rounding.{floorRoot, floorDiv, clamped};
 
 // The square root, cut down to a whole number, by Newton's iteration: (r + x / r) / 2 is at least the root, and it is below r where
-// r is above the root. The first step is from 2 ^ k, which is above the root, and divides by a shift.
+// r is above the root. The first step is from 2 ^ k, which is above the root, and divides by a shift. Below 2 ^ 52 every sum and square fits.
 pub fn floor_root(x: u64) -> u64
     requires { ⌜ x < 2 ^ 52 ⌝ }
     ensures { λ r. ⌜ r ≡ floorRoot x ⌝ }

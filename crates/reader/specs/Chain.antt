@@ -70,6 +70,7 @@ endFrom s i (suc k) =
 abbrev pub chainCode : List ℕ → ℕ
 chainCode s = codeFrom s 0 (suc maxVertices)
 
+-- how many vertices the rim has (rule 1.8)
 abbrev pub vertexCount : List ℕ → ℕ
 vertexCount s = endFrom s 0 (suc maxVertices)
 

@@ -39,11 +39,12 @@ recordAt s i heightKnown =
     (record-variants.Refused 7))
     (record-variants.Refused 6))
 
--- of all floats of a record, 8 where one is not finite, before 9 where one is out of range (rules 4.8, 4.9)
+-- all floats of a record pass a test
 abbrev pub everyNumber : (Float → Bool) → List Float → Bool
 everyNumber P [] = true
 everyNumber P (v ∷ vs) = both (P v) (everyNumber P vs)
 
+-- 8 where a float of the record is not finite, before 9 where one is out of range (rules 4.8, 4.9, 4.31)
 unfoldable pub numbersCode : List Float → ℕ
 numbersCode vs = cond (everyNumber finite vs) (cond (everyNumber inRange vs) 0 9) 8
 

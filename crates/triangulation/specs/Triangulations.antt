@@ -1,4 +1,4 @@
--- What a tiling is, and which one is the answer (rules 3.1 to 3.7): the file that a reader has to believe. Definitions only.
+-- What a tiling is, and which one is the answer (rules 3.1 to 3.7). Definitions only.
 -- A tiling is called a triangulation here, and walk order preorder.
 use Prim.Native.Nat.{ℕ, zero, suc, _+_, _-_, _≤_, _<_}
 use mathlib.Core.Bool.{Bool, true, false, cond, _&&_, _||_}

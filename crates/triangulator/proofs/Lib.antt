@@ -1,4 +1,4 @@
 pub mod Accepting
 pub mod Settling
-pub mod Cases
+pub mod WrongCalls
 pub mod Demands

@@ -8,7 +8,8 @@ use Rattle.triangulation.specs.Demand3.{HandedBack}
 use Rattle.triangulator.specs.declared.Outcome.{Outcome}
 use Rattle.triangulator.specs.declared.Outcome.the-variants.{Patch, None, Refused}
 
--- a patch states its total and the candidate numbers in the first places of the triangle table (rule 3.8)
+-- a patch states its total and the candidate numbers in the first places of the triangle table (rule 3.8); a refusal states no patch, and is told
+-- from none by `Taken`
 abbrev pub stated : Outcome → List ℕ → Answer
 stated (Patch count total) table = patch total (take count table)
 stated None table = none

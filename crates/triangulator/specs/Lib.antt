@@ -1,3 +1,4 @@
 pub mod Call
 pub mod Demands
 pub mod Cases
+pub mod WrongCalls

@@ -12,7 +12,7 @@ use Rattle.geometry.proofs.Vectors.{within-as}
 use Rattle.terms.specs.Entries.{entryAt}
 use Rattle.lists.proofs.Writing.{Writing, start, turn, place, push, all, rest-step, rest-end}
 use Rattle.dihedrals.specs.Weights.{faceNormal, lengthsOf}
-use Rattle.dihedrals.proofs.Faces.{face-within, Read, a<64, b<64, c<64, on-grid, normal-is}
+use Rattle.dihedrals.proofs.Faces.{face-within, Read, a<limit, b<limit, c<limit, on-grid, normal-is}
 use Rattle.dihedrals.proofs.write_lengths.Statement.{statement}
 use Rattle.dihedrals.proofs.write_lengths.Tie as tie
 
@@ -60,22 +60,22 @@ corners : (g : tie.After-wide3 Inv-loop μ-loop) → let s = g .before .before .
 corners g = let s = g .before .before .before .before .before .before .before .before in record { valid = s .pre .0 .valid; corners = s .pre .0 .corners (g .before .before .before .before .before .loop .i) (g .before .before .before .before .loop-test .taken); a-is = g .before .before .wide .ensures; b-is = g .before .wide2 .ensures; c-is = g .wide3 .ensures }
 
 mul-normal : tie.Need-mul-normal Inv-loop μ-loop
-mul-normal c = let h = a<64 (corners c) in omega arith
+mul-normal c = let h = a<limit (corners c) in omega arith
 
 array-copy-out-normal : tie.Need-array-copy-out-normal Inv-loop μ-loop
-array-copy-out-normal c = a<64 (corners c)
+array-copy-out-normal c = a<limit (corners c)
 
 mul-normal-2 : tie.Need-mul-normal-2 Inv-loop μ-loop
-mul-normal-2 c = let h = b<64 (corners (c .before)) in omega arith
+mul-normal-2 c = let h = b<limit (corners (c .before)) in omega arith
 
 array-copy-out-normal-2 : tie.Need-array-copy-out-normal-2 Inv-loop μ-loop
-array-copy-out-normal-2 c = b<64 (corners (c .before))
+array-copy-out-normal-2 c = b<limit (corners (c .before))
 
 mul-normal-3 : tie.Need-mul-normal-3 Inv-loop μ-loop
-mul-normal-3 c = let h = c<64 (corners (c .before .before)) in omega arith
+mul-normal-3 c = let h = c<limit (corners (c .before .before)) in omega arith
 
 array-copy-out-normal-3 : tie.Need-array-copy-out-normal-3 Inv-loop μ-loop
-array-copy-out-normal-3 c = c<64 (corners (c .before .before))
+array-copy-out-normal-3 c = c<limit (corners (c .before .before))
 
 normal-requires : tie.Need-normal-requires Inv-loop μ-loop
 normal-requires c κs = on-grid (corners (c .before .before .before))

@@ -22,7 +22,7 @@ use Rattle.blocks.proofs.Starts.{start-order, start-at}
 use Rattle.hinges.specs.Hinges.{Sorted, endingIn}
 use Rattle.hinges.proofs.Blocks.{edge-block}
 use Rattle.dihedrals.specs.Weights.{faceNormal, rowAt, rowsOn, rowsOf}
-use Rattle.dihedrals.proofs.Faces.{Read, a<64, b<64, c<64, on-grid, normal-is, length-at, face-measured}
+use Rattle.dihedrals.proofs.Faces.{Read, a<limit, b<limit, c<limit, on-grid, normal-is, length-at, face-measured}
 use Rattle.dihedrals.proofs.Rows.{rowsAt, edge-rows, ending-step, ending-end}
 use Rattle.dihedrals.proofs.write_rows.Statement.{statement}
 use Rattle.dihedrals.proofs.write_rows.Tie as tie
@@ -32,8 +32,8 @@ abbrev kept : ℕ → List GridPoint → Polygon
 kept factor vertices = record { n = 0; «area_factor» = 0; «bend_factor» = factor; vertices = vertices }
 
 edge-small : (cs : List (List ℕ)) → Sorted cs → (o e : ℕ) → o < length cs → e < 2 → getD (entryAt cs o) e 0 < maxVertices
-edge-small cs s o zero h k = omega (arith, s .a<b o h, s .b<c o h, s .c<64 o h)
-edge-small cs s o (suc zero) h k = omega (arith, s .b<c o h, s .c<64 o h)
+edge-small cs s o zero h k = omega (arith, s .a<b o h, s .b<c o h, s .c<limit o h)
+edge-small cs s o (suc zero) h k = omega (arith, s .b<c o h, s .c<limit o h)
 edge-small cs s o (suc (suc e)) h k = absurd (omega arith)
 
 abbrev Inv-loop3 : tie.InvT-loop3
@@ -119,25 +119,25 @@ corners : (w : tie.After-wide3 Inv-loop3 μ-loop3 Inv-loop2 μ-loop2 Inv-loop μ
 corners w = let g = w .before .before .before .before .before in let s = g .before .before .before .before in record { valid = s .pre .0 .valid; corners = s .pre .0 .corners (O g) (o-in g); a-is = w .before .before .wide .ensures; b-is = w .before .wide2 .ensures; c-is = w .wide3 .ensures }
 
 mul-normal : tie.Need-mul-normal Inv-loop3 μ-loop3 Inv-loop2 μ-loop2 Inv-loop μ-loop
-mul-normal c = let h = a<64 (corners c) in omega arith
+mul-normal c = let h = a<limit (corners c) in omega arith
 
 array-copy-out-normal :
     tie.Need-array-copy-out-normal Inv-loop3 μ-loop3 Inv-loop2 μ-loop2 Inv-loop μ-loop
-array-copy-out-normal c = a<64 (corners c)
+array-copy-out-normal c = a<limit (corners c)
 
 mul-normal-2 : tie.Need-mul-normal-2 Inv-loop3 μ-loop3 Inv-loop2 μ-loop2 Inv-loop μ-loop
-mul-normal-2 c = let h = b<64 (corners (c .before)) in omega arith
+mul-normal-2 c = let h = b<limit (corners (c .before)) in omega arith
 
 array-copy-out-normal-2 :
     tie.Need-array-copy-out-normal-2 Inv-loop3 μ-loop3 Inv-loop2 μ-loop2 Inv-loop μ-loop
-array-copy-out-normal-2 c = b<64 (corners (c .before))
+array-copy-out-normal-2 c = b<limit (corners (c .before))
 
 mul-normal-3 : tie.Need-mul-normal-3 Inv-loop3 μ-loop3 Inv-loop2 μ-loop2 Inv-loop μ-loop
-mul-normal-3 c = let h = c<64 (corners (c .before .before)) in omega arith
+mul-normal-3 c = let h = c<limit (corners (c .before .before)) in omega arith
 
 array-copy-out-normal-3 :
     tie.Need-array-copy-out-normal-3 Inv-loop3 μ-loop3 Inv-loop2 μ-loop2 Inv-loop μ-loop
-array-copy-out-normal-3 c = c<64 (corners (c .before .before))
+array-copy-out-normal-3 c = c<limit (corners (c .before .before))
 
 normal-requires : tie.Need-normal-requires Inv-loop3 μ-loop3 Inv-loop2 μ-loop2 Inv-loop μ-loop
 normal-requires c κs = on-grid (corners (c .before .before .before))
@@ -282,25 +282,25 @@ corners2 : (w : tie.After-wide7 Inv-loop3 μ-loop3 Inv-loop2 μ-loop2 Inv-loop �
 corners2 w = let n = w .before .before .before .before .before .before in let s = face-at n .before .before .before .before in record { valid = s .pre .0 .valid; corners = s .pre .0 .corners (I n) (i-in n); a-is = w .before .before .wide5 .ensures; b-is = w .before .wide6 .ensures; c-is = w .wide7 .ensures }
 
 mul-normal-4 : tie.Need-mul-normal-4 Inv-loop3 μ-loop3 Inv-loop2 μ-loop2 Inv-loop μ-loop
-mul-normal-4 c = let h = a<64 (corners2 c) in omega arith
+mul-normal-4 c = let h = a<limit (corners2 c) in omega arith
 
 array-copy-out-normal-4 :
     tie.Need-array-copy-out-normal-4 Inv-loop3 μ-loop3 Inv-loop2 μ-loop2 Inv-loop μ-loop
-array-copy-out-normal-4 c = a<64 (corners2 c)
+array-copy-out-normal-4 c = a<limit (corners2 c)
 
 mul-normal-5 : tie.Need-mul-normal-5 Inv-loop3 μ-loop3 Inv-loop2 μ-loop2 Inv-loop μ-loop
-mul-normal-5 c = let h = b<64 (corners2 (c .before)) in omega arith
+mul-normal-5 c = let h = b<limit (corners2 (c .before)) in omega arith
 
 array-copy-out-normal-5 :
     tie.Need-array-copy-out-normal-5 Inv-loop3 μ-loop3 Inv-loop2 μ-loop2 Inv-loop μ-loop
-array-copy-out-normal-5 c = b<64 (corners2 (c .before))
+array-copy-out-normal-5 c = b<limit (corners2 (c .before))
 
 mul-normal-6 : tie.Need-mul-normal-6 Inv-loop3 μ-loop3 Inv-loop2 μ-loop2 Inv-loop μ-loop
-mul-normal-6 c = let h = c<64 (corners2 (c .before .before)) in omega arith
+mul-normal-6 c = let h = c<limit (corners2 (c .before .before)) in omega arith
 
 array-copy-out-normal-6 :
     tie.Need-array-copy-out-normal-6 Inv-loop3 μ-loop3 Inv-loop2 μ-loop2 Inv-loop μ-loop
-array-copy-out-normal-6 c = c<64 (corners2 (c .before .before))
+array-copy-out-normal-6 c = c<limit (corners2 (c .before .before))
 
 normal-requires-2 : tie.Need-normal-requires-2 Inv-loop3 μ-loop3 Inv-loop2 μ-loop2 Inv-loop μ-loop
 normal-requires-2 c κs = on-grid (corners2 (c .before .before .before))

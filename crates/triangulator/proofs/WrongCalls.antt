@@ -10,7 +10,8 @@ use Rattle.lists.specs.Lists.{everyFrom}
 use Rattle.jobs.specs.Job.{ascends, before, candidateFits, hangs, namesPair, rowBefore, rowFits, listsCode, jobCode}
 use Rattle.triangulation.specs.Triangulations.{bestKey, key, isTriangulation, totalWeight, preorderFrom, countBetween, countOutside}
 use Rattle.triangulator.specs.Call.{Result, numberOf, trianglesOf, totalOf, triangulated}
-use Rattle.triangulator.specs.Cases.{Call, answered, wrongCalls}
+use Rattle.triangulator.specs.Cases.{answered}
+use Rattle.triangulator.specs.WrongCalls.{Call, wrongCalls}
 
 sameList : List ℕ → List ℕ → Bool
 sameList [] [] = true

@@ -53,8 +53,8 @@ downward = record { x = pos 0; y = pos 0; z = negsuc 63 }
 abbrev pub sideward : Vector
 sideward = record { x = pos 48; y = pos 0; z = pos 0 }
 
-abbrev pub starred : List Case
-starred =
+abbrev pub worked : List Case
+worked =
     -- rule 6.1: P from its bytes through the one call; and its tilings, which are two
     case (of-file (patchFile fileP lentP))
     (of-file (patching (Patch 2 469) (tables (1 ∷ 3 ∷ 9 ∷ [])

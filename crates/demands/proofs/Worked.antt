@@ -32,7 +32,7 @@ use Rattle.triangulation.specs.Triangulations.{Job, Answer, best, patch, bestKe
 use Rattle.triangulation.specs.Jobs.{jobOf}
 use Rattle.triangulator.specs.Call.{settled, triangulated}
 use Rattle.pipeline.specs.Patching.{tables, Patching, patching, jobIn, tablesShort, patched, patchBy, polygonNumber, fileNumber, patchFile}
-use Rattle.demands.specs.Starred.{of-file, of-tilings, fileP, lentP, withTotals, starred}
+use Rattle.demands.specs.Worked.{of-file, of-tilings, fileP, lentP, withTotals, worked}
 
 -- ---- rim file P
 -- what is read of its bytes: the polygon on the grid of eighths, with the origin at each further place
@@ -122,9 +122,9 @@ file-P =
     ∙ (λ i. answerP ((ap best job-P ∙ best-P) i) (candidates-P i) (weights-are i) (rows-are i))
 
 -- ---- the list
-others-hold : map (λ c. c .computed) (drop 2 starred) ≡ map (λ c. c .expected) (drop 2 starred)
+others-hold : map (λ c. c .computed) (drop 2 worked) ≡ map (λ c. c .expected) (drop 2 worked)
 unfolding triangulated jobCode listsCode everyFrom candidateFits ascends before rowFits namesPair hangs rowBefore bestKey key isTriangulation totalWeight preorderFrom countBetween countOutside rootDigits lengthOf ratioOf bendOf
 others-hold = refl
 
-pub starred-hold : map (λ c. c .computed) starred ≡ map (λ c. c .expected) starred
-starred-hold = λ i. of-file (file-P i) ∷ of-tilings ((ap (λ (p : Polygon). withTotals (jobIn p)) polygon-P ∙ ap withTotals job-P ∙ tilings-P) i) ∷ others-hold i
+pub worked-hold : map (λ c. c .computed) worked ≡ map (λ c. c .expected) worked
+worked-hold = λ i. of-file (file-P i) ∷ of-tilings ((ap (λ (p : Polygon). withTotals (jobIn p)) polygon-P ∙ ap withTotals job-P ∙ tilings-P) i) ∷ others-hold i

@@ -1,0 +1,45 @@
+-- What wrong tilers would answer and leave on the direct jobs of rules 6.1 to 6.3. That none of it is right is proved (proofs/WrongCalls.antt); nobody has to believe it.
+use mathlib.Core.List.{List, [], _∷_}
+use Prim.Native.Nat.{ℕ}
+use Rattle.terms.specs.Entries.{triple}
+use Rattle.triangulator.specs.declared.Outcome.the-variants.{Patch, None, Refused}
+use Rattle.triangulator.specs.Call.{Result, result}
+use Rattle.triangulator.specs.Cases.{Lists, single, quadrilateral, ties}
+
+-- a job, and what a program answers and leaves
+pub record Call : Type 0 where
+  pub direct : Lists
+  pub leaves : Result
+
+abbrev pub call : Lists → Result → Call
+call l r = record { direct = l; leaves = r }
+
+-- the lists that rim file P gives
+abbrev pub listsP : Lists
+listsP = quadrilateral (80 ∷ 64 ∷ 80 ∷ 93 ∷ []) (triple 1 3 312 ∷ triple 2 0 360 ∷ [])
+
+-- the work table of four candidates, cleared
+abbrev pub cleared : List ℕ
+cleared = 0 ∷ 0 ∷ 0 ∷ 0 ∷ 9 ∷ []
+
+abbrev pub wrongCalls : List Call
+wrongCalls =
+    -- nothing done
+    call single (result None (9 ∷ 9 ∷ []) (9 ∷ 9 ∷ []))
+    -- 'none' without a look
+    ∷ call single (result None (9 ∷ 9 ∷ []) (0 ∷ 9 ∷ []))
+    -- a total of its own
+    ∷ call single (result (Patch 1 4) (0 ∷ 9 ∷ []) (0 ∷ 9 ∷ []))
+    -- a fan around vertex 0, with its own true total
+    ∷ call listsP (result (Patch 2 520) (2 ∷ 0 ∷ 9 ∷ []) cleared)
+    -- the first triangle twice
+    ∷ call (ties []) (result (Patch 2 2) (1 ∷ 1 ∷ 9 ∷ []) cleared)
+    -- the later of two equal tilings
+    ∷ call (ties []) (result (Patch 2 2) (2 ∷ 0 ∷ 9 ∷ []) cleared)
+    -- a missing row forbids its pair
+    ∷ call (ties []) (result None (9 ∷ 9 ∷ 9 ∷ []) cleared)
+    -- the least area, with the rows added afterwards
+    ∷ call (ties (triple 1 3 1 ∷ [])) (result (Patch 2 3) (1 ∷ 3 ∷ 9 ∷ []) cleared)
+    -- a refusal that clears the work table
+    ∷ call (ties (triple 1 0 1 ∷ [])) (result (Refused 16) (9 ∷ 9 ∷ 9 ∷ []) cleared)
+    ∷ []
