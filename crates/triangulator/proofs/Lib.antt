@@ -1,4 +1,5 @@
 pub mod Accepting
 pub mod Settling
+pub mod Hanging
 pub mod WrongCalls
 pub mod Demands
