@@ -22,7 +22,7 @@ use Rattle.faces.proofs.Sets.{triple-same, same-triple}
 use Rattle.faces.proofs.Fours.{four-found, four-here}
 use Rattle.faces.proofs.Members.{triples-member, triples-put}
 use Rattle.delaunay.specs.Candidates.{vertex, insideFour, onFour, counts, isCandidate, candidatesOf, isCorner, isFifth, cospherical}
-use Rattle.dihedrals.specs.Weights.{faceWeight, weightsOf, hingeWeight, rowAt, rowsOf}
+use Rattle.dihedrals.specs.Dihedrals.{faceWeight, weightsOf, hingeWeight, rowAt, rowsOf}
 use Rattle.dihedrals.proofs.Faces.{weight-at}
 use Rattle.demands.specs.Demand2.{Counts, Face, abc, abd, acd, bcd, Cospherical, IsRow, Demand2, Flat}
 use Rattle.finder.proofs.Accepted.{row-hinge, hinge-row, rows-in-order, candidates-in-order, weights-allowed}

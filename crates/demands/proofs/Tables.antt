@@ -11,7 +11,7 @@ use Rattle.polygon.specs.declared.Polygon.{Polygon}
 use Rattle.polygon.specs.Polygon.{Valid}
 use Rattle.polygon.proofs.Validity.{code-valid}
 use Rattle.delaunay.specs.Candidates.{candidatesOf}
-use Rattle.dihedrals.specs.Weights.{faceWeight, weightsOf, rowsOf}
+use Rattle.dihedrals.specs.Dihedrals.{faceWeight, weightsOf, rowsOf}
 use Rattle.finder.specs.declared.Found.the-variants.{Lists}
 use Rattle.finder.specs.Finding.{shortTables, findBy, findNumber, findCall}
 use Rattle.finder.proofs.Answers.{clear}

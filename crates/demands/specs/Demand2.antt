@@ -11,7 +11,7 @@ use Rattle.terms.specs.Limits.{maxWeight}
 use Rattle.terms.specs.Entries.{triple, entryAt, outer, inner, rowWeight}
 use Rattle.jobs.specs.Job.{before, rowBefore, hangs}
 use Rattle.delaunay.specs.Candidates.{vertex}
-use Rattle.dihedrals.specs.Weights.{faceNormal}
+use Rattle.dihedrals.specs.Dihedrals.{faceNormal}
 
 -- the four vertices a < b < c < d count (rule 2.3): they are not in one plane, and no vertex is strictly inside their sphere
 pub record Counts (p : Polygon) (a b c d : ℕ) : Type 0 where

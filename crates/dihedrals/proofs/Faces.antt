@@ -1,21 +1,23 @@
 -- A candidate's face as it is computed. Assumes nothing.
 use mathlib.Core.Path.{_≡_, sym, _∙_, ap, subst}
 use mathlib.Core.List.{List, []}
-use Prim.Native.Nat.{ℕ, _≤_, _<_}
+use Prim.Native.Nat.{ℕ, _<_}
 use native.Mathlib.Omega.{arith}
-use lib.ListN.{length, getD}
+use lib.ListN.{length, take, getD, length-map}
+use Rattle.lists.specs.Lists.{filled}
 use Rattle.lists.proofs.Maps.{map-at}
+use Rattle.lists.proofs.Writing.{taken}
 use Rattle.grid.specs.Point.{PointOnGrid}
 use Rattle.polygon.specs.declared.Polygon.{Polygon}
 use Rattle.polygon.specs.Polygon.{vertexAt, Valid}
 use Rattle.geometry.specs.declared.Vector.{Vector}
-use Rattle.geometry.specs.Bounds.{maxNormal, maxLength, Within}
+use Rattle.geometry.specs.Bounds.{maxNormal, Within}
 use Rattle.geometry.specs.Faces.{normalOf, lengthOf}
 use Rattle.geometry.proofs.Vectors.{within-as}
-use Rattle.geometry.proofs.Faces.{normal-within, length-bound}
+use Rattle.geometry.proofs.Faces.{normal-within}
 use Rattle.terms.specs.Limits.{maxVertices}
 use Rattle.terms.specs.Entries.{entryAt, vertexA, vertexB, vertexC}
-use Rattle.dihedrals.specs.Weights.{faceNormal, faceWeight, lengthsOf, weightsOf}
+use Rattle.dihedrals.specs.Dihedrals.{faceNormal, lengthsOf}
 use Rattle.dihedrals.specs.Lists.{Corners, Solid, Measured}
 
 pub face-within : {p : Polygon} {t : List ℕ} → Valid p → Corners p t → Within maxNormal (faceNormal p t)
@@ -49,9 +51,6 @@ module _ {p : Polygon} {t : List ℕ} {a b c : ℕ} (r : Read p t a b c) where
 pub length-at : (p : Polygon) (cs : List (List ℕ)) (i : ℕ) → i < length cs → getD (lengthsOf p cs) i 0 ≡ lengthOf (faceNormal p (entryAt cs i))
 length-at p cs i h = map-at (λ t. lengthOf (faceNormal p t)) cs [] 0 i h
 
-pub weight-at : (p : Polygon) (cs : List (List ℕ)) (i : ℕ) → i < length cs → getD (weightsOf p cs) i 0 ≡ faceWeight p (entryAt cs i)
-weight-at p cs i h = map-at (faceWeight p) cs [] 0 i h
-
 -- the bend with a candidate can be computed
 pub face-measured : {p : Polygon} {cs : List (List ℕ)} (s : Solid p cs) (i : ℕ) → i < length cs → {n : Vector} {m : ℕ} → n ≡ faceNormal p (entryAt cs i) → m ≡ lengthOf (faceNormal p (entryAt cs i)) → Measured n m
 face-measured {p} {cs} s i h {n} {m} en em = record {
@@ -60,6 +59,6 @@ face-measured {p} {cs} s i h {n} {m} en em = record {
   above-0 = subst (λ (k : ℕ). 0 < k) (sym em) (s .normals i h);
 }
 
--- what is written can be lengths
-pub lengths-below : {p : Polygon} {cs : List (List ℕ)} → Solid p cs → (i : ℕ) → i < length cs → lengthOf (faceNormal p (entryAt cs i)) ≤ maxLength
-lengths-below s i h = length-bound (face-within (s .valid) (s .corners i h))
+-- the lengths in the first places of a table
+pub first-lengths : (p : Polygon) (cs : List (List ℕ)) (table : List ℕ) {lengths : List ℕ} → lengths ≡ filled (lengthsOf p cs) table → take (length cs) lengths ≡ lengthsOf p cs
+first-lengths p cs table e = taken (lengthsOf p cs) table (sym (length-map cs (λ t. lengthOf (faceNormal p t)))) e

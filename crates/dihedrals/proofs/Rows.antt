@@ -14,7 +14,7 @@ use Rattle.lists.proofs.Parts.{over-lengths}
 use Rattle.lists.proofs.Maps.{map-over-when}
 use Rattle.hinges.specs.Hinges.{Sorted, innersOn, innersAt, innersOf, endingIn}
 use Rattle.hinges.proofs.Blocks.{two-edges}
-use Rattle.dihedrals.specs.Weights.{rowAt, rowsOn, rowsOf}
+use Rattle.dihedrals.specs.Dihedrals.{rowAt, rowsOn, rowsOf}
 
 -- the candidates from i on that end in vertex k, with the first one taken
 pub ending-step : {B : Type 0} (f : ℕ → B) (cs : List (List ℕ)) (i hi k : ℕ) (r : List B) (b : Bool) → i < hi → eqb (vertexC (entryAt cs i)) k ≡ b →

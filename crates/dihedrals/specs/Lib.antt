@@ -1,2 +1,2 @@
-pub mod Weights
+pub mod Dihedrals
 pub mod Lists

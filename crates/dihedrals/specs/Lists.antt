@@ -1,16 +1,16 @@
 -- What functions ask of a list of candidates and say to each other; nobody has to believe it.
 use mathlib.Core.List.{List}
 use mathlib.Core.Path.{_≡_}
-use Prim.Native.Nat.{ℕ, _≤_, _<_}
-use lib.ListN.{length, getD}
+use Prim.Native.Nat.{ℕ, _<_}
+use lib.ListN.{length}
 use Rattle.polygon.specs.declared.Polygon.{Polygon}
 use Rattle.polygon.specs.Polygon.{Valid}
 use Rattle.geometry.specs.declared.Vector.{Vector}
-use Rattle.geometry.specs.Bounds.{maxNormal, maxLength, Within}
+use Rattle.geometry.specs.Bounds.{maxNormal, Within}
 use Rattle.geometry.specs.Faces.{lengthOf}
 use Rattle.terms.specs.Entries.{entryAt, vertexA, vertexB, vertexC}
 use Rattle.hinges.specs.Hinges.{Sorted}
-use Rattle.dihedrals.specs.Weights.{faceNormal}
+use Rattle.dihedrals.specs.Dihedrals.{faceNormal}
 
 -- a triple of the polygon's vertices
 pub record Corners (p : Polygon) (t : List ℕ) : Type 0 where
@@ -24,10 +24,6 @@ pub record Solid (p : Polygon) (candidates : List (List ℕ)) : Type 0 where
   pub sorted : Sorted candidates
   pub corners : (i : ℕ) → i < length candidates → Corners p (entryAt candidates i)
   pub normals : (i : ℕ) → i < length candidates → 0 < lengthOf (faceNormal p (entryAt candidates i))
-
--- the first places hold numbers that can be lengths of normals
-pub record Lengths (count : ℕ) (lengths : List ℕ) : Type 0 where
-  pub below : (i : ℕ) → i < count → getD lengths i 0 ≤ maxLength
 
 -- a normal whose length m is not 0
 pub record Measured (normal : Vector) (m : ℕ) : Type 0 where

@@ -1,19 +1,20 @@
-// The weights of candidates, and the rows of hanging pairs with the weight of the bend at their common edge.
+// The lengths of the candidates' normals, and the rows of hanging pairs with the weight of the bend at their common edge.
 use geometry::Vector;
 use geometry::face;
 use polygon::Polygon;
 ghost use mathlib.Core.Path.{_≡_};
-ghost use mathlib.Core.List.{[], _∷_, map};
+ghost use mathlib.Core.List.{[], _∷_};
 ghost use Prim.Native.Nat.{_<_, _≤_};
-ghost use lib.ListN.{length, take};
-ghost use Rattle.terms.specs.Limits.{maxTriples, maxAreaFactor, maxBendFactor};
+ghost use lib.ListN.{length};
+ghost use Rattle.terms.specs.Limits.{maxTriples, maxBendFactor};
 ghost use Rattle.lists.specs.Lists.{filled};
-ghost use Rattle.geometry.specs.Faces.{areaWeightOf, bendBetween, bendWeightOf};
+ghost use Rattle.geometry.specs.Faces.{bendBetween, bendWeightOf};
 ghost use Rattle.blocks.specs.Blocks.{Starts};
-ghost use Rattle.dihedrals.specs.Weights.{lengthsOf, rowsOf};
-ghost use Rattle.dihedrals.specs.Lists.{Solid, Lengths, Measured};
+ghost use Rattle.dihedrals.specs.Dihedrals.{lengthsOf, rowsOf};
+ghost use Rattle.dihedrals.specs.Lists.{Solid, Measured};
 
-fn wide(x: u8) -> usize
+// A vertex of a candidate, as an index.
+pub fn wide(x: u8) -> usize
     ensures { λ r. ⌜ r ≡ x ⌝ }
 {
     x as usize
@@ -32,17 +33,6 @@ pub fn write_lengths(p: Polygon, candidates: &[[u8; 3]], out: &mut [u32])
         let c = wide(t[2]);
         let normal = face::normal(vertices[a], vertices[b], vertices[c]);
         out[i] = face::normal_length(normal);
-    }
-}
-
-// From the lengths in the first count places to the candidates' weights.
-pub fn scale_lengths(factor: u32, weights: &mut [u32], count: usize)
-    requires { ⌜ (factor ≤ maxAreaFactor) × (count ≤ length (now weights)) × (Lengths count (now weights)) ⌝ }
-    ensures { λ _. ⌜ now (weights .exit) ≡ filled (map (areaWeightOf factor) (take count (now (weights .entry)))) (now (weights .entry)) ⌝ }
-{
-    for i in 0..count {
-        let length = weights[i];
-        weights[i] = face::area_weight(factor, length);
     }
 }
 

@@ -20,7 +20,7 @@ use Rattle.jobs.proofs.Lists as lists
 use Rattle.lists.specs.Lists.{when}
 use Rattle.lists.proofs.Members.{Ascending, over-member, over-put, when-member, when-put, over-ascending, when-ascending, ascending-at, entry-member}
 use Rattle.delaunay.specs.Candidates.{isCandidate, candidatesOf}
-use Rattle.dihedrals.specs.Weights.{faceNormal, weightsOf, rowAt, rowsOn, rowsOf}
+use Rattle.dihedrals.specs.Dihedrals.{faceNormal, weightsOf, rowAt, rowsOn, rowsOf}
 use Rattle.dihedrals.proofs.Faces.{face-within, weight-at}
 use Rattle.finder.proofs.Candidates.{triples-ascend, candidate-at, candidates-solid}
 

@@ -12,7 +12,7 @@ use Rattle.polygon.specs.declared.Polygon.{Polygon}
 use Rattle.polygon.specs.Polygon.{codeOf}
 use Rattle.polygon.proofs.Validity.{code-valid}
 use Rattle.delaunay.specs.Candidates.{candidatesOf, cospherical, isCandidate}
-use Rattle.dihedrals.specs.Weights.{rowsOf}
+use Rattle.dihedrals.specs.Dihedrals.{rowsOf}
 use Rattle.dihedrals.proofs.Rows.{row-count}
 use Rattle.faces.proofs.Sets.{triples-bound}
 use Rattle.lists.specs.Lists.{either}

@@ -22,7 +22,7 @@ use Rattle.faces.proofs.Sets.{triples-bound, triple-same}
 use Rattle.faces.proofs.Fours.{four-found}
 use Rattle.faces.proofs.Members.{Triple, triples-member}
 use Rattle.hinges.specs.Hinges.{Sorted}
-use Rattle.dihedrals.specs.Weights.{faceNormal}
+use Rattle.dihedrals.specs.Dihedrals.{faceNormal}
 use Rattle.dihedrals.specs.Lists.{Solid}
 use Rattle.delaunay.specs.Candidates.{vertex, insideFour, counts, isCandidate, candidatesOf}
 

@@ -4,7 +4,7 @@ use Prim.Native.Nat.{ℕ, zero, suc, _-_}
 use lib.ListN.{length}
 use Rattle.polygon.specs.declared.Polygon.{Polygon}
 use Rattle.delaunay.specs.Candidates.{candidatesOf}
-use Rattle.dihedrals.specs.Weights.{rowsOf}
+use Rattle.dihedrals.specs.Dihedrals.{rowsOf}
 use Rattle.finder.specs.declared.Places.{Places}
 use Rattle.finder.specs.declared.Sizes.{Sizes}
 use Rattle.finder.specs.declared.Sizes.the-variants.{Known, Refused}

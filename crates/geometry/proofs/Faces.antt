@@ -87,10 +87,15 @@ zero-size : (z : ℤ) → natAbs z ≡ 0 → z ≡ pos 0
 zero-size (pos n) e = ap pos e
 zero-size (negsuc n) e = absurd (omega arith)
 
+pub zero-vector : (n : Vector) → squareOf n ≡ pos 0 → (n .x ≡ pos 0) × (n .y ≡ pos 0) × (n .z ≡ pos 0)
+zero-vector n h =
+    let k = zero-square (natAbs (n .x)) (natAbs (n .y)) (natAbs (n .z)) (ap natAbs (sym (square-natural n) ∙ h)) in
+    (zero-size (n .x) (k .0), zero-size (n .y) (k .1), zero-size (n .z) (k .2))
+
 dot-zero : (e n : Vector) → squareOf n ≡ pos 0 → dotOf e n ≡ pos 0
 dot-zero e n h =
-    let k = zero-square (natAbs (n .x)) (natAbs (n .y)) (natAbs (n .z)) (ap natAbs (sym (square-natural n) ∙ h)) in
-    (λ i. e .x *ℤ zero-size (n .x) (k .0) i +ℤ e .y *ℤ zero-size (n .y) (k .1) i +ℤ e .z *ℤ zero-size (n .z) (k .2) i)
+    let k = zero-vector n h in
+    (λ i. e .x *ℤ k .0 i +ℤ e .y *ℤ k .1 i +ℤ e .z *ℤ k .2 i)
     ∙ (λ i. *ℤ-zero (e .x) i +ℤ *ℤ-zero (e .y) i +ℤ *ℤ-zero (e .z) i)
 
 module _ (p q r s : GridPoint) where

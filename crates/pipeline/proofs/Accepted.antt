@@ -6,7 +6,7 @@ use Rattle.polygon.specs.declared.Polygon.{Polygon}
 use Rattle.polygon.specs.Polygon.{Valid}
 use Rattle.jobs.proofs.Acceptance.{ListsAccepted}
 use Rattle.delaunay.specs.Candidates.{candidatesOf}
-use Rattle.dihedrals.specs.Weights.{faceWeight}
+use Rattle.dihedrals.specs.Dihedrals.{faceWeight}
 use Rattle.finder.proofs.Accepted.{candidates-in-order, rows-in-order, weights-allowed}
 use Rattle.pipeline.specs.Patching.{weightsIn, rowsIn}
 

@@ -11,14 +11,14 @@ use Rattle.geometry.specs.Faces.{lengthOf}
 use Rattle.geometry.proofs.Vectors.{within-as}
 use Rattle.terms.specs.Entries.{entryAt}
 use Rattle.lists.proofs.Writing.{Writing, start, turn, place, push, all, rest-step, rest-end}
-use Rattle.dihedrals.specs.Weights.{faceNormal, lengthsOf}
+use Rattle.dihedrals.specs.Dihedrals.{faceNormal, lengthsOf}
 use Rattle.dihedrals.proofs.Faces.{face-within, Read, a<limit, b<limit, c<limit, on-grid, normal-is}
 use Rattle.dihedrals.proofs.write_lengths.Statement.{statement}
 use Rattle.dihedrals.proofs.write_lengths.Tie as tie
 
 -- of the polygon the loop keeps the vertices
 abbrev kept : List GridPoint → Polygon
-kept vertices = record { n = 0; «area_factor» = 0; «bend_factor» = 0; vertices = vertices }
+kept vertices = record { n = 0; «area_factor» = 0; «bend_factor» = 0; vertices = vertices; normals = [] }
 
 abbrev measure : Polygon → List ℕ → ℕ
 measure p t = lengthOf (faceNormal p t)

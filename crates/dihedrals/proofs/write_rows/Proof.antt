@@ -21,7 +21,7 @@ use Rattle.blocks.specs.Blocks.{BlockStart}
 use Rattle.blocks.proofs.Starts.{start-order, start-at}
 use Rattle.hinges.specs.Hinges.{Sorted, endingIn}
 use Rattle.hinges.proofs.Blocks.{edge-block}
-use Rattle.dihedrals.specs.Weights.{faceNormal, rowAt, rowsOn, rowsOf}
+use Rattle.dihedrals.specs.Dihedrals.{faceNormal, rowAt, rowsOn, rowsOf}
 use Rattle.dihedrals.proofs.Faces.{Read, a<limit, b<limit, c<limit, on-grid, normal-is, length-at, face-measured}
 use Rattle.dihedrals.proofs.Rows.{rowsAt, edge-rows, ending-step, ending-end}
 use Rattle.dihedrals.proofs.write_rows.Statement.{statement}
@@ -29,7 +29,7 @@ use Rattle.dihedrals.proofs.write_rows.Tie as tie
 
 -- of the polygon the loops keep what the rows need
 abbrev kept : ℕ → List GridPoint → Polygon
-kept factor vertices = record { n = 0; «area_factor» = 0; «bend_factor» = factor; vertices = vertices }
+kept factor vertices = record { n = 0; «area_factor» = 0; «bend_factor» = factor; vertices = vertices; normals = [] }
 
 edge-small : (cs : List (List ℕ)) → Sorted cs → (o e : ℕ) → o < length cs → e < 2 → getD (entryAt cs o) e 0 < maxVertices
 edge-small cs s o zero h k = omega (arith, s .a<b o h, s .b<c o h, s .c<limit o h)

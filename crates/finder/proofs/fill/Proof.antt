@@ -6,7 +6,7 @@ use native.Mathlib.Omega.{arith}
 use borrow.Author.Needs.{needs}
 use lib.ListN.{length}
 use Rattle.lists.proofs.Choice.{yes, no, gt-via, ge-via}
-use Rattle.dihedrals.specs.Weights.{rowsOf}
+use Rattle.dihedrals.specs.Dihedrals.{rowsOf}
 use Rattle.dihedrals.proofs.Rows.{row-count}
 use Rattle.finder.specs.declared.Found.the-variants.{Lists}
 use Rattle.finder.specs.declared.Places.{Places}

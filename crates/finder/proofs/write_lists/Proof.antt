@@ -10,7 +10,7 @@ use Rattle.polygon.specs.declared.Polygon.{Polygon}
 use Rattle.geometry.specs.Faces.{lengthOf, areaWeightOf}
 use Rattle.lists.specs.Lists.{filled}
 use Rattle.lists.proofs.Writing.{taken, filled-length}
-use Rattle.dihedrals.specs.Weights.{faceNormal, lengthsOf, rowsOf}
+use Rattle.dihedrals.specs.Dihedrals.{faceNormal, lengthsOf, rowsOf}
 use Rattle.dihedrals.specs.Lists.{Solid, Lengths}
 use Rattle.dihedrals.proofs.Scaling.{first-lengths, lengths-there, weights-made}
 use Rattle.finder.specs.Filling.{facesOf}

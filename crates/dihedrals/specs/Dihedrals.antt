@@ -1,11 +1,11 @@
--- The weights of a polygon's candidates, and the rows of its hanging pairs. Definitions only.
+-- The normals of a polygon's candidates, their lengths, and the rows of its hanging pairs. Definitions only.
 use mathlib.Core.List.{List, [], _∷_, map}
 use Prim.Native.Nat.{ℕ}
 use lib.ListN.{length}
 use Rattle.polygon.specs.declared.Polygon.{Polygon}
 use Rattle.polygon.specs.Polygon.{vertexAt}
 use Rattle.geometry.specs.declared.Vector.{Vector}
-use Rattle.geometry.specs.Faces.{normalOf, lengthOf, areaWeightOf, bendBetween, bendWeightOf}
+use Rattle.geometry.specs.Faces.{normalOf, lengthOf, bendBetween, bendWeightOf}
 use Rattle.terms.specs.Entries.{entryAt, vertexA, vertexB, vertexC}
 use Rattle.jobs.specs.Job.{hangs}
 use Rattle.lists.specs.Lists.{over, when}
@@ -14,17 +14,9 @@ use Rattle.lists.specs.Lists.{over, when}
 abbrev pub faceNormal : Polygon → List ℕ → Vector
 faceNormal p t = normalOf (vertexAt (p .vertices) (vertexA t)) (vertexAt (p .vertices) (vertexB t)) (vertexAt (p .vertices) (vertexC t))
 
--- the area weight of candidate t (rule 2.8)
-abbrev pub faceWeight : Polygon → List ℕ → ℕ
-faceWeight p t = areaWeightOf (p .«area_factor») (lengthOf (faceNormal p t))
-
--- the lengths of the normals (rule 2.7), of which the weights are made
+-- their lengths, one for each candidate (rule 2.7)
 abbrev pub lengthsOf : Polygon → List (List ℕ) → List ℕ
 lengthsOf p candidates = map (λ t. lengthOf (faceNormal p t)) candidates
-
--- the weights, one for each candidate (rule 2.8)
-abbrev pub weightsOf : Polygon → List (List ℕ) → List ℕ
-weightsOf p candidates = map (faceWeight p) candidates
 
 -- the bend weight of inner t and outer u (rule 2.12)
 abbrev pub hingeWeight : Polygon → List ℕ → List ℕ → ℕ

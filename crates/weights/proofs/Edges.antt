@@ -1,0 +1,51 @@
+-- The edges of a candidate of a polygon: which normals they have, and that its own weight stays below the limit. Assumes nothing.
+use mathlib.Core.Path.{_≡_, sym, subst}
+use mathlib.Core.List.{List, []}
+use Prim.Native.Nat.{ℕ, _+_, _*_, _≤_, _<_}
+use native.Mathlib.Nat.{le-trans}
+use native.Mathlib.Omega.{arith}
+use lib.Dec.{lit≤}
+use lib.ListN.{length, getD}
+use Rattle.lists.proofs.Maps.{map-at}
+use Rattle.polygon.specs.declared.Polygon.{Polygon}
+use Rattle.polygon.specs.Polygon.{Valid}
+use Rattle.polygon.specs.Normal.{normalAt}
+use Rattle.geometry.specs.Bounds.{maxLength, maxBend}
+use Rattle.geometry.proofs.Faces.{length-bound, area-weight-bound}
+use Rattle.terms.specs.Limits.{maxAreaFactor, maxBendFactor, maxWeight}
+use Rattle.terms.specs.Entries.{entryAt, vertexA, vertexB, vertexC}
+use Rattle.dihedrals.specs.Dihedrals.{faceNormal}
+use Rattle.dihedrals.specs.Lists.{Corners}
+use Rattle.dihedrals.proofs.Faces.{face-within}
+use Rattle.weights.specs.declared.outside.EdgeNormals.{EdgeNormals}
+use Rattle.weights.specs.Weights.{areaWeight, outsideNormal, outsideWeight, ownWeight, weightsOf}
+use Rattle.weights.specs.Edges.{edgeNormals, EdgesInRange}
+use Rattle.weights.proofs.Surfaces.{edge-in-range, outside-bound}
+
+-- the edges of vertices a, b, c
+abbrev pub edgesAt : Polygon → ℕ → ℕ → ℕ → EdgeNormals
+edgesAt p a b c = edgeNormals (p .n) a b c (normalAt (p .normals) a) (normalAt (p .normals) b) (normalAt (p .normals) c)
+
+abbrev pub edgesOf : Polygon → List ℕ → EdgeNormals
+edgesOf p t = edgesAt p (vertexA t) (vertexB t) (vertexC t)
+
+pub edges-in-range : {p : Polygon} {t : List ℕ} → Valid p → Corners p t → EdgesInRange (edgesOf p t)
+edges-in-range {p} {t} v c =
+    let a = v .normals-in-range (vertexA t) (c .a<n) in
+    let b = v .normals-in-range (vertexB t) (c .b<n) in
+    let k = v .normals-in-range (vertexC t) (c .c<n) in
+    record {
+      of-ab = edge-in-range (p .n) (vertexA t) (vertexB t) a b;
+      of-bc = edge-in-range (p .n) (vertexB t) (vertexC t) b k;
+      of-ac = edge-in-range (p .n) (vertexA t) (vertexC t) a k;
+    }
+
+-- no own weight is above what a direct job may have
+pub own-weight-bound : {p : Polygon} {t : List ℕ} → Valid p → Corners p t → ownWeight p t ≤ maxWeight
+own-weight-bound {p} {t} v c =
+    let area : areaWeight p t ≤ maxAreaFactor * maxLength = area-weight-bound (v .area-factor) (length-bound (face-within v c)) in
+    let bend : (x y : ℕ) → outsideWeight p t x y ≤ maxBendFactor * maxBend = λ x y. outside-bound (p .«bend_factor») (faceNormal p t) (outsideNormal p x y) (v .bend-factor) in
+    omega (arith, area, bend (vertexA t) (vertexB t), bend (vertexB t) (vertexC t), bend (vertexA t) (vertexC t))
+
+pub weight-at : (p : Polygon) (cs : List (List ℕ)) (i : ℕ) → i < length cs → getD (weightsOf p cs) i 0 ≡ ownWeight p (entryAt cs i)
+weight-at p cs i h = map-at (ownWeight p) cs [] 0 i h

@@ -1,0 +1,22 @@
+-- The three edges of a candidate, as the functions hand them on. What functions say to each other; nobody has to believe it.
+use Prim.Native.Nat.{ℕ, _+_}
+use Rattle.polygon.specs.declared.normal.Normal.{Normal}
+use Rattle.polygon.specs.Normal.{NormalInRange}
+use Rattle.geometry.specs.declared.Vector.{Vector}
+use Rattle.geometry.specs.Faces.{lengthOf, areaWeightOf}
+use Rattle.weights.specs.declared.outside.EdgeNormals.{EdgeNormals}
+use Rattle.weights.specs.Weights.{edgeNormal, outsideWeightOf}
+
+-- the normals outside the edges of (a, b, c)
+abbrev pub edgeNormals : ℕ → ℕ → ℕ → ℕ → Normal → Normal → Normal → EdgeNormals
+edgeNormals n a b c ofA ofB ofC = record { ab = edgeNormal n a b ofA ofB; bc = edgeNormal n b c ofB ofC; ac = edgeNormal n a c ofA ofC }
+
+pub record EdgesInRange (e : EdgeNormals) : Type 0 where
+  pub of-ab : NormalInRange (e .ab)
+  pub of-bc : NormalInRange (e .bc)
+  pub of-ac : NormalInRange (e .ac)
+
+-- the own weight of a triangle with these edges
+abbrev pub ownWeightOf : ℕ → ℕ → Vector → EdgeNormals → ℕ
+ownWeightOf area bend normal e =
+    areaWeightOf area (lengthOf normal) + outsideWeightOf bend normal (e .ab) + outsideWeightOf bend normal (e .bc) + outsideWeightOf bend normal (e .ac)
