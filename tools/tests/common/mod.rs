@@ -59,6 +59,16 @@ pub fn bytes_of(name: &str) -> Vec<u8> {
     std::fs::read(example(name)).expect("an example")
 }
 
+/// A file of edition 1 in edition 2, with this normal in each record.
+pub fn with_normals(file: &[u8], normal: [i16; 3]) -> Vec<u8> {
+    let mut bytes = [&[255, 255], &file[..8]].concat();
+    for record in file[8..].chunks(16) {
+        bytes.extend(record);
+        bytes.extend(normal.iter().flat_map(|number| number.to_le_bytes()));
+    }
+    bytes
+}
+
 /// An empty folder that goes with its value.
 pub struct Folder(pub PathBuf);
 
