@@ -13,10 +13,10 @@
  *   number 0 and triangles above 0   a patch
  *   number 0 and triangles 0         'none': the candidates hold no triangulation of the rim
  *
- * Editions. A call that takes a rim file takes both editions, and the file says which it is: one whose first two bytes are 255 is of edition 2.
- *   edition 1   8 + 16 * R bytes for R records; the weight of a candidate is area factor * m, with m its doubled area on the grid
- *   edition 2   10 + 22 * R bytes; a record ends in the normal of the surface outside its rim edge, and the weight of a candidate has added, for each of
- *               its rim edges whose normal is not zero, bend factor * the bend between that normal and the candidate's own
+ * Editions. A call that takes a rim file takes both editions; a file whose first two bytes are both 255 is of edition 2.
+ *   edition 1   8 + 16 * R bytes for R records; the weight of a candidate is its area weight
+ *   edition 2   10 + 22 * R bytes: a record ends in the normal of the surface outside its rim edge; the weight of a candidate is its area weight and, for
+ *               each of its rim edges that has a normal, the bend factor times the bend between the candidate and that surface
  */
 #ifndef PATCH_BOX_H
 #define PATCH_BOX_H

@@ -50,6 +50,19 @@ pub fn run_in(folder: &Path, words: &[&str], input: &[u8]) -> Run {
     }
 }
 
+/// The points of examples/p.rim.
+pub const P: &str = "0 0 0\n1 0 0\n1 1 0.75\n0 1 0\n";
+
+/// The rim file of a list.
+pub fn made(list: &str) -> Vec<u8> {
+    run(&["make", "-"], list.as_bytes()).done().out
+}
+
+/// The list is refused with this line, after the name of the input.
+pub fn refused(list: impl AsRef<[u8]>, line: &str) {
+    run(&["make", "-"], list.as_ref()).refused(1, &format!("standard input: {line}"));
+}
+
 /// A file of examples/.
 pub fn example(name: &str) -> PathBuf {
     Path::new(env!("CARGO_MANIFEST_DIR")).join("../examples").join(name)
