@@ -8,6 +8,9 @@ use crate::vectors::unit;
 use patch_box::MAX_VERTICES;
 use std::str::FromStr;
 
+/// The word between a point and its normal.
+pub const NORMAL: &str = "normal";
+
 /// A point and the line it stands on, counted from 1.
 #[derive(Clone, Copy, Debug, PartialEq)]
 pub struct Listed {
@@ -59,9 +62,6 @@ fn parse(text: &str, comma: Comma) -> Result<Vec<Listed>, String> {
     }
     Ok(listed)
 }
-
-/// The word between a point and its normal.
-pub const NORMAL: &str = "normal";
 
 fn point(words: &str, comma: Comma) -> Result<Point, String> {
     let fields = fields(words, comma)?;
