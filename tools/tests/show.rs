@@ -133,13 +133,16 @@ fn every_number_of_a_file_with_its_place() {
     assert!(cube.ends_with(&format!("{}: {place}\n", Number::Cospherical)), "{cube}");
 }
 
+/// A place of a file, and the two bytes put there.
+type Change = (usize, [u8; 2]);
+
 /// In edition 2 the header's numbers stand two bytes later, and records of 22 bytes end in normals.
 #[test]
 fn every_place_in_edition_2() {
     let p = with_normals(&bytes_of("p.rim"), [0, -1000, 1000]);
-    let damaged = |places: &[(usize, [u8; 2])]| {
+    let damaged = |changes: &[Change]| {
         let mut file = p.clone();
-        places.iter().for_each(|&(at, bytes)| file[at..at + 2].copy_from_slice(&bytes));
+        changes.iter().for_each(|&(at, bytes)| file[at..at + 2].copy_from_slice(&bytes));
         file
     };
     let [high, low, lowest] = [1001, -1001, i16::MIN].map(i16::to_le_bytes);
@@ -160,7 +163,7 @@ fn every_place_in_edition_2() {
         let mark = "the file begins with 65535, so it is of edition 2";
         last_line(&file, Number::Length, &format!("{place}; {mark}"));
     }
-    let cases: [(&[(usize, [u8; 2])], Number, &str); 13] = [
+    let cases: [(&[Change], Number, &str); 13] = [
         (&[(6, [17, 0])], Number::AreaFactor, "the area factor is 17"),
         (&[(2, [5, 0])], Number::Link, "the header leads to record 5 of 4"),
         (&[(32, [9, 0])], Number::Link, "record 2 leads to record 9 of 4"),
@@ -177,8 +180,8 @@ fn every_place_in_edition_2() {
         // A record that the chain does not reach may hold anything.
         (&[(32, [0, 0]), (92, high)], Number::TooFewVertices, "the chain has 2 records"),
     ];
-    for (places, number, place) in cases {
-        last_line(&damaged(places), number, place);
+    for (changes, number, place) in cases {
+        last_line(&damaged(changes), number, place);
     }
 }
 
