@@ -1,4 +1,4 @@
-/* A host in C: closes the rim of a rim file and prints what the bench program prints. Its tables are as long as the rim needs.
+/* A host in C: closes the rim of a rim file of either edition and prints what the bench program prints. Its tables are as long as the rim needs.
  * Status 0 where the rim is accepted, 1 where it is refused, 2 with one line on standard error where it could not run. */
 #include "patch_box.h"
 

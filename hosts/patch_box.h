@@ -12,6 +12,11 @@
  * Outcomes. The field `number` of an answer is 0, or says why the call refused; then every other field is 0. Of a patch_box_patch_answer:
  *   number 0 and triangles above 0   a patch
  *   number 0 and triangles 0         'none': the candidates hold no triangulation of the rim
+ *
+ * Editions. A call that takes a rim file takes both editions; a file whose first two bytes are both 255 is of edition 2.
+ *   edition 1   8 + 16 * R bytes for R records; the weight of a candidate is its area weight
+ *   edition 2   10 + 22 * R bytes: a record ends in the normal of the surface outside its rim edge; the weight of a candidate is its area weight and, for
+ *               each of its rim edges that has a normal, the bend factor times the bend between the candidate and that surface
  */
 #ifndef PATCH_BOX_H
 #define PATCH_BOX_H
@@ -25,7 +30,7 @@ extern "C" {
 
 /* Places that suffice for every rim. patch_box_sizes says what one rim needs, which is far less. */
 enum {
-    PATCH_BOX_MAX_FILE = 4104,        /* bytes of the longest rim file: 8 + 16 * 256 */
+    PATCH_BOX_MAX_FILE = 5642,        /* bytes of the longest rim file, which is of edition 2: 10 + 22 * 256 */
     PATCH_BOX_MAX_VERTICES = 64,
     PATCH_BOX_MAX_TRIANGLES = 62,     /* a triangulation of n vertices has n - 2 triangles */
     PATCH_BOX_MAX_CANDIDATES = 41664, /* for candidates, weights and work: the triples of 64 vertices, 64 * 63 * 62 / 6 */
@@ -51,7 +56,8 @@ enum {
     PATCH_BOX_VERTEX_COUNT = 14,       /* the n of a direct job is not from 3 to 64 */
     PATCH_BOX_CANDIDATE = 15,          /* the candidates of a direct job are not vertices a < b < c < n in rising order */
     PATCH_BOX_ROW = 16,                /* the rows of a direct job are not hanging pairs in rising order */
-    PATCH_BOX_WEIGHT = 17              /* a weight of a direct job is more than 2,000,000,000 */
+    PATCH_BOX_WEIGHT = 17,             /* a weight of a direct job is more than 2,000,000,000 */
+    PATCH_BOX_NORMAL = 18              /* a number of a normal is not from -1000 to 1000 */
 };
 
 /* Vertices a < b < c. Candidates stand in rising order, and a candidate's number is its place, from 0. */
@@ -91,10 +97,10 @@ typedef struct {
     size_t work;
 } patch_box_sizes_answer;
 
-/* The sizes of a rim file's tables: a number of 1 to 12, or what patch_box_rim needs at least. */
+/* The sizes of a rim file's tables: a number of 1 to 12 or 18, or what patch_box_rim needs at least. */
 patch_box_sizes_answer patch_box_sizes(const uint8_t *file, size_t file_len);
 
-/* The one call: closes the rim of a rim file. A number of 1 to 13, or a patch, or 'none'. Unless it refuses, it leaves the rim's lists in the first
+/* The one call: closes the rim of a rim file. A number of 1 to 13 or 18, or a patch, or 'none'. Unless it refuses, it leaves the rim's lists in the first
  * places of the tables for candidates, weights and rows, and zeros in the work table, as many as there are candidates. A patch fills the triangle table
  * with the numbers of its candidates, in walk order. */
 patch_box_patch_answer patch_box_rim(const uint8_t *file, size_t file_len,
@@ -113,10 +119,10 @@ patch_box_patch_answer patch_box_job(size_t n,
                                      uint16_t *triangles, size_t triangles_len,
                                      uint64_t *work, size_t work_len);
 
-/* The reader alone: a number of 1 to 11, or how many vertices the rim has. */
+/* The reader alone: a number of 1 to 11 or 18, or how many vertices the rim has. */
 patch_box_read_answer patch_box_read(const uint8_t *file, size_t file_len);
 
-/* The reader, then the candidate finder: a number of 1 to 13, or the rim's lists in the first places of the three tables. */
+/* The reader, then the candidate finder: a number of 1 to 13 or 18, or the rim's lists in the first places of the three tables. */
 patch_box_find_answer patch_box_find(const uint8_t *file, size_t file_len,
                                      patch_box_candidate *candidates, size_t candidates_len,
                                      uint32_t *weights, size_t weights_len,

@@ -1,6 +1,7 @@
 //! The patch box for hosts in Rust: its calls over slices. Tables that overlap, dangle or are not
 //! aligned do not compile. patch_box.h says what each call does to the tables; README.md and
-//! docs/SPECIFICATION.md describe the rules and the rim file.
+//! docs/SPECIFICATION.md describe the rules and the rim file. A call that takes a rim file takes both
+//! editions.
 //!
 //! ```no_run
 //! use patch_box::{Number, Outcome, OwnedTables};
@@ -33,8 +34,8 @@ use core::fmt;
 #[cfg(feature = "alloc")]
 pub use owned::OwnedTables;
 
-/// Bytes of the longest rim file.
-pub const MAX_FILE: usize = 8 + 16 * 256;
+/// Bytes of the longest rim file, which is of edition 2.
+pub const MAX_FILE: usize = 10 + 22 * 256;
 
 /// Vertices of the longest rim.
 pub const MAX_VERTICES: usize = 64;
@@ -59,7 +60,8 @@ pub struct Tables<'a> {
     /// The candidate numbers of the patch, in walk order.
     pub triangles: &'a mut [u16],
     pub candidates: &'a mut [Candidate],
-    /// The weight of the candidate of the same number.
+    /// The weight of the candidate of the same number. In edition 2 it has the bends at the candidate's
+    /// rim edges added, to the normals of the surface outside.
     pub weights: &'a mut [u32],
     pub rows: &'a mut [Row],
     /// Scratch, one place for each candidate.
@@ -134,10 +136,11 @@ numbers! {
     Candidate = 15, "the candidates of a direct job are not vertices a < b < c < n in rising order";
     Row = 16, "the rows of a direct job are not hanging pairs in rising order";
     Weight = 17, "a weight of a direct job is more than 2,000,000,000";
+    Normal = 18, "a number of a normal is not from -1000 to 1000";
 }
 
 impl Number {
-    /// The number itself, 1 to 17.
+    /// The number itself, 1 to 18.
     pub fn code(self) -> u32 {
         self as u32
     }
@@ -156,7 +159,7 @@ impl fmt::Display for Number {
 
 impl Error for Number {}
 
-/// The places that the tables of a rim file need, or a number of 1 to 12.
+/// The places that the tables of a rim file need, or a number of 1 to 12 or 18.
 pub fn sizes(file: &[u8]) -> Result<Sizes, Number> {
     // SAFETY: the slice is valid for the call.
     let answer = unsafe { archive::patch_box_sizes(file.as_ptr(), file.len()) };
@@ -165,7 +168,7 @@ pub fn sizes(file: &[u8]) -> Result<Sizes, Number> {
     Ok(Sizes { triangles, candidates, weights, rows, work })
 }
 
-/// The one call: closes the rim of a rim file. A number of 1 to 13 where it is refused.
+/// The one call: closes the rim of a rim file. A number of 1 to 13 or 18 where it is refused.
 pub fn rim(file: &[u8], tables: Tables) -> Result<Outcome, Number> {
     let Tables { triangles, candidates, weights, rows, work } = tables;
     // SAFETY: each pointer is a slice's own, with that slice's length; mutable slices are disjoint.
@@ -216,7 +219,7 @@ pub fn job(
     answer.outcome()
 }
 
-/// The reader alone: how many vertices the rim has, or a number of 1 to 11.
+/// The reader alone: how many vertices the rim has, or a number of 1 to 11 or 18.
 pub fn read(file: &[u8]) -> Result<usize, Number> {
     // SAFETY: the slice is valid for the call.
     let answer = unsafe { archive::patch_box_read(file.as_ptr(), file.len()) };
@@ -224,7 +227,7 @@ pub fn read(file: &[u8]) -> Result<usize, Number> {
     Ok(answer.vertices)
 }
 
-/// The reader, then the candidate finder: a number of 1 to 13 where it is refused.
+/// The reader, then the candidate finder: a number of 1 to 13 or 18 where it is refused.
 pub fn find(
     file: &[u8],
     candidates: &mut [Candidate],

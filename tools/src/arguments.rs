@@ -8,7 +8,7 @@ use std::path::PathBuf;
 
 pub const HELP: &str = "\
 usage: ./rim make [--area N] [--bend N] [--decimal-comma] [-o FILE] POINTS
-       ./rim show [-o FILE] RIM
+       ./rim show [--list] [-o FILE] RIM
        ./rim draw [--from VIEW] [-o FILE] RIM
        ./rim stl|obj [-o FILE] RIM
 
@@ -20,11 +20,17 @@ usage: ./rim make [--area N] [--bend N] [--decimal-comma] [-o FILE] POINTS
 POINTS is text with a line for each point of the rim, in order around the gap; the last point joins
 the first. A line is x y z in millimetres, or x y for a level point, which has the height of the point
 before it. Numbers are separated by blanks or tabs, by commas, or by semicolons; # starts a comment.
-RIM is a rim file. For either, - is standard input.
+After a point, normal nx ny nz is the normal of the surface outside the edge to the next point (for
+the last point, to the first), which the patch is to leave smoothly: three whole numbers from -1000 to
+1000, best of length 1000, or, where one has a decimal mark, a direction of any length. It looks to
+the side from which the rim runs counterclockwise. 0 0 0, or no normal, is no surface. With a normal
+in it the list makes a file of edition 2, without one a file of edition 1.
+RIM is a rim file of either edition. For POINTS and RIM, - is standard input.
 
   --area N          area factor, 0 to 16 (default 1)
   --bend N          bend factor, 0 to 65535 (default 1)
   --decimal-comma   1,5 is one and a half, not 1 and 5; then no comma separates
+  --list            only the list of points that make takes back, with the normals
   --from VIEW       top (default), front, side, corner, or a direction X,Y,Z to look from
   -o FILE           write to FILE, which is replaced only by a complete one (default: standard output)
 
@@ -36,6 +42,7 @@ Status: 0 done; 1 the list or the rim is refused, or has no patch to mill; 2 it 
 pub enum Command {
     Make { area: u16, bend: u16, comma: Comma },
     Show,
+    List,
     Draw(View),
     Stl,
     Obj,
@@ -52,6 +59,7 @@ struct Options {
     area: u16,
     bend: u16,
     comma: Comma,
+    list: bool,
     view: View,
     output: Place,
 }
@@ -76,6 +84,7 @@ impl Options {
         area: 1,
         bend: 1,
         comma: Comma::Separator,
+        list: false,
         view: View::TOP,
         output: Place::Standard,
     };
@@ -93,6 +102,7 @@ impl Options {
             ("make", "--area") => self.area = factor(option, &value()?, MAX_AREA_FACTOR)?,
             ("make", "--bend") => self.bend = factor(option, &value()?, u16::MAX)?,
             ("make", "--decimal-comma") => self.comma = Comma::DecimalMark,
+            ("show", "--list") => self.list = true,
             ("draw", "--from") => self.view = View::named(&value()?)?,
             _ => return Err(format!("{command} has no option {option} (./rim --help)")),
         }
@@ -102,6 +112,7 @@ impl Options {
     fn command(&self, command: &str) -> Result<Command, String> {
         match command {
             "make" => Ok(Command::Make { area: self.area, bend: self.bend, comma: self.comma }),
+            "show" if self.list => Ok(Command::List),
             "show" => Ok(Command::Show),
             "draw" => Ok(Command::Draw(self.view)),
             "stl" => Ok(Command::Stl),

@@ -1,8 +1,9 @@
-//! Where a rim file is wrong: the first number due of 1 to 12, in the order of rule 4.31, and the
-//! place it is due at. The library decides the number; this only says where to look.
+//! Where a rim file is wrong: the first number due of 1 to 12 and 18, in the order of rule 4.31, and
+//! the place it is due at. The library decides the number; this only says where to look.
 
-use crate::rim_file::{grid_number, header, records, Header, Record};
-use crate::rim_file::{HEADER, LEVEL_POINT, LIMIT, MAX_AREA_FACTOR, MAX_RECORDS, POINT, RECORD};
+use crate::rim_file::{grid_number, header, records, Edition, Header, Record};
+use crate::rim_file::{LEVEL_POINT, LIMIT, MAX_AREA_FACTOR, MAX_RECORDS, POINT};
+use crate::rim_file::{NORMAL_AXES, NORMAL_LIMIT};
 use crate::vectors::{cross, dot, minus};
 use patch_box::{Number, MAX_VERTICES};
 
@@ -12,6 +13,8 @@ pub struct Vertex {
     /// The number of its record.
     pub record: u16,
     pub point: [i64; 3],
+    /// Of the surface outside the edge from this vertex to the next; zeros where there is none.
+    pub normal: [i64; 3],
 }
 
 /// A number and the place it is due at.
@@ -52,22 +55,27 @@ fn judge(file: &[u8], vertices: &mut Vec<Vertex>) -> Result<(), Due> {
 
 fn check_length(file: &[u8]) -> Result<Header, Due> {
     let length = file.len();
+    let edition = Edition::of(file);
     let wrong = |place: String| {
         // A rim file has small bytes in its header; text has none.
         let text = length > 0 && file.iter().all(|&byte| byte >= b'\t');
-        let hint =
-            if text { "; this looks like text, ./rim make takes a list of points" } else { "" };
+        let hint = match edition {
+            Edition::One if text => "; this looks like text, ./rim make takes a list of points",
+            Edition::One => "",
+            Edition::Two => "; the file begins with 65535, so it is of edition 2",
+        };
         Due { number: Number::Length, place: place + hint }
     };
     let Some(header) = header(file) else {
-        return Err(wrong(format!("{length} bytes are too few for a header of {HEADER}")));
+        let needed = edition.header();
+        return Err(wrong(format!("{length} bytes are too few for a header of {needed}")));
     };
-    let needed = HEADER + RECORD * header.records as usize;
-    if header.records > MAX_RECORDS {
-        return Err(wrong(format!("the header says {} records", header.records)));
+    let records = header.records;
+    if records > MAX_RECORDS {
+        return Err(wrong(format!("the header says {records} records")));
     }
+    let needed = edition.length(records);
     if length != needed {
-        let records = header.records;
         return Err(wrong(if length > patch_box::MAX_FILE {
             format!("{records} records make {needed} bytes, the file has more")
         } else {
@@ -89,7 +97,7 @@ fn follow_chain(header: Header, records: &[Record], chain: &mut Vec<Vertex>) -> 
             place: format!("record {link}, vertex {vertex}: {what}"),
         })?;
         height = Some(point[2]);
-        chain.push(Vertex { record: link, point });
+        chain.push(Vertex { record: link, point, normal: record.normal.map(i64::from) });
         link = record.next;
     }
     Ok(())
@@ -132,6 +140,10 @@ fn check_record(record: Record, height: Option<i64>) -> Result<[i64; 3], (Number
     }
     if let Some((axis, value)) = named.iter().find(|(_, value)| value.abs() > LIMIT) {
         return Err((Number::OutOfRange, format!("{axis} = {}", float(*value))));
+    }
+    let inside = -NORMAL_LIMIT..=NORMAL_LIMIT;
+    if let Some(k) = record.normal.iter().position(|number| !inside.contains(number)) {
+        return Err((Number::Normal, format!("{} = {}", NORMAL_AXES[k], record.normal[k])));
     }
     let own = grid_number(z);
     let z = if record.kind == POINT { own } else { height.unwrap_or(own) };

@@ -2,12 +2,13 @@
 
 #![forbid(unsafe_code)]
 
+use patch_box::Number;
 use rim::arguments::{parse, Command, Request, HELP};
 use rim::diagnosis::diagnose;
 use rim::output::{is_screen, read, reason, write, Place};
 use rim::patch::{close, Patch};
 use rim::points::{points, Comma};
-use rim::{mesh, picture, rim_file, show, Failure};
+use rim::{list, mesh, picture, rim_file, show, Failure};
 use std::io::Write;
 use std::process::ExitCode;
 
@@ -36,12 +37,20 @@ fn make(place: &Place, area: u16, bend: u16, comma: Comma) -> Result<Vec<u8>, Fa
     }
 }
 
-fn closed(place: &Place) -> Result<Patch, Failure> {
+/// What the library makes of a rim file, or its refusal in one line.
+fn taken<T>(place: &Place, call: fn(&[u8]) -> Result<T, Number>) -> Result<(Vec<u8>, T), Failure> {
     let file = rim_input(place)?;
-    close(&file).map_err(|number| {
-        let why = show::refusal(number, &diagnose(&file));
-        Failure::Refused(format!("{}: {why}", place.name()))
-    })
+    match call(&file) {
+        Ok(answer) => Ok((file, answer)),
+        Err(number) => {
+            let why = show::refusal(number, &diagnose(&file));
+            Err(Failure::Refused(format!("{}: {why}", place.name())))
+        }
+    }
+}
+
+fn closed(place: &Place) -> Result<Patch, Failure> {
+    taken(place, close).map(|(_, patch)| patch)
 }
 
 /// The mesh of a patch that has triangles.
@@ -68,6 +77,10 @@ fn answer(command: Command, from: &Place) -> Result<(Vec<u8>, u8), Failure> {
         Command::Show => {
             let (text, taken) = show::show(&rim_input(from)?);
             Ok((text.into_bytes(), if taken { 0 } else { 1 }))
+        }
+        Command::List => {
+            let (file, _) = taken(from, patch_box::read)?;
+            Ok((list::list(&file).into_bytes(), 0))
         }
         Command::Draw(view) => Ok((picture::svg(&closed(from)?, view).into_bytes(), 0)),
         Command::Stl => Ok((milled(from, mesh::stl)?, 0)),

@@ -7,7 +7,8 @@ use patch_box::{Candidate, Number, Outcome, OwnedTables, Row};
 #[derive(Clone, Copy, Debug, PartialEq, Eq)]
 pub struct Triangle {
     pub vertices: Candidate,
-    pub area_weight: u32,
+    /// The area, and in edition 2 the bends at its rim edges to the surface outside (rule 2.15).
+    pub own_weight: u32,
     /// Of the row to the triangle that it hangs on; the first hangs on none, and has 0.
     pub bend_weight: u32,
 }
@@ -16,6 +17,8 @@ pub struct Triangle {
 #[derive(Clone, Debug, PartialEq, Eq)]
 pub struct Patch {
     pub vertices: Vec<[i64; 3]>,
+    /// Of the surface outside the edge from each vertex to the next; zeros where there is none.
+    pub normals: Vec<[i64; 3]>,
     pub triangles: Vec<Triangle>,
     pub total: u64,
     /// Why there is nothing to mill, where that is so.
@@ -48,7 +51,7 @@ fn triangle(tables: &OwnedTables, i: usize) -> Triangle {
         |row: &&Row| row[1] == number as u32 && earlier.iter().any(|&outer| outer as u32 == row[0]);
     Triangle {
         vertices: tables.candidates[number as usize],
-        area_weight: tables.weights[number as usize],
+        own_weight: tables.weights[number as usize],
         bend_weight: tables.rows.iter().find(of_patch).map_or(0, |row| row[2]),
     }
 }
@@ -59,11 +62,12 @@ pub fn close(file: &[u8]) -> Result<Patch, Number> {
         Outcome::None => (0, 0),
         Outcome::Patch { triangles, total } => (triangles, total),
     };
-    let vertices: Vec<_> = diagnose(file).vertices.iter().map(|vertex| vertex.point).collect();
+    let chain = diagnose(file).vertices;
     Ok(Patch {
         triangles: (0..count).map(|i| triangle(&tables, i)).collect(),
         total,
-        none: (count == 0).then(|| why_none(vertices.len(), &tables.candidates)),
-        vertices,
+        none: (count == 0).then(|| why_none(chain.len(), &tables.candidates)),
+        vertices: chain.iter().map(|vertex| vertex.point).collect(),
+        normals: chain.iter().map(|vertex| vertex.normal).collect(),
     })
 }

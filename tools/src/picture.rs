@@ -1,14 +1,18 @@
 //! A patch as a picture (SVG): rim edges strong, inner edges thin, vertices numbered, triangles shaded
-//! by how they face the viewer. Lines and areas are in millimetres of the view; letters are in pixels.
+//! by how they face the viewer, and a stroke for each normal of the surface outside. Lines and areas are
+//! in millimetres of the view; letters and strokes are in pixels.
 
 use crate::patch::Patch;
 use crate::rim_file::millimetres;
-use crate::vectors::{dot, unit_normal};
+use crate::vectors::{dot, unit, unit_normal};
 use crate::view::{Camera, Flat, Scale, Vector, View, MARGIN, WIDTH};
 use std::fmt::Write;
 
 /// Pixels below the rim, for the scale and the caption.
 const CAPTION: f64 = 78.0;
+
+/// Pixels of a normal that is seen in its full length.
+const STROKE: f64 = 26.0;
 
 /// A number to at most so many decimals, without idle zeros.
 fn decimals(value: f64, places: usize) -> String {
@@ -44,6 +48,7 @@ pub fn svg(patch: &Patch, view: View) -> String {
     let mut drawing = Drawing { patch, points, flat, camera, scale, text: String::new() };
     drawing.head();
     drawing.surface();
+    drawing.normals();
     drawing.vertices();
     drawing.caption(view);
     drawing.text + "</svg>\n"
@@ -165,6 +170,29 @@ impl Drawing<'_> {
         (0..n).map(part).sum()
     }
 
+    /// From the middle of a rim edge, the normal of the surface outside it.
+    fn normals(&mut self) {
+        let n = self.flat.len();
+        for k in 0..n {
+            let normal = self.patch.normals[k];
+            if normal == [0; 3] {
+                continue;
+            }
+            let [p, q] = [k, (k + 1) % n].map(|i| self.scale.pixel(self.flat[i]));
+            let [x, y] = [0, 1].map(|i| (p[i] + q[i]) / 2.0);
+            let [u, v] = self.camera.flat(unit(normal.map(|part| part as f64)));
+            let [from, to] = [pair([x, y], 1), pair([x + STROKE * u, y - STROKE * v], 1)];
+            self.line(format_args!(
+                "<path d=\"M{from} {to}\" stroke=\"#1f6f3f\" stroke-width=\"2\"/>"
+            ));
+            let centre = [x, y].map(|z| decimals(z, 1));
+            self.line(format_args!(
+                "<circle cx=\"{}\" cy=\"{}\" r=\"2.5\" fill=\"#1f6f3f\"/>",
+                centre[0], centre[1]
+            ));
+        }
+    }
+
     fn vertices(&mut self) {
         for k in 0..self.flat.len() {
             let [x, y] = self.scale.pixel(self.flat[k]);
@@ -197,7 +225,9 @@ impl Drawing<'_> {
         };
         let back = (0..triangles).any(|t| self.facing(t) < 0.0);
         let back = if back { "; blue is the back" } else { "" };
-        let lines = [outcome, format!("{}; {}{back}", self.extent(), view.shown())];
+        let normals = self.patch.normals.iter().any(|&normal| normal != [0; 3]);
+        let normals = if normals { "; green are the normals outside" } else { "" };
+        let lines = [outcome, format!("{}; {}{back}{normals}", self.extent(), view.shown())];
         for (line, place) in lines.iter().zip([32.0, 50.0]) {
             let y = decimals(top + place, 1);
             self.line(format_args!("<text x=\"{MARGIN}\" y=\"{y}\">{line}</text>"));

@@ -2,7 +2,8 @@
 
 use crate::diagnosis::{diagnose, float, Diagnosis, Vertex};
 use crate::patch::{close, Patch};
-use crate::rim_file::{header, millimetres, records, Record, LEVEL_POINT, MAX_RECORDS, POINT};
+use crate::rim_file::{header, millimetres, records, Edition, Record};
+use crate::rim_file::{LEVEL_POINT, MAX_RECORDS, POINT};
 use patch_box::Number;
 use std::fmt::Write;
 
@@ -13,7 +14,7 @@ pub fn show(file: &[u8]) -> (String, bool) {
     let mut text = shown_header(file);
     // What a file of another kind holds are no records.
     if header(file).is_some_and(|header| header.records <= MAX_RECORDS) {
-        text += &shown_records(&records(file));
+        text += &shown_records(&records(file), Edition::of(file));
     }
     text += &shown_vertices(&diagnosis.vertices);
     text += &match &outcome {
@@ -38,20 +39,24 @@ fn shown_header(file: &[u8]) -> String {
     } else {
         format!("{length} bytes")
     };
+    let edition = Edition::of(file).number();
     match header(file) {
         None => format!("rim file of {bytes}, without a header\n\n"),
         Some(header) => format!(
-            "rim file of {bytes}: first record {}, records {}, area factor {}, bend factor {}\n\n",
+            "rim file of {bytes}, edition {edition}: first record {}, records {}, area factor {}, \
+             bend factor {}\n\n",
             header.first, header.records, header.area_factor, header.bend_factor
         ),
     }
 }
 
-fn shown_records(records: &[Record]) -> String {
+fn shown_records(records: &[Record], edition: Edition) -> String {
     if records.is_empty() {
         return String::new();
     }
-    let mut text = String::from("record   next   kind         x mm         y mm         z mm\n");
+    let normals = edition == Edition::Two;
+    let more = if normals { "  normal: x      y      z" } else { "" };
+    let mut text = format!("record   next   kind         x mm         y mm         z mm{more}\n");
     for (record, number) in records.iter().zip(1..) {
         let kind = match record.kind {
             POINT => "point".to_string(),
@@ -61,9 +66,11 @@ fn shown_records(records: &[Record]) -> String {
         let [x, y, z] = record.floats.map(float);
         let level = record.kind == LEVEL_POINT && record.floats[2].to_bits() == 0;
         let z = if level { "-" } else { &z };
+        let [u, v, w] = record.normal;
+        let more = if normals { format!(" {u:>10} {v:>6} {w:>6}") } else { String::new() };
         line(
             &mut text,
-            format_args!("{number:>6} {:>6} {kind:>6} {x:>12} {y:>12} {z:>12}", record.next),
+            format_args!("{number:>6} {:>6} {kind:>6} {x:>12} {y:>12} {z:>12}{more}", record.next),
         );
     }
     text + "\n"
@@ -93,14 +100,14 @@ fn shown_patch(patch: &Patch) -> String {
         return format!("{why}\n");
     }
     let mut text = format!(
-        "patch of {} triangles, total {}\n\n     a      b      c  area weight  bend weight\n",
+        "patch of {} triangles, total {}\n\n     a      b      c   own weight  bend weight\n",
         patch.triangles.len(),
         patch.total
     );
     for triangle in &patch.triangles {
         let [a, b, c] = triangle.vertices;
-        let (area, bend) = (triangle.area_weight, triangle.bend_weight);
-        line(&mut text, format_args!("{a:>6} {b:>6} {c:>6} {area:>12} {bend:>12}"));
+        let (own, bend) = (triangle.own_weight, triangle.bend_weight);
+        line(&mut text, format_args!("{a:>6} {b:>6} {c:>6} {own:>12} {bend:>12}"));
     }
     text
 }

@@ -2,18 +2,7 @@
 
 mod common;
 
-use common::{bytes_of, example, run};
-
-fn made(list: &str) -> Vec<u8> {
-    run(&["make", "-"], list.as_bytes()).done().out
-}
-
-/// The line on standard error, after the name of the input.
-fn refused(list: impl AsRef<[u8]>, line: &str) {
-    run(&["make", "-"], list.as_ref()).refused(1, &format!("standard input: {line}"));
-}
-
-const P: &str = "0 0 0\n1 0 0\n1 1 0.75\n0 1 0\n";
+use common::{bytes_of, example, made, refused, run, P};
 
 #[test]
 fn rim_file_p_from_its_points() {

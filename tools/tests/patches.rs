@@ -3,24 +3,36 @@
 mod common;
 
 use common::{bytes_of, example, run};
-use rim::patch::close;
+use rim::patch::{close, Triangle};
 use std::collections::HashMap;
 
-const RIMS: [&str; 5] = ["p.rim", "saddle12.rim", "ring64.rim", "gap.rim", "skew64.rim"];
+const RIMS: [&str; 7] = [
+    "p.rim",
+    "saddle12.rim",
+    "ring64.rim",
+    "gap.rim",
+    "ridge.rim",
+    "ridge-normals.rim",
+    "skew64.rim",
+];
 
 /// Each example is what the tool makes today. `./rim` with the words writes it again.
 #[test]
 fn examples_are_up_to_date() {
-    let cases: [(&[&str], &str); 5] = [
-        (&["make", "gap.txt"], "gap.rim"),
-        (&["draw", "gap.rim"], "gap.svg"),
-        (&["stl", "gap.rim"], "gap.stl"),
-        (&["obj", "gap.rim"], "gap.obj"),
-        (&["make", "skew64.txt"], "skew64.rim"),
+    let cases: [(&[&str], &str, &str); 9] = [
+        (&["make"], "gap.txt", "gap.rim"),
+        (&["draw"], "gap.rim", "gap.svg"),
+        (&["stl"], "gap.rim", "gap.stl"),
+        (&["obj"], "gap.rim", "gap.obj"),
+        (&["make", "--bend", "16"], "ridge.txt", "ridge.rim"),
+        (&["draw"], "ridge.rim", "ridge.svg"),
+        (&["make", "--bend", "16"], "ridge-normals.txt", "ridge-normals.rim"),
+        (&["draw"], "ridge-normals.rim", "ridge-normals.svg"),
+        (&["make"], "skew64.txt", "skew64.rim"),
     ];
-    for (words, name) in cases {
-        let input = example(words[1]).display().to_string();
-        let made = run(&[words[0], &input], b"").done().out;
+    for (words, from, name) in cases {
+        let input = example(from).display().to_string();
+        let made = run(&[words, &[&input]].concat(), b"").done().out;
         assert!(made == bytes_of(name), "examples/{name} is not what ./rim {words:?} writes");
     }
 }
@@ -108,6 +120,24 @@ fn pictures_from_every_side() {
             assert!((0..patch.vertices.len()).all(labelled), "{name} {view}");
         }
     }
+}
+
+/// Where the block has its edge, the patch with normals has one too; without, it cuts the edge off.
+#[test]
+fn normals_lead_the_patch() {
+    let patches =
+        ["ridge.rim", "ridge-normals.rim"].map(|name| close(&bytes_of(name)).expect("accepted"));
+    let [without, with] = &patches;
+    assert_eq!(without.vertices, with.vertices);
+    assert_eq!([without.total, with.total], [167_198, 192_082]);
+    let on_the_edge = |triangle: &&Triangle| [0, 4].iter().all(|k| triangle.vertices.contains(k));
+    let counts = patches.each_ref().map(|patch| patch.triangles.iter().filter(on_the_edge).count());
+    assert_eq!(counts, [0, 2]);
+    let strokes = |name: &str| {
+        let svg = run(&["draw", "-"], &bytes_of(name)).done().text();
+        (svg.matches("#1f6f3f\" stroke-width").count(), svg.contains("normals outside"))
+    };
+    assert_eq!(["ridge.rim", "ridge-normals.rim"].map(strokes), [(0, false), (8, true)]);
 }
 
 /// A rim seen edge on has no width, and is drawn all the same.

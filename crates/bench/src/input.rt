@@ -1,7 +1,7 @@
 // The length of the input.
 
-// One byte more than the longest rim file of 8 + 16 * 256 bytes: an input that fills a buffer of this length is too long, and is refused for its length.
-pub(crate) const BUFFER: usize = 4105;
+// One byte more than the longest rim file of either edition, which is one of edition 2 with 10 + 22 * 256 bytes (rule 1.12): an input that fills a buffer of this length is too long, and is refused for its length.
+pub(crate) const BUFFER: usize = 5643;
 
 // How often more input is read: 4 GiB in all. A program that is proved to end cannot read without a limit.
 const CHUNKS: u32 = 65536;

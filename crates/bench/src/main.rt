@@ -1,4 +1,4 @@
-// The bench program (rules 5.3, 5.4): closes the gap of the rim file on standard input.
+// The bench program (rules 5.3, 5.4): closes the gap of the rim file on standard input, of either edition.
 mod hanging;
 mod input;
 mod output;

@@ -18,7 +18,7 @@ fn print_vertex(vertex: u8) {
     print_space();
 }
 
-// a, b, c and the area weight; nothing for a number that is no candidate's.
+// a, b, c and the own weight; nothing for a number that is no candidate's.
 fn print_triangle(number: u16, candidates: &[[u8; 3]], weights: &[u32]) {
     let t = number as usize;
     if candidates.len() <= t {

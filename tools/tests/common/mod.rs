@@ -50,6 +50,19 @@ pub fn run_in(folder: &Path, words: &[&str], input: &[u8]) -> Run {
     }
 }
 
+/// The points of examples/p.rim.
+pub const P: &str = "0 0 0\n1 0 0\n1 1 0.75\n0 1 0\n";
+
+/// The rim file of a list.
+pub fn made(list: &str) -> Vec<u8> {
+    run(&["make", "-"], list.as_bytes()).done().out
+}
+
+/// The list is refused with this line, after the name of the input.
+pub fn refused(list: impl AsRef<[u8]>, line: &str) {
+    run(&["make", "-"], list.as_ref()).refused(1, &format!("standard input: {line}"));
+}
+
 /// A file of examples/.
 pub fn example(name: &str) -> PathBuf {
     Path::new(env!("CARGO_MANIFEST_DIR")).join("../examples").join(name)
@@ -57,6 +70,16 @@ pub fn example(name: &str) -> PathBuf {
 
 pub fn bytes_of(name: &str) -> Vec<u8> {
     std::fs::read(example(name)).expect("an example")
+}
+
+/// A file of edition 1 in edition 2, with this normal in each record.
+pub fn with_normals(file: &[u8], normal: [i16; 3]) -> Vec<u8> {
+    let mut bytes = [&[255, 255], &file[..8]].concat();
+    for record in file[8..].chunks(16) {
+        bytes.extend(record);
+        bytes.extend(normal.iter().flat_map(|number| number.to_le_bytes()));
+    }
+    bytes
 }
 
 /// An empty folder that goes with its value.

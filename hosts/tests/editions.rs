@@ -1,0 +1,74 @@
+//! Both editions of the rim file, through the calls.
+
+#![forbid(unsafe_code)]
+
+use patch_box::{Number, Outcome, OwnedTables, MAX_FILE};
+
+/// Rim file P (rule 6.1), of edition 2 where it has normals.
+fn p(normals: Option<[[i16; 3]; 4]>) -> Vec<u8> {
+    let points = [[0.0, 0.0, 0.0], [1.0, 0.0, 0.0], [1.0, 1.0, 0.75], [0.0, 1.0, 0.0f32]];
+    let mark: &[u16] = if normals.is_some() { &[65_535] } else { &[] };
+    let mut file = words(mark.iter().chain(&[1, 4, 1, 1]).copied());
+    for (k, point) in points.iter().enumerate() {
+        let next = if k == 3 { 0 } else { k as u16 + 2 };
+        file.extend(words([next, 1]));
+        file.extend(point.iter().flat_map(|x| x.to_le_bytes()));
+        let normal = normals.iter().flat_map(|normals| normals[k]);
+        file.extend(normal.flat_map(|x| x.to_le_bytes()));
+    }
+    file
+}
+
+fn words(numbers: impl IntoIterator<Item = u16>) -> Vec<u8> {
+    numbers.into_iter().flat_map(|number| number.to_le_bytes()).collect()
+}
+
+/// The outcome, the patch and the weights of the four candidates 012, 013, 023, 123.
+fn closed(file: &[u8]) -> Result<(Outcome, Vec<u16>, Vec<u32>), Number> {
+    let mut tables = OwnedTables::new(patch_box::sizes(file)?);
+    let outcome = patch_box::rim(file, tables.lend())?;
+    Ok((outcome, tables.triangles, tables.weights))
+}
+
+/// By hand: the candidates have the normals (0, -48, 64), (0, 0, 64), (-48, 0, 64), (-48, -48, 64) and
+/// the lengths 80, 64, 80, 93; their bends to (0, -600, 800) are 0, 200, 360 and 140.
+#[test]
+fn weights_have_the_bends_at_rim_edges() {
+    let patch = |total: u64| Outcome::Patch { triangles: 2, total };
+    let plain = (patch(469), vec![1, 3], vec![80, 64, 80, 93]);
+    assert_eq!(closed(&p(None)), Ok(plain.clone()));
+    let none = [0; 3];
+    assert_eq!(closed(&p(Some([none; 4]))), Ok(plain));
+    let wall = [0, -600, 800];
+    let cases = [
+        ([wall, none, none, none], patch(520), vec![2, 0], vec![80, 264, 80, 93]),
+        ([none, wall, none, none], patch(520), vec![2, 0], vec![80, 64, 80, 233]),
+        ([none, none, wall, none], patch(609), vec![1, 3], vec![80, 64, 440, 233]),
+        ([none, none, none, wall], patch(669), vec![1, 3], vec![80, 264, 440, 93]),
+        ([wall; 4], patch(1149), vec![1, 3], vec![80, 464, 800, 373]),
+    ];
+    for (normals, outcome, triangles, weights) in cases {
+        assert_eq!(closed(&p(Some(normals))), Ok((outcome, triangles, weights)), "{normals:?}");
+    }
+}
+
+#[test]
+fn numbers_of_edition_2() {
+    let [low, high] = [[-1000; 3], [1000; 3]];
+    assert!(closed(&p(Some([low, high, low, high]))).is_ok());
+    for beyond in [[1001, 0, 0], [0, -1001, 0], [0, 0, i16::MIN]] {
+        assert_eq!(closed(&p(Some([low, low, low, beyond]))), Err(Number::Normal));
+    }
+    let file = p(Some([high; 4]));
+    assert_eq!(file.len(), 10 + 22 * 4);
+    for length in 0..file.len() {
+        assert_eq!(patch_box::read(&file[..length]), Err(Number::Length));
+    }
+    // The longest file, with spare records of any content.
+    let mut longest = file.clone();
+    longest[4..6].copy_from_slice(&256u16.to_le_bytes());
+    longest.resize(MAX_FILE, 0xff);
+    assert_eq!(patch_box::read(&longest), Ok(4));
+    longest.push(0);
+    assert_eq!(patch_box::read(&longest), Err(Number::Length));
+}
