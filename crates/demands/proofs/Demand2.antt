@@ -22,7 +22,8 @@ use Rattle.faces.proofs.Sets.{triple-same, same-triple}
 use Rattle.faces.proofs.Fours.{four-found, four-here}
 use Rattle.faces.proofs.Members.{triples-member, triples-put}
 use Rattle.delaunay.specs.Candidates.{vertex, insideFour, onFour, counts, isCandidate, candidatesOf, isCorner, isFifth, cospherical}
-use Rattle.dihedrals.specs.Dihedrals.{faceWeight, weightsOf, hingeWeight, rowAt, rowsOf}
+use Rattle.dihedrals.specs.Dihedrals.{hingeWeight, rowAt, rowsOf}
+use Rattle.weights.specs.Weights.{ownWeight, weightsOf}
 use Rattle.dihedrals.proofs.Faces.{weight-at}
 use Rattle.demands.specs.Demand2.{Counts, Face, abc, abd, acd, bcd, Cospherical, IsRow, Demand2, Flat}
 use Rattle.finder.proofs.Accepted.{row-hinge, hinge-row, rows-in-order, candidates-in-order, weights-allowed}
@@ -164,7 +165,7 @@ module _ (p : Polygon) (v : Valid p) where
     listed = λ a b c f. let r = face-candidate p a b c f in triples-put (p .n) (isCandidate p) a b c (r .0) (r .1) (r .2) (r .3);
     faces = λ t m. listed-face p t m;
     ascending = λ i j h k. true-before (entryAt cs i) (entryAt cs j) (candidates-in-order p v .ascending i j h k);
-    weight-count = length-map cs (faceWeight p);
+    weight-count = length-map cs (ownWeight p);
     weight = λ i h. weight-at p cs i h;
     hinge = λ k h. true-hangs (entryAt cs (inner (entryAt rows k))) (entryAt cs (outer (entryAt rows k))) (rows-in-order p cs .named k h .hanging);
     hinge-outer = λ k h. rows-in-order p cs .named k h .outer-is;

@@ -11,7 +11,8 @@ use Rattle.polygon.specs.declared.Polygon.{Polygon}
 use Rattle.polygon.specs.Polygon.{Valid}
 use Rattle.polygon.proofs.Validity.{code-valid}
 use Rattle.delaunay.specs.Candidates.{candidatesOf}
-use Rattle.dihedrals.specs.Dihedrals.{faceWeight, weightsOf, rowsOf}
+use Rattle.dihedrals.specs.Dihedrals.{rowsOf}
+use Rattle.weights.specs.Weights.{ownWeight, weightsOf}
 use Rattle.finder.specs.declared.Found.the-variants.{Lists}
 use Rattle.finder.specs.Finding.{shortTables, findBy, findNumber, findCall}
 use Rattle.finder.proofs.Answers.{clear}
@@ -24,7 +25,7 @@ pub filled-hold : (p : Polygon) → Valid p → (candidates : List (List ℕ)) (
     (filled (candidatesOf p) candidates) (filled (weightsOf p (candidatesOf p)) weights) (filled (rowsOf p (candidatesOf p)) rows)
 filled-hold p v candidates weights rows =
     let cs = candidatesOf p in
-    let same-count : length cs ≡ length (weightsOf p cs) = sym (length-map cs (faceWeight p)) in
+    let same-count : length cs ≡ length (weightsOf p cs) = sym (length-map cs (ownWeight p)) in
     let of-candidates : take (length cs) (filled cs candidates) ≡ cs = filled-take cs candidates (length cs) refl in
     let of-weights : take (length cs) (filled (weightsOf p cs) weights) ≡ weightsOf p cs = filled-take (weightsOf p cs) weights (length cs) same-count in
     let of-rows : take (length (rowsOf p cs)) (filled (rowsOf p cs) rows) ≡ rowsOf p cs = filled-take (rowsOf p cs) rows (length (rowsOf p cs)) refl in

@@ -25,7 +25,8 @@ use Rattle.geometry.specs.Faces.{lengthOf, ratioOf, bendOf}
 use Rattle.geometry.specs.Spheres.{orientOf, centreOf, distanceOf}
 use Rattle.faces.specs.Faces.{isFace}
 use Rattle.delaunay.specs.Candidates.{counts, isCandidate, candidatesOf, cospherical}
-use Rattle.dihedrals.specs.Dihedrals.{weightsOf, rowsOf}
+use Rattle.dihedrals.specs.Dihedrals.{rowsOf}
+use Rattle.weights.specs.Weights.{weightsOf}
 use Rattle.jobs.specs.Job.{ascends, before, candidateFits, hangs, namesPair, rowBefore, rowFits, listsCode, jobCode}
 use Rattle.finder.specs.Finding.{short, numberDue}
 use Rattle.triangulation.specs.Triangulations.{Job, Answer, best, patch, bestKey, key, isTriangulation, totalWeight, preorderFrom, countBetween, countOutside}

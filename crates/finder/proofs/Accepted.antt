@@ -10,7 +10,7 @@ use Rattle.polygon.specs.declared.Polygon.{Polygon}
 use Rattle.polygon.specs.Polygon.{Valid}
 use Rattle.geometry.specs.Vectors.{dotOf}
 use Rattle.geometry.specs.Faces.{lengthOf}
-use Rattle.geometry.proofs.Faces.{length-bound, area-weight-bound, bend-weight-bound}
+use Rattle.geometry.proofs.Faces.{bend-weight-bound}
 use Rattle.geometry.proofs.Bends.{bend-bound}
 use Rattle.terms.specs.Limits.{maxWeight}
 use Rattle.terms.specs.Entries.{entryAt, vertexA, vertexB, vertexC, outer, inner, rowWeight}
@@ -20,8 +20,9 @@ use Rattle.jobs.proofs.Lists as lists
 use Rattle.lists.specs.Lists.{when}
 use Rattle.lists.proofs.Members.{Ascending, over-member, over-put, when-member, when-put, over-ascending, when-ascending, ascending-at, entry-member}
 use Rattle.delaunay.specs.Candidates.{isCandidate, candidatesOf}
-use Rattle.dihedrals.specs.Dihedrals.{faceNormal, weightsOf, rowAt, rowsOn, rowsOf}
-use Rattle.dihedrals.proofs.Faces.{face-within, weight-at}
+use Rattle.dihedrals.specs.Dihedrals.{faceNormal, rowAt, rowsOn, rowsOf}
+use Rattle.weights.specs.Weights.{weightsOf}
+use Rattle.weights.proofs.Edges.{own-weight-bound, weight-at}
 use Rattle.finder.proofs.Candidates.{triples-ascend, candidate-at, candidates-solid}
 
 -- ---- rows, of any list of candidates
@@ -94,7 +95,7 @@ module _ (p : Polygon) (v : Valid p) where
 
   pub weights-allowed : lists.Weights (candidatesOf p) (weightsOf p (candidatesOf p)) (rowsOf p (candidatesOf p))
   weights-allowed = record {
-    own = λ i h. subst (λ (w : ℕ). w ≤ maxWeight) (sym (weight-at p (candidatesOf p) i h)) (le-trans (area-weight-bound (v .area-factor) (length-bound (face-within v (candidates-solid p v .corners i h)))) (lit≤ tt));
+    own = λ i h. subst (λ (w : ℕ). w ≤ maxWeight) (sym (weight-at p (candidatesOf p) i h)) (own-weight-bound v (candidates-solid p v .corners i h));
     of-row = λ k h. let f = row-hinge p (candidatesOf p) (entryAt (rowsOf p (candidatesOf p)) k) (entry-member (rowsOf p (candidatesOf p)) [] k h) in
         subst (λ (w : ℕ). w ≤ maxWeight) (sym (ap rowWeight (f .is))) (le-trans (bend-weight-bound (v .bend-factor) (bend-bound (dotOf (faceNormal p (entryAt (candidatesOf p) (f .i))) (faceNormal p (entryAt (candidatesOf p) (f .o)))) (lengthOf (faceNormal p (entryAt (candidatesOf p) (f .i)))) (lengthOf (faceNormal p (entryAt (candidatesOf p) (f .o)))))) (lit≤ tt));
   }

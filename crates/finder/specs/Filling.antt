@@ -9,7 +9,8 @@ use Rattle.faces.specs.Faces.{triplesOf}
 use Rattle.faces.specs.Masks.{has}
 use Rattle.delaunay.specs.Candidates.{candidatesOf}
 use Rattle.hinges.specs.Hinges.{innersOf}
-use Rattle.dihedrals.specs.Dihedrals.{weightsOf, rowsOf}
+use Rattle.dihedrals.specs.Dihedrals.{rowsOf}
+use Rattle.weights.specs.Weights.{weightsOf}
 use Rattle.lists.specs.Lists.{filled}
 use Rattle.finder.specs.declared.Found.the-variants.{Lists, Refused}
 use Rattle.finder.specs.declared.Places.{Places}

@@ -7,7 +7,8 @@ use lib.ListN.{length}
 use Rattle.polygon.specs.declared.Polygon.{Polygon}
 use Rattle.polygon.specs.Polygon.{codeOf}
 use Rattle.delaunay.specs.Candidates.{candidatesOf, cospherical}
-use Rattle.dihedrals.specs.Dihedrals.{weightsOf, rowsOf}
+use Rattle.dihedrals.specs.Dihedrals.{rowsOf}
+use Rattle.weights.specs.Weights.{weightsOf}
 use Rattle.lists.specs.Lists.{either, filled}
 use Rattle.finder.specs.declared.Found.{Found}
 use Rattle.finder.specs.declared.Found.the-variants.{Lists, Refused}

@@ -130,8 +130,7 @@ fn write_lists(
     let starts = blocks::block_starts(found);
     dihedrals::write_lengths(p, found, weights);
     dihedrals::write_rows(p, found, &starts, &weights[..count], rows);
-    let factor = p.area_factor;
-    dihedrals::scale_lengths(factor, weights, count);
+    weights::write_weights(p, found, weights);
 }
 
 // 13, or the lists of the set's triangles. They are counted first: all tables are tested before one is written.

@@ -6,7 +6,7 @@ use native.Mathlib.Nat.{le-trans, le-refl}
 use native.Mathlib.Numerals.{add-one}
 use native.Mathlib.Omega.{arith}
 use lib.ListN.{List·getD-append, length, take, drop, set, getD, drop-of-length-le, length-append, length-set, take-append-drop, length-drop}
-use lib.Seq.{length-take-le, drop-cons, take-suc-set, drop-set-lt, drop-drop, take-at, set-append-seam}
+use lib.Seq.{length-take-le, drop-cons, take-suc-set, drop-set-lt, drop-drop, drop-at, take-at, set-append-seam}
 use Rattle.lists.specs.Lists.{filled}
 
 module _ {A : Type 0} where
@@ -107,6 +107,10 @@ rest-end f l i h = ap (λ x. map f x) (drop-of-length-le l h)
 pub map-same : {A : Type 0} (l : List A) → map (λ x. x) l ≡ l
 map-same [] = refl
 map-same (x ∷ l) = ap (λ t. x ∷ t) (map-same l)
+
+-- a list over another of its length
+pub filled-over : {A : Type 0} (l k t : List A) → length l ≡ length k → filled l (filled k t) ≡ filled l t
+filled-over l k t e = ap (λ x. l ++ x) (drop-at k (drop (length k) t) (length l) (sym e) ∙ ap (λ (n : ℕ). drop n t) (sym e))
 
 -- the first places of a table that was filled
 pub taken : {A : Type 0} (l t : List A) {b : List A} {m : ℕ} → m ≡ length l → b ≡ filled l t → take m b ≡ l

@@ -6,13 +6,13 @@ use Rattle.polygon.specs.declared.Polygon.{Polygon}
 use Rattle.polygon.specs.Polygon.{Valid}
 use Rattle.jobs.proofs.Acceptance.{ListsAccepted}
 use Rattle.delaunay.specs.Candidates.{candidatesOf}
-use Rattle.dihedrals.specs.Dihedrals.{faceWeight}
+use Rattle.weights.specs.Weights.{ownWeight}
 use Rattle.finder.proofs.Accepted.{candidates-in-order, rows-in-order, weights-allowed}
 use Rattle.pipeline.specs.Patching.{weightsIn, rowsIn}
 
 -- one weight per candidate
 pub weight-count : (p : Polygon) → length (weightsIn p) ≡ length (candidatesOf p)
-weight-count p = length-map (candidatesOf p) (faceWeight p)
+weight-count p = length-map (candidatesOf p) (ownWeight p)
 
 pub lists-accepted : (p : Polygon) → Valid p → ListsAccepted (p .n) (candidatesOf p) (weightsIn p) (rowsIn p)
 lists-accepted p v = record {

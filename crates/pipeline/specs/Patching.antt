@@ -8,7 +8,8 @@ use Rattle.polygon.specs.declared.Polygon.{Polygon}
 use Rattle.reader.specs.Reading.{firstDue, polygonOf}
 use Rattle.reader.specs.Reading as reader
 use Rattle.delaunay.specs.Candidates.{candidatesOf}
-use Rattle.dihedrals.specs.Dihedrals.{weightsOf, rowsOf}
+use Rattle.dihedrals.specs.Dihedrals.{rowsOf}
+use Rattle.weights.specs.Weights.{weightsOf}
 use Rattle.finder.specs.Finding.{short, numberDue}
 use Rattle.triangulation.specs.Triangulations.{Job, best}
 use Rattle.triangulation.specs.Jobs.{jobOf}

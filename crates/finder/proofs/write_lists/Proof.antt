@@ -1,18 +1,19 @@
 -- `finder::write_lists` meets its contract. Assumes nothing.
 use mathlib.Core.Path.{_≡_, sym, _∙_, ap, subst}
-use mathlib.Core.List.{List, map}
+use mathlib.Core.List.{List}
 use Prim.Native.Nat.{ℕ, _≤_}
 use native.Mathlib.Omega.{arith}
 use borrow.Author.Needs.{needs}
 use lib.ListN.{length, take, length-map}
 use lib.Seq.{length-take-le}
 use Rattle.polygon.specs.declared.Polygon.{Polygon}
-use Rattle.geometry.specs.Faces.{lengthOf, areaWeightOf}
+use Rattle.geometry.specs.Faces.{lengthOf}
 use Rattle.lists.specs.Lists.{filled}
-use Rattle.lists.proofs.Writing.{taken, filled-length}
+use Rattle.lists.proofs.Writing.{taken, filled-length, filled-over}
 use Rattle.dihedrals.specs.Dihedrals.{faceNormal, lengthsOf, rowsOf}
-use Rattle.dihedrals.specs.Lists.{Solid, Lengths}
-use Rattle.dihedrals.proofs.Scaling.{first-lengths, lengths-there, weights-made}
+use Rattle.dihedrals.specs.Lists.{Solid}
+use Rattle.dihedrals.proofs.Faces.{first-lengths}
+use Rattle.weights.specs.Weights.{ownWeight, weightsOf}
 use Rattle.finder.specs.Filling.{facesOf}
 use Rattle.finder.proofs.write_lists.Statement.{statement}
 use Rattle.finder.proofs.write_lists.Tie as tie
@@ -85,9 +86,6 @@ module _ (w : tie.After-write-lengths) where
       ∙ first-lengths (polygon listed) (triangles listed) (begin listed .args .weights .now) made
       ∙ ap (lengthsOf (polygon listed)) (sym (found-are listed))
 
-  lengths : Lengths (count listed) table
-  lengths = subst (λ (k : ℕ). Lengths k table) (sym (count-is listed)) (lengths-there (polygon listed) (triangles listed) (begin listed .args .weights .now) made (begin listed .pre .0))
-
 slice-aggregate-write-rows : tie.Need-slice-aggregate-write-rows
 slice-aggregate-write-rows c = let w = c .before .before .before .before in sym (length-take-le (count (listed w)) (table w) (room w))
 
@@ -97,8 +95,12 @@ write-rows-requires c κs =
     let g = listed w in
     (solid g, w .before .before .block-starts .ensures, lengths-are w, omega (arith, ap (λ (l : List (List ℕ)). length (rowsOf (polygon g) l)) (found-are g), begin g .pre .1 .for-rows))
 
-scale-lengths-requires : tie.Need-scale-lengths-requires
-scale-lengths-requires c κs = let w = c .before .before .before .before .before .before .before .before in (omega (arith, begin (listed w) .pre .0 .valid .area-factor), room w, lengths w)
+write-weights-requires : tie.Need-write-weights-requires
+write-weights-requires c κs =
+    let w = c .before .before .before .before .before .before .before .before in
+    let g = listed w in
+    let same = sym (ap length (found-are g)) in
+    (solid g, omega (arith, count-is g, same, room w), ap (λ (k : ℕ). take k (table w)) (sym same ∙ sym (count-is g)) ∙ lengths-are w)
 
 same-length : tie.Need-same-length
 same-length c = search needs
@@ -116,7 +118,10 @@ returns c =
     let s = begin g in
     record {
       the-candidates = g .list .ensures .1;
-      the-weights = weights-made (polygon g) (triangles g) (s .args .weights .now) (made w) (c .before .before .scale-lengths .ensures ∙ ap (λ (k : ℕ). filled (map (areaWeightOf (polygon g .«area_factor»)) (take k (table w))) (table w)) (count-is g));
+      the-weights =
+          c .before .before .write-weights .ensures
+          ∙ (λ i. filled (weightsOf (polygon g) (found-are g i)) (made w i))
+          ∙ filled-over (weightsOf (polygon g) (triangles g)) (lengthsOf (polygon g) (triangles g)) (s .args .weights .now) (length-map (triangles g) (ownWeight (polygon g)) ∙ sym (length-map (triangles g) (λ t. lengthOf (faceNormal (polygon g) t))));
       the-rows = c .before .before .before .before .before .write-rows .ensures ∙ ap (λ (l : List (List ℕ)). filled (rowsOf (polygon g) l) (s .args .rows .now)) (found-are g);
     }
 
@@ -132,7 +137,7 @@ write-lists-spec =
     slice-reshare-prefix-write-rows
     slice-aggregate-write-rows
     write-rows-requires
-    scale-lengths-requires
+    write-weights-requires
     same-length
     same-length-2
     same-length-3
