@@ -2,6 +2,7 @@
 use mathlib.Core.Path.{_≡_, sym, _∙_, ap, subst}
 use Prim.Native.Nat.{ℕ, _+_, _*_, _≤_}
 use native.Mathlib.Omega.{arith}
+use borrow.Author.Needs.{needs}
 use Rattle.terms.specs.Limits.{maxAreaFactor, maxBendFactor}
 use Rattle.polygon.specs.declared.normal.Normal.{Normal}
 use Rattle.geometry.specs.Bounds.{maxLength, maxBend}
@@ -31,19 +32,19 @@ module _ (g : tie.After-area-weight) where
   bend-most k e = subst (λ (w : ℕ). w ≤ maxBendFactor * maxBend) (sym e) (outside-bound (begin .args .bend-factor) (begin .args .normal) k (begin .pre .1))
 
 weight-requires : tie.Need-weight-requires
-weight-requires c κs = let s = begin c in (s .pre .1, s .pre .2, s .pre .3 .of-ab)
+weight-requires c κs = search needs
 
 add-result : tie.Need-add-result
 add-result c = let g = c .before in omega (arith, area-most g, bend-most g _ (c .weight .ensures))
 
 weight-requires-2 : tie.Need-weight-requires-2
-weight-requires-2 c κs = let s = begin (c .before) in (s .pre .1, s .pre .2, s .pre .3 .of-bc)
+weight-requires-2 c κs = search needs
 
 add-result-2 : tie.Need-add-result-2
 add-result-2 c = let g = c .before .before in omega (arith, area-most g, bend-most g _ (c .before .weight .ensures), bend-most g _ (c .weight2 .ensures))
 
 weight-requires-3 : tie.Need-weight-requires-3
-weight-requires-3 c κs = let s = begin (c .before .before) in (s .pre .1, s .pre .2, s .pre .3 .of-ac)
+weight-requires-3 c κs = search needs
 
 add-result-3 : tie.Need-add-result-3
 add-result-3 c =

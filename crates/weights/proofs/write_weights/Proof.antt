@@ -170,7 +170,7 @@ module _ (e : tie.After-edge-normals Inv-loop μ-loop) where
 own-weight-requires : tie.Need-own-weight-requires Inv-loop μ-loop
 own-weight-requires c κs =
     let s = begin (read c) in
-    (s .pre .0 .valid .area-factor, s .pre .0 .valid .bend-factor, measured c, subst (λ (e : EdgeNormals). EdgesInRange e) (sym (edges-are c)) (edges-in-range (s .pre .0 .valid) (s .pre .0 .corners (index (read c)) (below (read c)))))
+    (omega (arith, s .pre .0 .valid .area-factor), s .pre .0 .valid .bend-factor, measured c, subst (λ (e : EdgeNormals). EdgesInRange e) (sym (edges-are c)) (edges-in-range (s .pre .0 .valid) (s .pre .0 .corners (index (read c)) (below (read c)))))
 
 -- the weight that is written next
 next : (o : tie.After-own-weight Inv-loop μ-loop) →
