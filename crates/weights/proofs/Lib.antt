@@ -1,2 +1,3 @@
 pub mod Surfaces
 pub mod Edges
+pub mod RimEdges

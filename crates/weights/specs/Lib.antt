@@ -1,2 +1,3 @@
 pub mod Weights
 pub mod Edges
+pub mod RimEdges

@@ -1,0 +1,38 @@
+-- The bends of a candidate against the surface outside the rim, summed along the rim. Definitions only.
+use mathlib.Core.Bool.{Bool, cond}
+use mathlib.Core.List.{List}
+use Prim.Native.Nat.{ℕ, zero, suc, _+_, _*_}
+use lib.Dec.{eqb}
+use Rattle.lists.specs.Lists.{both, either}
+use Rattle.polygon.specs.declared.Polygon.{Polygon}
+use Rattle.polygon.specs.Normal.{isNone, normalAt}
+use Rattle.geometry.specs.Faces.{bendBetween}
+use Rattle.terms.specs.Entries.{vertexA, vertexB, vertexC}
+use Rattle.dihedrals.specs.Dihedrals.{faceNormal}
+use Rattle.weights.specs.Weights.{vectorOf}
+
+-- f 0 + f 1 + .. + f (k - 1)
+unfoldable pub sumOf : ℕ → (ℕ → ℕ) → ℕ
+sumOf zero f = 0
+sumOf (suc k) f = sumOf k f + f k
+
+-- the vertex after i on a rim of n vertices: vertex 0 after the last (rule 1.14)
+abbrev pub nextVertex : ℕ → ℕ → ℕ
+nextVertex n i = cond (eqb (i + 1) n) 0 (i + 1)
+
+-- v is a corner of candidate t
+abbrev pub isCorner : List ℕ → ℕ → Bool
+isCorner t v = either (eqb v (vertexA t)) (either (eqb v (vertexB t)) (eqb v (vertexC t)))
+
+-- the rim edge from vertex i to the next is an edge of candidate t (rule 2.14)
+abbrev pub hasRimEdge : ℕ → List ℕ → ℕ → Bool
+hasRimEdge n t i = both (isCorner t i) (isCorner t (nextVertex n i))
+
+-- the bend factor times the bend between candidate t and the surface outside the rim edge from vertex i on, 0 where there is none (rule 2.15)
+abbrev pub rimBend : Polygon → List ℕ → ℕ → ℕ
+rimBend p t i =
+    cond (isNone (normalAt (p .normals) i)) 0 (p .«bend_factor» * bendBetween (faceNormal p t) (vectorOf (normalAt (p .normals) i)))
+
+-- the sum over the rim edges of candidate t (rule 2.15)
+abbrev pub rimBends : Polygon → List ℕ → ℕ
+rimBends p t = sumOf (p .n) (λ i. cond (hasRimEdge (p .n) t i) (rimBend p t i) 0)
