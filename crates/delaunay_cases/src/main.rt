@@ -3,6 +3,7 @@ use finder::Found;
 use geometry::face;
 use grid::GridPoint;
 use polygon::Polygon;
+use polygon::normal::Normal;
 ghost use Prim.Native.Nat.{_≤_};
 ghost use lib.ListN.{length};
 
@@ -98,18 +99,35 @@ fn run(p: Polygon, c: usize, w: usize, r: usize)
     io::write_all(STANDARD_OUTPUT, b"\n\n");
 }
 
-// The first n points, with these factors.
+// The first n points, with these factors and no normal.
 fn polygon(n: usize, area_factor: u32, bend_factor: u32, points: [GridPoint; 6]) -> Polygon {
     let mut vertices = [GridPoint { x: 0, y: 0, z: 0 }; 64];
     for i in 0..6 {
         let point = points[i];
         vertices[i] = point;
     }
+    let normals = [Normal { x: 0, y: 0, z: 0 }; 64];
     Polygon {
         n,
         area_factor,
         bend_factor,
         vertices,
+        normals,
+    }
+}
+
+// The polygon with another normal at place i.
+fn with_normal(p: Polygon, i: usize, normal: Normal) -> Polygon {
+    let mut normals = p.normals;
+    if i < 64 {
+        normals[i] = normal;
+    }
+    Polygon {
+        n: p.n,
+        area_factor: p.area_factor,
+        bend_factor: p.bend_factor,
+        vertices: p.vertices,
+        normals,
     }
 }
 
@@ -158,6 +176,18 @@ fn run_p() {
     run(polygon(4, 16, 0, RIM_P), 20, 20, 20);
 }
 
+// A slope outside each edge in turn, outside two edges of one candidate (rule 6.6), and at a place that belongs to no vertex.
+fn run_normals() {
+    let p = polygon(4, 1, 1, RIM_P);
+    let slope = Normal { x: 0, y: -600, z: 800 };
+    run(with_normal(p, 0, slope), 4, 4, 2);
+    run(with_normal(p, 1, slope), 4, 4, 2);
+    run(with_normal(p, 2, slope), 4, 4, 2);
+    run(with_normal(p, 3, slope), 4, 4, 2);
+    run(with_normal(with_normal(p, 2, slope), 3, slope), 4, 4, 2);
+    run(with_normal(p, 4, slope), 4, 4, 2);
+}
+
 // 12, also where the tables are too short; with a vertex inside the sphere none of those fours counts.
 fn run_cube() {
     run(polygon(5, 1, 1, CUBE), 0, 0, 0);
@@ -180,6 +210,10 @@ fn run_refused() {
     run(polygon(6, 1, 1, FLAT), 20, 20, 20);
     run(polygon(2, 1, 1, RIM_P), 20, 20, 20);
     run(polygon(5, 1, 1, RIM_P), 20, 20, 20);
+    let steep = Normal { x: 0, y: 1001, z: 0 };
+    run(with_normal(polygon(4, 1, 1, RIM_P), 3, steep), 20, 20, 20);
+    run(with_normal(polygon(6, 1, 1, FLAT), 4, steep), 20, 20, 20);
+    run(with_normal(polygon(6, 1, 1, FLAT), 5, steep), 20, 20, 20);
 }
 
 // The bend of equal, perpendicular and opposite normals of length 100, and for a dot product of -1.
@@ -194,6 +228,7 @@ fn run_bends() {
 
 fn main() {
     run_p();
+    run_normals();
     run_cube();
     run_flat();
     run_refused();

@@ -12,12 +12,12 @@ use lib.ListN.{length}
 use Rattle.lists.specs.Lists.{upFrom}
 use Rattle.lists.proofs.Choice.{Truth, holds, fails, truth, yes, no, true-not-false, either-left, either-right}
 use Rattle.polygon.specs.declared.Polygon.{Polygon}
-use Rattle.polygon.specs.Polygon.{codeOf, Valid, emptyPolygon}
+use Rattle.polygon.specs.Polygon.{codeOf, Valid, emptyPolygon, firstDue}
 use Rattle.polygon.proofs.Validity.{valid-code}
 use Rattle.reader.specs.declared.Status.the-variants.{Complete}
 use Rattle.reader.specs.Order.{Place, rim, Precedes, in-rim, First, NoneDue}
 use Rattle.reader.specs.Due.{DueAt}
-use Rattle.reader.specs.Reading.{firstDue, polygonOf, answer, readingOf}
+use Rattle.reader.specs.Reading.{polygonOf, answer, readingOf}
 use Rattle.reader.specs.Reading as reader
 use Rattle.reader.proofs.Order.{first-unique, none-first}
 use Rattle.reader.proofs.FirstNumber.{number-first}

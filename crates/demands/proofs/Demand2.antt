@@ -24,7 +24,8 @@ use Rattle.faces.proofs.Members.{triples-member, triples-put}
 use Rattle.delaunay.specs.Candidates.{vertex, insideFour, onFour, counts, isCandidate, candidatesOf, isCorner, isFifth, cospherical}
 use Rattle.dihedrals.specs.Dihedrals.{hingeWeight, rowAt, rowsOf}
 use Rattle.weights.specs.Weights.{ownWeight, weightsOf}
-use Rattle.dihedrals.proofs.Faces.{weight-at}
+use Rattle.weights.proofs.Edges.{weight-at}
+use Rattle.weights.proofs.RimEdges.{own-weight-along-the-rim}
 use Rattle.demands.specs.Demand2.{Counts, Face, abc, abd, acd, bcd, Cospherical, IsRow, Demand2, Flat}
 use Rattle.finder.proofs.Accepted.{row-hinge, hinge-row, rows-in-order, candidates-in-order, weights-allowed}
 
@@ -166,7 +167,7 @@ module _ (p : Polygon) (v : Valid p) where
     faces = λ t m. listed-face p t m;
     ascending = λ i j h k. true-before (entryAt cs i) (entryAt cs j) (candidates-in-order p v .ascending i j h k);
     weight-count = length-map cs (ownWeight p);
-    weight = λ i h. weight-at p cs i h;
+    weight = λ i h. let o = candidates-in-order p v .ordered i h in weight-at p cs i h ∙ own-weight-along-the-rim p (entryAt cs i) (o .a-b) (o .b-c) (o .c-n);
     hinge = λ k h. true-hangs (entryAt cs (inner (entryAt rows k))) (entryAt cs (outer (entryAt rows k))) (rows-in-order p cs .named k h .hanging);
     hinge-outer = λ k h. rows-in-order p cs .named k h .outer-is;
     hinge-inner = λ k h. rows-in-order p cs .named k h .inner-is;

@@ -6,7 +6,8 @@ use Prim.Native.Nat.{ℕ, zero, suc}
 use native.Mathlib.Omega.{arith}
 use lib.ListN.{length}
 use Rattle.lists.proofs.Choice.{Truth, holds, fails, truth, true-not-false}
-use Rattle.reader.specs.Reading.{firstDue, polygonOf}
+use Rattle.polygon.specs.Polygon.{firstDue}
+use Rattle.reader.specs.Reading.{polygonOf}
 use Rattle.reader.specs.Reading as reader
 use Rattle.delaunay.specs.Candidates.{candidatesOf}
 use Rattle.finder.specs.declared.Places.{Places}

@@ -14,11 +14,11 @@ use Rattle.lists.proofs.Choice.{yes, no}
 use Rattle.grid.specs.Point.{point}
 use Rattle.grid.specs.Number.{finite, numerator, denominator, negative, inRange, roundEighths}
 use Rattle.polygon.specs.declared.Polygon.{Polygon}
-use Rattle.polygon.specs.Polygon.{origin, codeOf, repeatedVertex, verticesOnGrid}
+use Rattle.polygon.specs.Polygon.{origin, codeOf, repeatedVertex, verticesOnGrid, firstDue}
 use Rattle.reader.specs.File.{lengthWrong}
 use Rattle.reader.specs.Record.{recordAt, numbersCode, vertexOf}
 use Rattle.reader.specs.Chain.{link, metBefore, heightBefore, positionCode, codeFrom, endFrom}
-use Rattle.reader.specs.Reading.{firstDue, polygonOf}
+use Rattle.reader.specs.Reading.{polygonOf}
 use Rattle.reader.specs.Reading as reader
 use Rattle.integers.specs.Rounding.{rootDigits}
 use Rattle.geometry.specs.Faces.{lengthOf, ratioOf, bendOf}

@@ -2,7 +2,7 @@
 use mathlib.Core.Path.{_≡_}
 use mathlib.Core.Bool.{true, false}
 use mathlib.Core.List.{List, List·Memᴰ}
-use Prim.Native.Nat.{ℕ, _*_, _≤_, _<_}
+use Prim.Native.Nat.{ℕ, _+_, _*_, _≤_, _<_}
 use lib.ListN.{length, take, drop, getD}
 use Rattle.polygon.specs.declared.Polygon.{Polygon}
 use Rattle.geometry.specs.Faces.{lengthOf, bendBetween}
@@ -12,6 +12,7 @@ use Rattle.terms.specs.Entries.{triple, entryAt, outer, inner, rowWeight}
 use Rattle.jobs.specs.Job.{before, rowBefore, hangs}
 use Rattle.delaunay.specs.Candidates.{vertex}
 use Rattle.dihedrals.specs.Dihedrals.{faceNormal}
+use Rattle.weights.specs.RimEdges.{rimBends}
 
 -- the four vertices a < b < c < d count (rule 2.3): they are not in one plane, and no vertex is strictly inside their sphere
 pub record Counts (p : Polygon) (a b c d : ℕ) : Type 0 where
@@ -57,9 +58,10 @@ pub record Demand2 (p : Polygon) (candidates : List (List ℕ)) (weights : List 
   pub faces : (t : List ℕ) → List·Memᴰ t candidates → (a : ℕ) × (b : ℕ) × (c : ℕ) × (t ≡ triple a b c) × Face p a b c
   -- the list is strictly ascending, so each candidate stands in it once (rule 2.4)
   pub ascending : (i j : ℕ) → i < j → j < length candidates → before (entryAt candidates i) (entryAt candidates j) ≡ true
-  -- each weight is the area factor times the length of the normal (rule 2.8)
+  -- each weight is the area factor times the length of the normal, and besides, summed over the candidate's rim edges that have a surface outside, the
+  -- bend factor times the bend against that surface (rules 2.8, 2.14, 2.15)
   pub weight-count : length weights ≡ length candidates
-  pub weight : (i : ℕ) → i < length candidates → getD weights i 0 ≡ p .«area_factor» * lengthOf (faceNormal p (entryAt candidates i))
+  pub weight : (i : ℕ) → i < length candidates → getD weights i 0 ≡ p .«area_factor» * lengthOf (faceNormal p (entryAt candidates i)) + rimBends p (entryAt candidates i)
   -- every row is that of a hanging pair, and carries the bend factor times the bend (rules 2.9, 2.12, 2.13)
   pub hinge : (k : ℕ) → k < length rows → hangs (entryAt candidates (inner (entryAt rows k))) (entryAt candidates (outer (entryAt rows k))) ≡ true
   pub hinge-outer : (k : ℕ) → k < length rows → outer (entryAt rows k) < length candidates

@@ -98,7 +98,7 @@ fn count_places(n: usize, masks: &[u64; faces::PAIRS]) -> Places
     }
 }
 
-// The places that the lent tables need for this polygon, or the number due on it: 2, 5, 9, 10, 11 or 12.
+// The places that the lent tables need for this polygon, or the number due on it: 2, 5, 9, 18, 10, 11 or 12.
 pub fn table_sizes(p: Polygon) -> Sizes
     ensures { λ r. ⌜ r ≡ sizesOf p ⌝ }
     ensures { λ r. ⌜ (sizes.numberOf r ≡ numberDue false p) × (placesIn r ≡ duePlaces (numberDue false p) p) ⌝ }
@@ -202,7 +202,7 @@ pub fn find_beside(
     )
 }
 
-// The finder. A polygon that no rim file gives is refused by the number due on it: 2, 5, 9, 10 or 11. Then 12, then 13.
+// The finder. A polygon that no rim file gives is refused by the number due on it: 2, 5, 9, 18, 10 or 11. Then 12, then 13.
 pub fn find(
     p: Polygon,
     candidates: &mut [[u8; 3]],

@@ -78,5 +78,5 @@ module _ (p : Polygon) (triangles : List ℕ) (candidates : List (List ℕ)) (we
       let answer : result o t k ≡ settled (best (jobIn p)) (length (candidatesOf p)) triangles work =
       d ∙ (λ i. settled (best (jobOf (p .n) (first-candidates i) (first-weights i) (first-rows i))) (lists .count i) triangles work) in
       (λ i. patching o (tables t (lists .candidates-are i) (lists .weights-are i) (lists .rows-are i) k))
-      ∙ ap (λ (s : Result). patchedBy s p (tables triangles candidates weights rows work)) answer
+      ∙ ap (λ (s : Result). patchedBy s (weightsIn p) p (tables triangles candidates weights rows work)) answer
       ∙ sym (patched-is p triangles candidates weights rows work (lists .none-due))

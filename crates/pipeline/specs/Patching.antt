@@ -5,7 +5,8 @@ use Prim.Native.Nat.{ℕ, zero, suc, _-_}
 use lib.ListN.{length}
 use Rattle.lists.specs.Lists.{either, filled}
 use Rattle.polygon.specs.declared.Polygon.{Polygon}
-use Rattle.reader.specs.Reading.{firstDue, polygonOf}
+use Rattle.polygon.specs.Polygon.{firstDue}
+use Rattle.reader.specs.Reading.{polygonOf}
 use Rattle.reader.specs.Reading as reader
 use Rattle.delaunay.specs.Candidates.{candidatesOf}
 use Rattle.dihedrals.specs.Dihedrals.{rowsOf}
@@ -48,8 +49,11 @@ weightsIn p = weightsOf p (candidatesOf p)
 abbrev pub rowsIn : Polygon → List (List ℕ)
 rowsIn p = rowsOf p (candidatesOf p)
 
+abbrev pub jobWith : List ℕ → Polygon → Job
+jobWith weights p = jobOf (p .n) (candidatesOf p) weights (rowsIn p)
+
 abbrev pub jobIn : Polygon → Job
-jobIn p = jobOf (p .n) (candidatesOf p) (weightsIn p) (rowsIn p)
+jobIn p = jobWith (weightsIn p) p
 
 -- one of the five tables has too few places (rule 4.13)
 unfoldable pub tablesShort : Polygon → Tables → Bool
@@ -60,15 +64,19 @@ tablesShort p t =
     (either (short (length (t .weights)) (length (candidatesOf p)))
     (short (length (t .rows)) (length (rowsIn p))))))
 
--- the tables after a patch or 'none' (rules 3.8, 3.9): the lists in the first places of three, in the triangle and work tables what the tiler leaves,
--- and every further place as it was
-abbrev pub patchedBy : Result → Polygon → Tables → Patching
-patchedBy r p t =
+-- the tables after a patch or 'none' (rules 3.8, 3.9), the candidates having these weights: the lists in the first places of three, in the triangle and
+-- work tables what the tiler leaves, and every further place as it was
+abbrev pub patchedBy : Result → List ℕ → Polygon → Tables → Patching
+patchedBy r weights p t =
     patching (r .outcome)
-    (tables (r .triangles) (filled (candidatesOf p) (t .candidates)) (filled (weightsIn p) (t .weights)) (filled (rowsIn p) (t .rows)) (r .work))
+    (tables (r .triangles) (filled (candidatesOf p) (t .candidates)) (filled weights (t .weights)) (filled (rowsIn p) (t .rows)) (r .work))
 
+abbrev pub patchedWith : List ℕ → Polygon → Tables → Patching
+patchedWith weights p t = patchedBy (settled (best (jobWith weights p)) (length (candidatesOf p)) (t .triangles) (t .work)) weights p t
+
+-- with the own weights (rule 2.15)
 abbrev pub patched : Polygon → Tables → Patching
-patched p t = patchedBy (settled (best (jobIn p)) (length (candidatesOf p)) (t .triangles) (t .work)) p t
+patched p t = patchedWith (weightsIn p) p t
 
 -- by the first number due: the answer where none is (rules 4.30, 4.33)
 abbrev pub patchBy : ℕ → Polygon → Tables → Patching
@@ -82,7 +90,7 @@ polygonNumber p t = numberDue (tablesShort p t) p
 unfoldable pub patchPolygon : Polygon → Tables → Patching
 patchPolygon p t = patchBy (polygonNumber p t) p t
 
--- a rim file, with its first number due (rule 4.31): 1 to 11 in the reader's order, then those of its polygon
+-- a rim file, with its first number due (rule 4.31): 1 to 11 and 18 in the reader's order, then those of its polygon
 abbrev pub fileNumber : List ℕ → Tables → ℕ
 fileNumber file t = firstDue (reader.numberDue file) (polygonNumber (polygonOf file) t)
 

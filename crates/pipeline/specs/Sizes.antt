@@ -2,13 +2,14 @@
 use mathlib.Core.Bool.{false}
 use mathlib.Core.List.{List}
 use Prim.Native.Nat.{ℕ}
-use Rattle.reader.specs.Reading.{firstDue, polygonOf}
+use Rattle.polygon.specs.Polygon.{firstDue}
+use Rattle.reader.specs.Reading.{polygonOf}
 use Rattle.reader.specs.Reading as reader
 use Rattle.finder.specs.declared.Sizes.{Sizes}
 use Rattle.finder.specs.Finding.{numberDue}
 use Rattle.finder.specs.Sizes.{sizesBy}
 
--- the first number due before any table is looked at (rule 4.31): 1 to 11 in the reader's order, then those of its polygon
+-- the first number due before any table is looked at (rule 4.31): 1 to 11 and 18 in the reader's order, then those of its polygon
 abbrev pub sizesNumber : List ℕ → ℕ
 sizesNumber file = firstDue (reader.numberDue file) (numberDue false (polygonOf file))
 

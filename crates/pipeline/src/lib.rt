@@ -95,7 +95,7 @@ pub fn patch_file(
     }
 }
 
-// The places that the lent tables need for a rim file, or the number due on it: 1 to 12.
+// The places that the lent tables need for a rim file, or the number due on it: 1 to 12 or 18.
 pub fn table_sizes(file: &[u8]) -> Sizes
     ensures { λ r. ⌜ r ≡ sizesFile (now (file .entry)) ⌝ }
     ensures { λ r. ⌜ (sizes.numberOf r ≡ sizesNumber (now (file .entry))) × (placesIn r ≡ duePlaces (sizesNumber (now (file .entry))) (polygonOf (now (file .entry)))) ⌝ }

@@ -1,0 +1,41 @@
+-- The answer where no surface adjoins the rim: areas and rows alone, as for files without normals. Definitions only.
+use mathlib.Core.Path.{_≡_}
+use mathlib.Core.Bool.{Bool, not}
+use mathlib.Core.List.{List, map}
+use Prim.Native.Nat.{ℕ, zero, suc, _+_, _-_, _*_, _<_}
+use lib.Dec.{ltb, eqb}
+use lib.ListN.{length}
+use Rattle.lists.specs.Lists.{either}
+use Rattle.polygon.specs.declared.Polygon.{Polygon}
+use Rattle.polygon.specs.Normal.{noNormal, normalAt}
+use Rattle.reader.specs.File.{u16At, firstRecord, recordCount, areaFactor, bendFactor, offset, lengthWrong}
+use Rattle.reader.specs.Reading.{polygonOf}
+use Rattle.delaunay.specs.Candidates.{candidatesOf}
+use Rattle.weights.specs.Weights.{areaWeight}
+use Rattle.pipeline.specs.Patching.{Tables, Patching, refused, patchedWith, fileNumber}
+
+-- no edge of the rim has a surface outside (rules 1.13, 1.14)
+pub record NoSurface (p : Polygon) : Type 0 where
+  pub none : (i : ℕ) → i < p .n → normalAt (p .normals) i ≡ noNormal
+
+-- the weights then: the area weights (rule 2.8)
+abbrev pub areaWeights : Polygon → List ℕ
+areaWeights p = map (areaWeight p) (candidatesOf p)
+
+-- the answer by the first number due, with the area weights (rules 4.30, 4.33)
+abbrev pub baseBy : ℕ → Polygon → Tables → Patching
+baseBy zero p t = patchedWith (areaWeights p) p t
+baseBy (suc k) p t = refused (suc k) t
+
+-- the answer to a file, its normals not looked at (rule 3.10)
+abbrev pub baseFile : List ℕ → Tables → Patching
+baseFile file t = baseBy (fileNumber file t) (polygonOf file) t
+
+-- header and records stand where a file without normals has them (rules 1.2 to 1.4, 4.1)
+pub record Edition1 (file : List ℕ) : Type 0 where
+  pub first : firstRecord file ≡ u16At file 0
+  pub count : recordCount file ≡ u16At file 2
+  pub area : areaFactor file ≡ u16At file 4
+  pub bend : bendFactor file ≡ u16At file 6
+  pub records : (k : ℕ) → offset file k ≡ 8 + 16 * (k - 1)
+  pub number-1 : lengthWrong file ≡ either (ltb (length file) 8) (either (ltb 256 (u16At file 2)) (not (eqb (length file) (8 + 16 * u16At file 2))))
