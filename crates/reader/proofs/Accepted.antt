@@ -1,14 +1,14 @@
 -- The polygon that is read: 3 to 64 vertices, each the one that its record gives, all on the grid, no two equal. Assumes nothing.
 use mathlib.Core.Path.{_≡_, refl, sym, subst}
 use mathlib.Core.List.{List}
-use Prim.Native.Nat.{ℕ, zero, suc, _≤_, _<_}
+use Prim.Native.Nat.{ℕ, zero, suc, _+_, _≤_, _<_}
 use native.Mathlib.Omega.{arith}
 use lib.ListN.{getD}
 use Rattle.grid.specs.Point.{OnGrid, PointOnGrid}
 use Rattle.polygon.specs.Polygon.{Valid}
 use Rattle.polygon.specs.Polygon as polygon
 use Rattle.polygon.proofs.Validity.{repeated-none}
-use Rattle.reader.specs.File.{offset}
+use Rattle.reader.specs.File.{headerStart, offset}
 use Rattle.reader.specs.Record.{known, heightOf}
 use Rattle.reader.specs.Chain.{link, heightBefore, vertexAt, numberOf, pointOf, vertexCount, verticesOf}
 use Rattle.reader.specs.Due.{HasVertex}
@@ -33,10 +33,10 @@ module _ (s : List ℕ) (r : Read s) where
   is-vertex (At p) e h = refl
   is-vertex (Refused k) e h = absurd (omega (arith, h k refl, e))
 
-  vertexed-at : (i : ℕ) → i < vertexCount s → OnGrid (heightOf (heightBefore s i)) → Vertexed s (offset (link s i)) (heightBefore s i) (pointOf (vertexAt s i))
+  vertexed-at : (i : ℕ) → i < vertexCount s → OnGrid (heightOf (heightBefore s i)) → Vertexed s (offset s (link s i)) (heightBefore s i) (pointOf (vertexAt s i))
   vertexed-at i h g =
-      vertexed s (offset (link s i)) (heightBefore s i) (pointOf (vertexAt s i)) g
-      (is-vertex (vertexAt s i) (fine i h) (λ k e. refused-positive s (offset (link s i)) (known (heightBefore s i)) (heightOf (heightBefore s i)) k e))
+      vertexed s (offset s (link s i)) (heightBefore s i) (pointOf (vertexAt s i)) g
+      (is-vertex (vertexAt s i) (fine i h) (λ k e. refused-positive s (offset s (link s i)) (known (heightBefore s i)) (heightOf (heightBefore s i)) k e))
 
   height-on-grid : (i : ℕ) → i ≤ vertexCount s → OnGrid (heightOf (heightBefore s i))
   unfolding heightBefore
@@ -51,7 +51,7 @@ module _ (s : List ℕ) (r : Read s) where
   valid : ((i : ℕ) → getD s i 0 < 256) → Valid (polygonOf s)
   valid bytes = record {
     area-factor = r .area;
-    bend-factor = omega (arith, bytes 6, bytes 7);
+    bend-factor = omega (arith, bytes (headerStart s + 6), bytes (headerStart s + 6 + 1));
     most = count-within s (r .chain-fine);
     on-grid = vertex-on-grid;
     least = r .enough;

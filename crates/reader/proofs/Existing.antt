@@ -8,7 +8,7 @@ use lib.ListN.{length, replicate}
 use Rattle.lists.proofs.Choice.{true-not-false}
 use Rattle.grid.specs.declared.GridPoint.{GridPoint}
 use Rattle.terms.specs.Limits.{maxVertices}
-use Rattle.reader.specs.File.{recordCount}
+use Rattle.reader.specs.File.{headerSize, layoutOf, headerStart, recordCount}
 use Rattle.reader.specs.Chain.{link}
 use Rattle.reader.specs.Order.{Place, position}
 use Rattle.reader.specs.Due.{InFile, kindAt, tailZeroAt, OnGridAt, HasVertex, a-point, a-level-point, DueAt, link-over, met-again, too-many, kind-unknown, no-height, not-finite, tail-not-zero, out-of-range}
@@ -26,18 +26,18 @@ unfolding point-then
 loop = (1 ∷ 0 ∷ 3 ∷ 0 ∷ 1 ∷ 0 ∷ 1 ∷ replicate 1 0) ++ point-then 2 ++ point-then 3 ++ point-then 1
 
 loop-record : (k : ℕ) → 0 < k → k ≤ 3 → InFile loop k
-unfolding loop
+unfolding loop layoutOf
 loop-record k h l = let n : length loop ≡ 56 = refl in let r : recordCount loop ≡ 3 = refl in record { numbered = h; counted = omega arith; bytes = omega arith }
 
 loop-in-file : (i : ℕ) → i < 3 → InFile loop (link loop i)
-unfolding loop link
+unfolding loop link layoutOf
 loop-in-file zero h = loop-record 1 (omega arith) (omega arith)
 loop-in-file (suc zero) h = loop-record 2 (omega arith) (omega arith)
 loop-in-file (suc (suc zero)) h = loop-record 3 (omega arith) (omega arith)
 loop-in-file (suc (suc (suc i))) h = absurd (omega arith)
 
 loop-different : (i j : ℕ) → i < j → j < 3 → link loop i ≡ link loop j → ⊥
-unfolding loop link
+unfolding loop link layoutOf
 loop-different i zero h l e = omega arith
 loop-different zero (suc zero) h l e = let d : _≡_ {A = ℕ} 1 2 = e in omega arith
 loop-different zero (suc (suc zero)) h l e = let d : _≡_ {A = ℕ} 1 3 = e in omega arith
@@ -47,14 +47,14 @@ loop-different (suc (suc i)) (suc (suc zero)) h l e = omega arith
 loop-different i (suc (suc (suc j))) h l e = omega arith
 
 loop-returns : link loop 0 ≡ link loop 3
-unfolding loop link
+unfolding loop link layoutOf
 loop-returns = refl
 
 pub loop-4 : DueAt loop (position 3) 4
-unfolding loop
+unfolding loop layoutOf
 loop-4 = met-again 0 3 (omega arith) (record { has-header = header; in-file = loop-in-file; different = loop-different }) loop-returns
   where
-    header : 8 ≤ length loop
+    header : headerStart loop + headerSize ≤ length loop
     header = let n : length loop ≡ 56 = refl in omega arith
 
 pub loop-no-5 : (p : Place) → DueAt loop p 5 → ⊥

@@ -1,5 +1,6 @@
 pub mod Numbers
 pub mod Vertices
+pub mod Layouts
 pub mod Lengths
 pub mod Walking
 pub mod Following

@@ -14,6 +14,7 @@ use Rattle.reader.specs.Chain.{metBefore, vertexAt, numberOf, positionCo
 use Rattle.reader.specs.Chain as chain
 use Rattle.reader.specs.Order.{position}
 use Rattle.reader.specs.Due.{InFile, HasRecords, DueAt, link-over, met-again, too-many, kind-unknown, no-height, not-finite, tail-not-zero, out-of-range}
+use Rattle.reader.proofs.Layouts.{record-within}
 use Rattle.reader.proofs.Lengths.{Whole}
 use Rattle.reader.proofs.Floats.{UpTo}
 use Rattle.reader.proofs.RecordNumbers.{kind-given, height-given, tail-given, finite-given, range-given, record-due}
@@ -127,7 +128,7 @@ module _ (s : List ℕ) (whole : Whole s) (i : ℕ) (r : Reached s i) where
   }
     where
       here : InFile s (chain.link s i)
-      here = record { numbered = r .goes-on; counted = l; bytes = omega (arith, whole .records, r .goes-on) }
+      here = record { numbered = r .goes-on; counted = l; bytes = record-within s (chain.link s i) (r .goes-on) l (whole .records) }
 
   -- the number that is given is due; position i is at most the last that may be
   pub given-due : (c : ℕ) → i ≤ maxVertices → positionCode s i ≡ suc c → DueAt s (position i) (suc c)

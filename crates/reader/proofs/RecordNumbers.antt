@@ -40,15 +40,15 @@ shape-number false false kn tail x y z h = refl
 
 module _ (s : List ℕ) (i : ℕ) where
   abbrev pub pointFloats : List Float
-  pointFloats = firstNumber s (offset (chain.link s i)) ∷ secondNumber s (offset (chain.link s i)) ∷ thirdNumber s (offset (chain.link s i)) ∷ []
+  pointFloats = firstNumber s (offset s (chain.link s i)) ∷ secondNumber s (offset s (chain.link s i)) ∷ thirdNumber s (offset s (chain.link s i)) ∷ []
 
   abbrev pub levelFloats : List Float
-  levelFloats = firstNumber s (offset (chain.link s i)) ∷ secondNumber s (offset (chain.link s i)) ∷ []
+  levelFloats = firstNumber s (offset s (chain.link s i)) ∷ secondNumber s (offset s (chain.link s i)) ∷ []
 
   pub record-number : numberOf (vertexAt s i) ≡ tests (eqb (kindAt s i) 1) (eqb (kindAt s i) 2) (known (heightBefore s i)) (tailZeroAt s i) pointFloats levelFloats
   record-number =
-      ap numberOf (shape-is (eqb (kindAt s i) 1) (eqb (kindAt s i) 2) (known (heightBefore s i)) (tailZeroAt s i) s (offset (chain.link s i)) (heightOf (heightBefore s i)) refl refl refl)
-      ∙ shape-number (eqb (kindAt s i) 1) (eqb (kindAt s i) 2) (known (heightBefore s i)) (tailZeroAt s i) (firstNumber s (offset (chain.link s i))) (secondNumber s (offset (chain.link s i))) (thirdNumber s (offset (chain.link s i))) (heightOf (heightBefore s i))
+      ap numberOf (shape-is (eqb (kindAt s i) 1) (eqb (kindAt s i) 2) (known (heightBefore s i)) (tailZeroAt s i) s (offset s (chain.link s i)) (heightOf (heightBefore s i)) refl refl refl)
+      ∙ shape-number (eqb (kindAt s i) 1) (eqb (kindAt s i) 2) (known (heightBefore s i)) (tailZeroAt s i) (firstNumber s (offset s (chain.link s i))) (secondNumber s (offset s (chain.link s i))) (thirdNumber s (offset s (chain.link s i))) (heightOf (heightBefore s i))
 
   -- ---- of a level point
   level-number : kindAt s i ≡ 2 → numberOf (vertexAt s i) ≡ cond (known (heightBefore s i)) (cond (tailZeroAt s i) (numbersCode levelFloats) 8) 7

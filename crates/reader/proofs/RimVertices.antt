@@ -33,8 +33,8 @@ use Rattle.reader.proofs.RecordNumbers.{tests, pointFloats, levelFloats
 module _ (s : List ℕ) where
   -- the vertex by its tests
   vertex-shape : (i : ℕ) (one two kn tail : Bool) → eqb (kindAt s i) 1 ≡ one → eqb (kindAt s i) 2 ≡ two → known (heightBefore s i) ≡ kn → tailZeroAt s i ≡ tail →
-      vertexAt s i ≡ shape one two kn tail (firstNumber s (offset (chain.link s i))) (secondNumber s (offset (chain.link s i))) (thirdNumber s (offset (chain.link s i))) (heightOf (heightBefore s i))
-  vertex-shape i one two kn tail a b c d = rw c (shape-is one two kn tail s (offset (chain.link s i)) (heightOf (heightBefore s i)) a b d)
+      vertexAt s i ≡ shape one two kn tail (firstNumber s (offset s (chain.link s i))) (secondNumber s (offset s (chain.link s i))) (thirdNumber s (offset s (chain.link s i))) (heightOf (heightBefore s i))
+  vertex-shape i one two kn tail a b c d = rw c (shape-is one two kn tail s (offset s (chain.link s i)) (heightOf (heightBefore s i)) a b d)
 
   grid-code : (i : ℕ) (vs : List Float) → floatsAt s i ≡ vs → OnGridAt s i → numbersCode vs ≡ 0
   grid-code i vs e g =

@@ -96,18 +96,18 @@ module _ {s : List ℕ} {w : Progress} (v : Walking s w) where
       unfolding positionCode
       too-many-due h = no 3 _ link-fine ∙ no 4 _ (sym met-here ∙ new) ∙ yes 5 _ (le-leb maxVertices (w .n) (omega arith))
 
-      module _ (room : w .n < maxVertices) (nonzero : w .link ≡ 0 → ⊥) (at : ℕ) (place : at ≡ 16 * w .link - 8) where
+      module _ (room : w .n < maxVertices) (at : ℕ) (place : at ≡ offset s (w .link)) where
         record-code : positionCode s (w .n) ≡ numberOf (vertexAt s (w .n))
         unfolding positionCode
         record-code = no 3 _ link-fine ∙ no 4 _ (sym met-here ∙ new) ∙ no 5 _ (lt-leb maxVertices (w .n) room)
 
-        starts : at ≡ offset (link s (w .n))
-        starts = omega (arith, v .here, positive (w .link) nonzero)
+        starts : at ≡ offset s (link s (w .n))
+        starts = place ∙ ap (λ (k : ℕ). offset s k) (v .here)
 
         vertex-here : vertexOf (recordAt s at (known (w .height))) (heightOf (w .height)) ≡ vertexAt s (w .n)
         vertex-here =
             ap (λ (i : ℕ). vertexOf (recordAt s i (known (w .height))) (heightOf (w .height))) starts
-            ∙ ap (λ (h : Height). vertexOf (recordAt s (offset (link s (w .n))) (known h)) (heightOf h)) (v .level)
+            ∙ ap (λ (h : Height). vertexOf (recordAt s (offset s (link s (w .n))) (known h)) (heightOf h)) (v .level)
 
         -- the record here is refused
         pub record-stops : {r : Progress} (k : ℕ) → vertexOf (recordAt s at (known (w .height))) (heightOf (w .height)) ≡ Refused k → r .code ≡ k → Stepped s w r
@@ -130,7 +130,7 @@ module _ {s : List ℕ} {w : Progress} (v : Walking s w) where
         level-next p d =
             sym (d .height-after)
             ∙ ap (λ (i : ℕ). cond (eqb (kind s i) 1) (Known (roundEighths (thirdNumber s i))) (w .height)) starts
-            ∙ ap (λ (h : Height). cond (eqb (kind s (offset (link s (w .n)))) 1) (Known (roundEighths (thirdNumber s (offset (link s (w .n)))))) h) (v .level)
+            ∙ ap (λ (h : Height). cond (eqb (kind s (offset s (link s (w .n)))) 1) (Known (roundEighths (thirdNumber s (offset s (link s (w .n)))))) h) (v .level)
 
         pub record-passes : (p : GridPoint) (next : ℕ) → vertexOf (recordAt s at (known (w .height))) (heightOf (w .height)) ≡ At p → next ≡ u16At s at →
             Stepped s w (progress (set (w .met) (w .link) true) (Known (toZ w64 (ofZ w64 (p .z)))) p (w .n + 1) next)

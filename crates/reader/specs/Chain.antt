@@ -19,7 +19,7 @@ use Rattle.reader.specs.declared.Vertex.the-variants.{At, Refused}
 -- the link that leads to position i (rule 1.5): the header's first record, or the next record of the one before
 unfoldable pub link : List ℕ → ℕ → ℕ
 link s zero = firstRecord s
-link s (suc i) = nextRecord s (offset (link s i))
+link s (suc i) = nextRecord s (offset s (link s i))
 
 -- record k stands at a position before i (rule 4.4)
 unfoldable pub metBefore : List ℕ → ℕ → ℕ → Bool
@@ -30,11 +30,11 @@ metBefore s (suc i) k = either (eqb (link s i) k) (metBefore s i k)
 unfoldable pub heightBefore : List ℕ → ℕ → Height
 heightBefore s zero = Unknown
 heightBefore s (suc i) =
-    cond (eqb (kind s (offset (link s i))) 1) (Known (roundEighths (thirdNumber s (offset (link s i))))) (heightBefore s i)
+    cond (eqb (kind s (offset s (link s i))) 1) (Known (roundEighths (thirdNumber s (offset s (link s i))))) (heightBefore s i)
 
 -- the vertex at position i, or the first number due on its record (rule 1.8)
 abbrev pub vertexAt : List ℕ → ℕ → Vertex
-vertexAt s i = vertexOf (recordAt s (offset (link s i)) (known (heightBefore s i))) (heightOf (heightBefore s i))
+vertexAt s i = vertexOf (recordAt s (offset s (link s i)) (known (heightBefore s i))) (heightOf (heightBefore s i))
 
 abbrev pub numberOf : Vertex → ℕ
 numberOf (At p) = 0

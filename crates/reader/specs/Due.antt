@@ -11,7 +11,7 @@ use Rattle.grid.specs.Number.{finite, inRange, roundEighths}
 use Rattle.grid.specs.Point.{point}
 use Rattle.grid.specs.declared.GridPoint.{GridPoint}
 use Rattle.terms.specs.Limits.{minVertices, maxVertices, maxAreaFactor}
-use Rattle.reader.specs.File.{areaFactor, recordCount, lengthWrong, offset, kind, firstNumber, secondNumber, thirdNumber, tailZero}
+use Rattle.reader.specs.File.{headerSize, headerStart, recordSize, areaFactor, recordCount, lengthWrong, offset, kind, firstNumber, secondNumber, thirdNumber, tailZero}
 use Rattle.reader.specs.Chain.{link}
 use Rattle.reader.specs.Order.{Place, header, position, rim}
 
@@ -20,20 +20,20 @@ use Rattle.reader.specs.Order.{Place, header, position, rim}
 pub record InFile (s : List ℕ) (k : ℕ) : Type 0 where
   pub numbered : 0 < k
   pub counted : k ≤ recordCount s
-  pub bytes : offset k + 16 ≤ length s
+  pub bytes : offset s k + recordSize s ≤ length s
 
 -- the chain has m records or more (rule 1.5): the links to its first m positions name records of the file, no two the same
 pub record HasRecords (s : List ℕ) (m : ℕ) : Type 0 where
-  pub has-header : 8 ≤ length s
+  pub has-header : headerStart s + headerSize ≤ length s
   pub in-file : (i : ℕ) → i < m → InFile s (link s i)
   pub different : (i j : ℕ) → i < j → j < m → link s i ≡ link s j → ⊥
 
 -- the kind of the record at position i, and whether its last four bytes are zero (rules 1.3, 1.7)
 abbrev pub kindAt : List ℕ → ℕ → ℕ
-kindAt s i = kind s (offset (link s i))
+kindAt s i = kind s (offset s (link s i))
 
 abbrev pub tailZeroAt : List ℕ → ℕ → Bool
-tailZeroAt s i = tailZero s (offset (link s i))
+tailZeroAt s i = tailZero s (offset s (link s i))
 
 -- the floats of the record at position i (rules 1.6, 1.7): a point has three, a level point two
 abbrev pub floatsOf : List ℕ → ℕ → List Float
@@ -42,7 +42,7 @@ floatsOf s at =
     (cond (eqb (kind s at) 2) (firstNumber s at ∷ secondNumber s at ∷ []) [])
 
 abbrev pub floatsAt : List ℕ → ℕ → List Float
-floatsAt s i = floatsOf s (offset (link s i))
+floatsAt s i = floatsOf s (offset s (link s i))
 
 -- ---- what a vertex is
 -- all floats of the record at position i are finite and in range (rule 1.9)
@@ -58,13 +58,13 @@ pub record LastPoint (s : List ℕ) (j i : ℕ) : Type 0 where
 
 -- the grid numbers of the record at position i (rule 1.10)
 abbrev pub xAt : List ℕ → ℕ → ℤ
-xAt s i = roundEighths (firstNumber s (offset (link s i)))
+xAt s i = roundEighths (firstNumber s (offset s (link s i)))
 
 abbrev pub yAt : List ℕ → ℕ → ℤ
-yAt s i = roundEighths (secondNumber s (offset (link s i)))
+yAt s i = roundEighths (secondNumber s (offset s (link s i)))
 
 abbrev pub heightAt : List ℕ → ℕ → ℤ
-heightAt s i = roundEighths (thirdNumber s (offset (link s i)))
+heightAt s i = roundEighths (thirdNumber s (offset s (link s i)))
 
 -- the record at position i gives the vertex p (rules 1.6, 1.7)
 pub data HasVertex (s : List ℕ) : ℕ → GridPoint → Type 0 where
@@ -76,7 +76,7 @@ pub data HasVertex (s : List ℕ) : ℕ → GridPoint → Type 0 where
 -- constructor by constructor, rules 4.1 to 4.11; 4.8 has two
 pub data DueAt (s : List ℕ) : Place → ℕ → Type 0 where
   length-wrong : lengthWrong s ≡ true → DueAt s header 1
-  area-factor : 8 ≤ length s → maxAreaFactor < areaFactor s → DueAt s header 2
+  area-factor : headerStart s + headerSize ≤ length s → maxAreaFactor < areaFactor s → DueAt s header 2
   link-over : (i : ℕ) → HasRecords s i → recordCount s < link s i → DueAt s (position i) 3
   met-again : (i j : ℕ) → i < j → HasRecords s j → link s i ≡ link s j → DueAt s (position j) 4
   too-many : HasRecords s (suc maxVertices) → DueAt s (position maxVertices) 5

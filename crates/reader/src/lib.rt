@@ -1,5 +1,6 @@
 // The rim reader: from the bytes of a rim file to its polygon, or the first number due of 1 to 11.
 mod bytes;
+mod edition;
 mod records;
 mod walk;
 
@@ -12,6 +13,12 @@ use polygon::Polygon;
 const MAX_RECORDS: usize = 256;
 
 const MARKS: usize = MAX_RECORDS + 1;
+
+// Where the header's four numbers start, and how many bytes a record has (rule 1.12).
+struct Layout {
+    pub header: usize,
+    pub record_size: usize,
+}
 
 // The coordinates of a point, in millimetres.
 struct Coordinates {
@@ -97,14 +104,15 @@ fn refused(code: u32) -> Reading
 pub fn read_polygon(file: &[u8]) -> Reading
     ensures { λ r. ⌜ (r ≡ readingOf (now (file .entry))) × (statusNumber (r .status) ≡ numberDue (now (file .entry))) ⌝ }
 {
-    if bytes::length_wrong(file) {
+    let layout = edition::layout(file);
+    if edition::length_wrong(file, layout) {
         return refused(codes::LENGTH);
     }
-    let area_factor = bytes::u16_at(file, 4);
+    let area_factor = bytes::u16_at(file, layout.header + 4);
     if terms::MAX_AREA_FACTOR < area_factor {
         return refused(codes::AREA_FACTOR);
     }
-    let chain = walk::follow_chain(file);
+    let chain = walk::follow_chain(file, layout);
     let code = chain.code;
     if code != 0 {
         return refused(code);
@@ -117,7 +125,7 @@ pub fn read_polygon(file: &[u8]) -> Reading
     if polygon::has_repeated_vertex(vertices, n) {
         return refused(codes::VERTEX_REPEATED);
     }
-    let bend_factor = bytes::u16_at(file, 6);
+    let bend_factor = bytes::u16_at(file, layout.header + 6);
     Reading {
         status: Status::Complete,
         polygon: Polygon {

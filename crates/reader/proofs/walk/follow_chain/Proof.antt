@@ -9,10 +9,10 @@ use Rattle.reader.proofs.walk.follow_chain.Statement.{statement}
 use Rattle.reader.proofs.walk.follow_chain.Tie as tie
 
 abbrev Inv-loop : tie.InvT-loop
-Inv-loop file vertices₀ walk₀ vertices walk = Following file vertices walk
+Inv-loop file layout vertices₀ walk₀ vertices walk = Following file vertices walk
 
 abbrev μ-loop : tie.MeasureT-loop
-μ-loop file vertices₀ walk₀ vertices walk = suc maxVertices - walk .n
+μ-loop file layout vertices₀ walk₀ vertices walk = suc maxVertices - walk .n
 
 start-requires : tie.Need-start-requires Inv-loop μ-loop
 start-requires c κs = c .before .pre
@@ -21,7 +21,7 @@ loop-holds : tie.Need-loop-holds Inv-loop μ-loop
 loop-holds c = following-start (c .start .ensures .0) (c .start .ensures .1)
 
 step-requires : tie.Need-step-requires Inv-loop μ-loop
-step-requires c κs = (c .before .before .before .before .before .pre, c .before .before .loop .inv .walking, c .if1 .taken)
+step-requires c κs = (c .before .before .before .before .before .pre .0, c .before .before .before .before .before .pre .1, c .before .before .loop .inv .walking, c .if1 .taken)
 
 stopped-requires : tie.Need-stopped-requires Inv-loop μ-loop
 stopped-requires c κs = search needs
