@@ -1,4 +1,4 @@
-// The numbers of rules 4.1 to 4.17, by who causes them.
+// The numbers of rules 4.1 to 4.18, by who causes them.
 
 // The writer of the file.
 pub const LENGTH: u32 = 1;
@@ -18,6 +18,8 @@ pub const NO_HEIGHT: u32 = 7;
 pub const NOT_FINITE: u32 = 8;
 
 pub const OUT_OF_RANGE: u32 = 9;
+
+pub const NORMAL: u32 = 18;
 
 pub const TOO_FEW_VERTICES: u32 = 10;
 

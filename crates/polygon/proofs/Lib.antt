@@ -1,2 +1,5 @@
+pub mod Bits
 pub mod Points
+pub mod Normals
+pub mod Codes
 pub mod Validity

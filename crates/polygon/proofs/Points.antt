@@ -1,18 +1,16 @@
 -- Equal grid points. Assumes nothing.
-use mathlib.Core.Path.{_≡_, refl, sym, ap, _∙_}
+use mathlib.Core.Path.{_≡_, sym, ap, _∙_}
 use mathlib.Core.Bool.{Bool, true, false}
-use borrow.Author.Tests.{eqb-true, eqb-false}
 use lib.Dec.{eqb}
 use mir.Syntax.{w64}
-use mir.Val.{SFits, toZ, ofZ}
-use mir.Facts.{toZ-ofZ}
-use lib.IntN.{ℤ}
+use mir.Val.{SFits, ofZ}
 use Rattle.grid.specs.declared.GridPoint.{GridPoint}
 use Rattle.lists.specs.Lists.{both}
 use Rattle.lists.proofs.Choice.{both-left, both-right, both-true}
 use Rattle.integers.specs.Order.{equal}
 use Rattle.integers.proofs.Order.{equal-yes, equal-is, equal-no}
 use Rattle.polygon.specs.Polygon.{samePoint}
+use Rattle.polygon.proofs.Bits.{bits-equal, bits-test}
 
 -- the test holds exactly of equal points
 pub point-equal : (p q : GridPoint) → samePoint p q ≡ true → p ≡ q
@@ -29,15 +27,6 @@ point-same p q e =
     (both-true (equal-is (ap (λ (g : GridPoint). g .y) e)) (equal-is (ap (λ (g : GridPoint). g .z) e)))
 
 -- ---- as the machine tests it, on the bits of two coordinates
-bits-equal : {a b : ℤ} → SFits w64 a → SFits w64 b → ofZ w64 a ≡ ofZ w64 b → a ≡ b
-bits-equal f g e = sym (toZ-ofZ f) ∙ ap (toZ w64) e ∙ toZ-ofZ g
-
-bits-test : (a b : ℤ) → SFits w64 a → SFits w64 b → eqb (ofZ w64 a) (ofZ w64 b) ≡ equal a b
-bits-test a b f g = go (eqb (ofZ w64 a) (ofZ w64 b)) (eqb-true (ofZ w64 a) (ofZ w64 b)) (eqb-false (ofZ w64 a) (ofZ w64 b))
-  where
-    go : (t : Bool) → (t ≡ true → ofZ w64 a ≡ ofZ w64 b) → (t ≡ false → ofZ w64 a ≡ ofZ w64 b → ⊥) → t ≡ equal a b
-    go true h k = sym (equal-is (bits-equal f g (h refl)))
-    go false h k = sym (equal-no a b (λ e. k refl (ap (ofZ w64) e)))
 
 module _ (p q : GridPoint) where
   pub differ-x : (ofZ w64 (p .x) ≡ ofZ w64 (q .x) → ⊥) → false ≡ samePoint p q

@@ -2,20 +2,19 @@
 use mathlib.Core.Path.{_≡_, refl, _∙_}
 use mathlib.Core.Bool.{Bool, true, false, cond}
 use mathlib.Core.List.{List}
-use Prim.Native.Nat.{ℕ, _<_}
+use Prim.Native.Nat.{ℕ, zero, suc, _<_}
 use native.Mathlib.Omega.{arith}
 use borrow.Author.Tests.{ltb-false, le-ltb}
 use lib.Dec.{ltb}
 use Rattle.grid.specs.declared.GridPoint.{GridPoint}
-use Rattle.grid.specs.Point.{PointOnGrid, pointOnGrid}
-use Rattle.grid.proofs.Points.{point-on-grid, point-on-grid-test}
 use Rattle.lists.specs.Lists.{some}
-use Rattle.lists.proofs.Choice.{yes, no}
-use Rattle.lists.proofs.Ranges.{every-at, every-all, some-none, some-here, some-nowhere, some-found}
+use Rattle.lists.proofs.Choice.{no}
+use Rattle.lists.proofs.Ranges.{some-none, some-here, some-nowhere, some-found}
 use Rattle.polygon.specs.declared.Polygon.{Polygon}
 use Rattle.terms.specs.Limits.{minVertices, maxVertices, maxAreaFactor, maxBendFactor}
-use Rattle.polygon.specs.Polygon.{vertexAt, samePoint, repeatedVertex, verticesOnGrid, codeOf, Valid}
+use Rattle.polygon.specs.Polygon.{vertexAt, samePoint, repeatedVertex, firstDue, codeFrom, verticesCode, codeOf, Valid}
 use Rattle.polygon.proofs.Points.{point-equal, point-same}
+use Rattle.polygon.proofs.Codes.{due-on, on-grid-at, in-range-at, all-clear}
 
 module _ (vertices : List GridPoint) (n : ℕ) where
   pub repeated-none : repeatedVertex vertices n ≡ false → (i j : ℕ) → i < j → j < n → vertexAt vertices i ≡ vertexAt vertices j → ⊥
@@ -31,45 +30,38 @@ module _ (vertices : List GridPoint) (n : ℕ) where
       let f = some-found 0 j (λ i. samePoint (vertexAt vertices i) (vertexAt vertices j)) h in
       d (f .at) j (f .high) k (point-equal (vertexAt vertices (f .at)) (vertexAt vertices j) (f .true-at)))
 
-  pub on-grid-at : verticesOnGrid vertices n ≡ true → (i : ℕ) → i < n → PointOnGrid (vertexAt vertices i)
-  unfolding verticesOnGrid
-  on-grid-at h i l = point-on-grid (vertexAt vertices i) (every-at 0 n (λ i. pointOnGrid (vertexAt vertices i)) h i (omega arith) l)
+-- the tests one after the other: the code is 0 exactly where each is passed
+tests : Bool → Bool → Bool → ℕ → Bool → Bool → ℕ
+tests area bend most each least same = cond area 2 (cond bend 2 (cond most 5 (firstDue each (cond least 10 (cond same 11 0)))))
 
-  pub on-grid-all : ((i : ℕ) → i < n → PointOnGrid (vertexAt vertices i)) → verticesOnGrid vertices n ≡ true
-  unfolding verticesOnGrid
-  on-grid-all h = every-all 0 n (λ i. pointOnGrid (vertexAt vertices i)) (λ i z l. point-on-grid-test (vertexAt vertices i) (h i l))
-
--- six tests one after the other: the code is 0 exactly where each is passed
-tests : Bool → Bool → Bool → Bool → Bool → Bool → ℕ
-tests area bend most grid least same = cond area 2 (cond bend 2 (cond most 5 (cond grid (cond least 10 (cond same 11 0)) 9)))
-
-record Passed (t₁ t₂ t₃ t₄ t₅ t₆ : Bool) : Type 0 where
+record Passed (t₁ t₂ t₃ : Bool) (each : ℕ) (t₅ t₆ : Bool) : Type 0 where
   area : t₁ ≡ false
   bend : t₂ ≡ false
   most : t₃ ≡ false
-  grid : t₄ ≡ true
+  none : each ≡ 0
   least : t₅ ≡ false
   same : t₆ ≡ false
 
-passed : (t₁ t₂ t₃ t₄ t₅ t₆ : Bool) → tests t₁ t₂ t₃ t₄ t₅ t₆ ≡ 0 → Passed t₁ t₂ t₃ t₄ t₅ t₆
+passed : (t₁ t₂ t₃ : Bool) (each : ℕ) (t₅ t₆ : Bool) → tests t₁ t₂ t₃ each t₅ t₆ ≡ 0 → Passed t₁ t₂ t₃ each t₅ t₆
 unfolding tests
-passed false false false true false false h = record { area = refl; bend = refl; most = refl; grid = refl; least = refl; same = refl }
-passed true t₂ t₃ t₄ t₅ t₆ h = absurd (omega arith)
-passed false true t₃ t₄ t₅ t₆ h = absurd (omega arith)
-passed false false true t₄ t₅ t₆ h = absurd (omega arith)
-passed false false false false t₅ t₆ h = absurd (omega arith)
-passed false false false true true t₆ h = absurd (omega arith)
-passed false false false true false true h = absurd (omega arith)
+passed false false false zero false false h = record { area = refl; bend = refl; most = refl; none = refl; least = refl; same = refl }
+passed true t₂ t₃ each t₅ t₆ h = absurd (omega arith)
+passed false true t₃ each t₅ t₆ h = absurd (omega arith)
+passed false false true each t₅ t₆ h = absurd (omega arith)
+passed false false false (suc k) t₅ t₆ h = absurd (omega arith)
+passed false false false zero true t₆ h = absurd (omega arith)
+passed false false false zero false true h = absurd (omega arith)
 
 pub code-valid : (p : Polygon) → codeOf p ≡ 0 → Valid p
 unfolding codeOf tests
 code-valid p h =
-    let t = passed (ltb maxAreaFactor (p .«area_factor»)) (ltb maxBendFactor (p .«bend_factor»)) (ltb maxVertices (p .n)) (verticesOnGrid (p .vertices) (p .n)) (ltb (p .n) minVertices) (repeatedVertex (p .vertices) (p .n)) h in
+    let t = passed (ltb maxAreaFactor (p .«area_factor»)) (ltb maxBendFactor (p .«bend_factor»)) (ltb maxVertices (p .n)) (verticesCode (p .vertices) (p .normals) (p .n)) (ltb (p .n) minVertices) (repeatedVertex (p .vertices) (p .n)) h in
     record {
       area-factor = ltb-false maxAreaFactor (p .«area_factor») (t .area);
       bend-factor = ltb-false maxBendFactor (p .«bend_factor») (t .bend);
       most = ltb-false maxVertices (p .n) (t .most);
-      on-grid = on-grid-at (p .vertices) (p .n) (t .grid);
+      on-grid = on-grid-at (p .vertices) (p .normals) (p .n) (t .none);
+      normals-in-range = in-range-at (p .vertices) (p .normals) (p .n) (t .none);
       least = ltb-false (p .n) minVertices (t .least);
       distinct = repeated-none (p .vertices) (p .n) (t .same);
     }
@@ -80,6 +72,6 @@ valid-code p v =
     no _ _ (le-ltb maxAreaFactor (p .«area_factor») (v .area-factor))
     ∙ no _ _ (le-ltb maxBendFactor (p .«bend_factor») (v .bend-factor))
     ∙ no _ _ (le-ltb maxVertices (p .n) (v .most))
-    ∙ yes _ _ (on-grid-all (p .vertices) (p .n) (v .on-grid))
+    ∙ due-on _ (all-clear (p .vertices) (p .normals) (p .n) (v .on-grid) (v .normals-in-range))
     ∙ no _ _ (le-ltb (p .n) minVertices (v .least))
     ∙ no _ _ (repeated-nowhere (p .vertices) (p .n) (v .distinct))

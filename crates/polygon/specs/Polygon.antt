@@ -2,7 +2,7 @@
 use mathlib.Core.Path.{_≡_}
 use mathlib.Core.Bool.{Bool, cond}
 use mathlib.Core.List.{List}
-use Prim.Native.Nat.{ℕ, _≤_, _<_}
+use Prim.Native.Nat.{ℕ, zero, suc, _≤_, _<_}
 use lib.ListN.{getD, replicate}
 use lib.IntN.{pos}
 use lib.Dec.{ltb}
@@ -10,8 +10,10 @@ use Rattle.terms.specs.Limits.{minVertices, maxVertices, maxAreaFactor, maxBend
 use Rattle.integers.specs.Order.{equal}
 use Rattle.grid.specs.declared.GridPoint.{GridPoint}
 use Rattle.grid.specs.Point.{point, PointOnGrid, pointOnGrid}
-use Rattle.lists.specs.Lists.{both, every, some}
+use Rattle.lists.specs.Lists.{both, some}
 use Rattle.polygon.specs.declared.Polygon.{Polygon}
+use Rattle.polygon.specs.declared.normal.Normal.{Normal}
+use Rattle.polygon.specs.Normal.{noNormal, normalAt, normalCode, NormalInRange}
 
 abbrev pub origin : GridPoint
 origin = point (pos 0) (pos 0) (pos 0)
@@ -20,9 +22,10 @@ origin = point (pos 0) (pos 0) (pos 0)
 abbrev pub vertexAt : List GridPoint → ℕ → GridPoint
 vertexAt vertices i = getD vertices i origin
 
--- what stands for a polygon in a refusal: no vertex, and the origin at each place (rule 4.30)
+-- what stands for a polygon in a refusal: no vertex, the origin and no normal at each place (rule 4.30)
 abbrev pub emptyPolygon : Polygon
-emptyPolygon = record { n = 0; «area_factor» = 0; «bend_factor» = 0; vertices = replicate maxVertices origin }
+emptyPolygon =
+    record { n = 0; «area_factor» = 0; «bend_factor» = 0; vertices = replicate maxVertices origin; normals = replicate maxVertices noNormal }
 
 -- two grid points are one (rule 4.11)
 abbrev pub samePoint : GridPoint → GridPoint → Bool
@@ -32,21 +35,34 @@ samePoint p q = both (equal (p .x) (q .x)) (both (equal (p .y) (q .y)) (equal (p
 unfoldable pub repeatedVertex : List GridPoint → ℕ → Bool
 repeatedVertex vertices n = some 0 n (λ j. some 0 j (λ i. samePoint (vertexAt vertices i) (vertexAt vertices j)))
 
--- each of the first n vertices is a grid point (rule 1.11)
-unfoldable pub verticesOnGrid : List GridPoint → ℕ → Bool
-verticesOnGrid vertices n = every 0 n (λ i. pointOnGrid (vertexAt vertices i))
+-- the first number due on vertex i and its normal, 0 for none (rule 4.34): 9, then 18
+abbrev pub vertexCode : List GridPoint → List Normal → ℕ → ℕ
+vertexCode vertices normals i = cond (pointOnGrid (vertexAt vertices i)) (normalCode (normalAt normals i)) 9
+
+-- the first of two numbers that is due (rule 4.31)
+abbrev pub firstDue : ℕ → ℕ → ℕ
+firstDue zero k = k
+firstDue (suc j) k = suc j
+
+-- the first number due on vertices i, i + 1 and so on, k of them (rule 4.34)
+unfoldable pub codeFrom : List GridPoint → List Normal → ℕ → ℕ → ℕ
+codeFrom vertices normals i zero = 0
+codeFrom vertices normals i (suc k) = firstDue (vertexCode vertices normals i) (codeFrom vertices normals (suc i) k)
+
+-- the first number due on the first n vertices (rule 4.34)
+abbrev pub verticesCode : List GridPoint → List Normal → ℕ → ℕ
+verticesCode vertices normals n = codeFrom vertices normals 0 n
 
 -- the first number due on a polygon, 0 for none (rule 4.34)
 unfoldable pub codeOf : Polygon → ℕ
-unfolding repeatedVertex verticesOnGrid
+unfolding repeatedVertex codeFrom
 codeOf p =
     cond (ltb maxAreaFactor (p .«area_factor»)) 2
     (cond (ltb maxBendFactor (p .«bend_factor»)) 2
     (cond (ltb maxVertices (p .n)) 5
-    (cond (verticesOnGrid (p .vertices) (p .n))
+    (firstDue (verticesCode (p .vertices) (p .normals) (p .n))
     (cond (ltb (p .n) minVertices) 10
-    (cond (repeatedVertex (p .vertices) (p .n)) 11 0))
-    9)))
+    (cond (repeatedVertex (p .vertices) (p .n)) 11 0)))))
 
 -- a polygon on which no number is due (rule 4.34)
 pub record Valid (p : Polygon) : Type 0 where
@@ -54,5 +70,6 @@ pub record Valid (p : Polygon) : Type 0 where
   pub bend-factor : p .«bend_factor» ≤ maxBendFactor
   pub most : p .n ≤ maxVertices
   pub on-grid : (i : ℕ) → i < p .n → PointOnGrid (vertexAt (p .vertices) i)
+  pub normals-in-range : (i : ℕ) → i < p .n → NormalInRange (normalAt (p .normals) i)
   pub least : minVertices ≤ p .n
   pub distinct : (i j : ℕ) → i < j → j < p .n → vertexAt (p .vertices) i ≡ vertexAt (p .vertices) j → ⊥

@@ -1,16 +1,21 @@
 // Polygons on the grid: the boundary polygon of a gap is its rim.
 use grid::GridPoint;
+use normal::Normal;
+
+pub mod normal;
+
 ghost use mathlib.Core.Path.{_≡_};
 ghost use Prim.Native.Nat.{_≤_};
 ghost use Rattle.terms.specs.Limits.{maxVertices};
-ghost use Rattle.polygon.specs.Polygon.{emptyPolygon, samePoint, repeatedVertex, verticesOnGrid, codeOf};
+ghost use Rattle.polygon.specs.Polygon.{emptyPolygon, samePoint, repeatedVertex, verticesCode, codeOf};
 
-// The vertices are the first n places; the places after them belong to no vertex.
+// The vertices are the first n places; the places after them belong to no vertex. Place i of the normals is for the edge from vertex i to the next.
 pub struct Polygon {
     pub n: usize,
     pub area_factor: u32,
     pub bend_factor: u32,
     pub vertices: [GridPoint; terms::MAX_VERTICES],
+    pub normals: [Normal; terms::MAX_VERTICES],
 }
 
 impl Polygon {
@@ -19,11 +24,13 @@ impl Polygon {
         ensures { λ r. ⌜ r ≡ emptyPolygon ⌝ }
     {
         let vertices = [GridPoint { x: 0, y: 0, z: 0 }; terms::MAX_VERTICES];
+        let normals = [Normal { x: 0, y: 0, z: 0 }; terms::MAX_VERTICES];
         Polygon {
             n: 0,
             area_factor: 0,
             bend_factor: 0,
             vertices,
+            normals,
         }
     }
 }
@@ -63,17 +70,26 @@ pub fn has_repeated_vertex(vertices: [GridPoint; terms::MAX_VERTICES], n: usize)
     false
 }
 
-fn vertices_on_grid(vertices: [GridPoint; terms::MAX_VERTICES], n: usize) -> bool
+// The first number due on the first n vertices, one after the other: 9, then 18 for the vertex's normal; 0 where none is.
+fn vertices_code(
+    vertices: [GridPoint; terms::MAX_VERTICES],
+    normals: [Normal; terms::MAX_VERTICES],
+    n: usize,
+) -> u32
     requires { ⌜ n ≤ maxVertices ⌝ }
-    ensures { λ r. ⌜ r ≡ verticesOnGrid vertices n ⌝ }
+    ensures { λ r. ⌜ r ≡ verticesCode vertices normals n ⌝ }
 {
     for i in 0..n {
         let p = vertices[i];
         if !p.on_grid() {
-            return false;
+            return codes::OUT_OF_RANGE;
+        }
+        let normal = normals[i];
+        if !normal.in_range() {
+            return codes::NORMAL;
         }
     }
-    true
+    0
 }
 
 // The error code due on a polygon, which a caller may have built by hand; 0 where none is.
@@ -84,6 +100,7 @@ pub fn polygon_code(p: Polygon) -> u32
     let area_factor = p.area_factor;
     let bend_factor = p.bend_factor;
     let vertices = p.vertices;
+    let normals = p.normals;
     if terms::MAX_AREA_FACTOR < area_factor {
         return codes::AREA_FACTOR;
     }
@@ -93,8 +110,9 @@ pub fn polygon_code(p: Polygon) -> u32
     if terms::MAX_VERTICES < n {
         return codes::TOO_MANY_VERTICES;
     }
-    if !vertices_on_grid(vertices, n) {
-        return codes::OUT_OF_RANGE;
+    let code = vertices_code(vertices, normals, n);
+    if code != 0 {
+        return code;
     }
     if n < terms::MIN_VERTICES {
         return codes::TOO_FEW_VERTICES;

@@ -3,17 +3,18 @@ use mathlib.Core.Path.{sym, _∙_}
 use Prim.Native.Nat.{_<_}
 use native.Mathlib.Omega.{arith}
 use borrow.Author.Needs.{needs}
-use borrow.Author.Tests.{lt-ltb, le-ltb, not-true, not-false}
+use borrow.Author.Tests.{lt-ltb, le-ltb}
 use Rattle.terms.specs.Limits.{maxAreaFactor}
 use Rattle.lists.proofs.Choice.{yes, no}
 use Rattle.polygon.specs.Polygon.{codeOf}
+use Rattle.polygon.proofs.Codes.{due-here, due-on}
 use Rattle.polygon.proofs.polygon_code.Statement.{statement}
 use Rattle.polygon.proofs.polygon_code.Tie as tie
 
 returns : tie.Need-returns
 unfolding codeOf
 returns c =
-    let over : maxAreaFactor < c .before .before .args .p .«area_factor» = omega (arith, c .if1 .taken) in
+    let over : maxAreaFactor < c .before .before .before .args .p .«area_factor» = omega (arith, c .if1 .taken) in
     sym (yes _ _ (lt-ltb _ _ over))
 
 returns-2 : tie.Need-returns-2
@@ -28,8 +29,8 @@ returns-3 c =
     ∙ no _ _ (le-ltb _ _ (c .before .if2 .left))
     ∙ yes _ _ (lt-ltb _ _ (c .if3 .taken)))
 
-vertices-on-grid-requires : tie.Need-vertices-on-grid-requires
-vertices-on-grid-requires c κs = search needs
+vertices-code-requires : tie.Need-vertices-code-requires
+vertices-code-requires c κs = search needs
 
 returns-4 : tie.Need-returns-4
 unfolding codeOf
@@ -39,7 +40,7 @@ returns-4 c =
     (no _ _ (le-ltb _ _ (past .before .before .if1 .left))
     ∙ no _ _ (le-ltb _ _ (past .before .if2 .left))
     ∙ no _ _ (le-ltb _ _ (past .if3 .left))
-    ∙ no _ _ (sym (c .before .vertices-on-grid .ensures) ∙ not-true _ (c .if4 .taken)))
+    ∙ due-here _ (c .before .vertices-code .ensures) (c .if4 .taken))
 
 returns-5 : tie.Need-returns-5
 unfolding codeOf
@@ -49,7 +50,7 @@ returns-5 c =
     (no _ _ (le-ltb _ _ (past .before .before .if1 .left))
     ∙ no _ _ (le-ltb _ _ (past .before .if2 .left))
     ∙ no _ _ (le-ltb _ _ (past .if3 .left))
-    ∙ yes _ _ (sym (c .before .before .vertices-on-grid .ensures) ∙ not-false _ (c .before .if4 .left))
+    ∙ due-on _ (sym (c .before .before .vertices-code .ensures) ∙ c .before .if4 .left)
     ∙ yes _ _ (lt-ltb _ _ (c .if5 .taken)))
 
 has-repeated-vertex-requires : tie.Need-has-repeated-vertex-requires
@@ -63,7 +64,7 @@ returns-6 c =
     (no _ _ (le-ltb _ _ (past .before .before .if1 .left))
     ∙ no _ _ (le-ltb _ _ (past .before .if2 .left))
     ∙ no _ _ (le-ltb _ _ (past .if3 .left))
-    ∙ yes _ _ (sym (c .before .before .before .before .vertices-on-grid .ensures) ∙ not-false _ (c .before .before .before .if4 .left))
+    ∙ due-on _ (sym (c .before .before .before .before .vertices-code .ensures) ∙ c .before .before .before .if4 .left)
     ∙ no _ _ (le-ltb _ _ (c .before .before .if5 .left))
     ∙ yes _ _ (sym (c .before .has-repeated-vertex .ensures) ∙ c .if6 .taken))
 
@@ -75,7 +76,7 @@ returns-7 c =
     (no _ _ (le-ltb _ _ (past .before .before .if1 .left))
     ∙ no _ _ (le-ltb _ _ (past .before .if2 .left))
     ∙ no _ _ (le-ltb _ _ (past .if3 .left))
-    ∙ yes _ _ (sym (c .before .before .before .before .vertices-on-grid .ensures) ∙ not-false _ (c .before .before .before .if4 .left))
+    ∙ due-on _ (sym (c .before .before .before .before .vertices-code .ensures) ∙ c .before .before .before .if4 .left)
     ∙ no _ _ (le-ltb _ _ (c .before .before .if5 .left))
     ∙ no _ _ (sym (c .before .has-repeated-vertex .ensures) ∙ c .if6 .left))
 
@@ -86,7 +87,7 @@ polygon-code-spec =
     returns
     returns-2
     returns-3
-    vertices-on-grid-requires
+    vertices-code-requires
     returns-4
     returns-5
     has-repeated-vertex-requires
