@@ -2,6 +2,8 @@ pub mod Numbers
 pub mod Vertices
 pub mod Layouts
 pub mod Lengths
+pub mod Normals
+pub mod Tables
 pub mod Walking
 pub mod Following
 pub mod Answers

@@ -1,4 +1,4 @@
--- The numbers 1 to 11, each by itself, at its place, and only of what there is (rules 4.1 to 4.11 and 4.31). Definitions only.
+-- The numbers 1 to 11 and 18, each by itself, at its place, and only of what there is (rules 4.1 to 4.11, 4.18 and 4.31). Definitions only.
 use mathlib.Core.Path.{_≡_}
 use mathlib.Core.Bool.{Bool, true, false, cond}
 use mathlib.Core.List.{List, [], _∷_, List·Memᴰ}
@@ -8,10 +8,10 @@ use lib.IntN.{ℤ}
 use lib.Ieee.{Float}
 use lib.ListN.{length}
 use Rattle.grid.specs.Number.{finite, inRange, roundEighths}
-use Rattle.grid.specs.Point.{point}
+use Rattle.grid.specs.Point.{point, OnGrid}
 use Rattle.grid.specs.declared.GridPoint.{GridPoint}
 use Rattle.terms.specs.Limits.{minVertices, maxVertices, maxAreaFactor}
-use Rattle.reader.specs.File.{headerSize, headerStart, recordSize, areaFactor, recordCount, lengthWrong, offset, kind, firstNumber, secondNumber, thirdNumber, tailZero}
+use Rattle.reader.specs.File.{i16At, isEdition2, headerSize, headerStart, recordSize, areaFactor, recordCount, lengthWrong, offset, kind, firstNumber, secondNumber, thirdNumber, tailZero}
 use Rattle.reader.specs.Chain.{link}
 use Rattle.reader.specs.Order.{Place, header, position, rim}
 
@@ -44,6 +44,13 @@ floatsOf s at =
 abbrev pub floatsAt : List ℕ → ℕ → List Float
 floatsAt s i = floatsOf s (offset s (link s i))
 
+-- the numbers of the normal of the record at position i (rule 1.13): three in edition 2, none in edition 1
+abbrev pub normalNumbersOf : List ℕ → ℕ → List ℤ
+normalNumbersOf s at = cond (isEdition2 s) (i16At s (at + 16) ∷ i16At s (at + 18) ∷ i16At s (at + 20) ∷ []) []
+
+abbrev pub normalNumbersAt : List ℕ → ℕ → List ℤ
+normalNumbersAt s i = normalNumbersOf s (offset s (link s i))
+
 -- ---- what a vertex is
 -- all floats of the record at position i are finite and in range (rule 1.9)
 pub record OnGridAt (s : List ℕ) (i : ℕ) : Type 0 where
@@ -73,7 +80,7 @@ pub data HasVertex (s : List ℕ) : ℕ → GridPoint → Type 0 where
       HasVertex s i (point (xAt s i) (yAt s i) (heightAt s j))
 
 -- ---- the numbers
--- constructor by constructor, rules 4.1 to 4.11; 4.8 has two
+-- constructor by constructor, rules 4.1 to 4.9, 4.18, 4.10 and 4.11; 4.8 has two
 pub data DueAt (s : List ℕ) : Place → ℕ → Type 0 where
   length-wrong : lengthWrong s ≡ true → DueAt s header 1
   area-factor : headerStart s + headerSize ≤ length s → maxAreaFactor < areaFactor s → DueAt s header 2
@@ -85,5 +92,6 @@ pub data DueAt (s : List ℕ) : Place → ℕ → Type 0 where
   not-finite : (i : ℕ) (v : Float) → HasRecords s (suc i) → List·Memᴰ v (floatsAt s i) → finite v ≡ false → DueAt s (position i) 8
   tail-not-zero : (i : ℕ) → HasRecords s (suc i) → kindAt s i ≡ 2 → tailZeroAt s i ≡ false → DueAt s (position i) 8
   out-of-range : (i : ℕ) (v : Float) → HasRecords s (suc i) → List·Memᴰ v (floatsAt s i) → inRange v ≡ false → DueAt s (position i) 9
+  normal-out-of-range : (i : ℕ) (c : ℤ) → HasRecords s (suc i) → List·Memᴰ c (normalNumbersAt s i) → (OnGrid c → ⊥) → DueAt s (position i) 18
   too-few : (i : ℕ) → HasRecords s i → link s i ≡ 0 → i < minVertices → DueAt s rim 10
   vertex-repeated : (i j : ℕ) (p : GridPoint) → i < j → HasRecords s (suc j) → HasVertex s i p → HasVertex s j p → DueAt s rim 11

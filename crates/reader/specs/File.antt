@@ -3,6 +3,7 @@ use Prim.Native.Nat.{ℕ, suc, _+_, _-_, _*_}
 use mathlib.Core.Bool.{Bool, not, cond}
 use mathlib.Core.List.{List}
 use lib.ListN.{length, getD}
+use lib.IntN.{ℤ, pos, _-ℤ_}
 use lib.Dec.{ltb, eqb}
 use lib.Ieee.{Float, binary32, ofBits}
 use Rattle.lists.specs.Lists.{either}
@@ -14,6 +15,10 @@ u16At s i = getD s i 0 + 256 * getD s (i + 1) 0
 
 abbrev pub u32At : List ℕ → ℕ → ℕ
 u32At s i = getD s i 0 + 256 * getD s (i + 1) 0 + 65536 * getD s (i + 2) 0 + 16777216 * getD s (i + 3) 0
+
+-- a number of two bytes in two's complement (rule 1.13)
+abbrev pub i16At : List ℕ → ℕ → ℤ
+i16At s i = cond (ltb (u16At s i) 32768) (pos (u16At s i)) (pos (u16At s i) -ℤ pos 65536)
 
 -- the number that a file of edition 2 begins with; a file that does not is of edition 1 (rule 1.12)
 abbrev pub marker : ℕ

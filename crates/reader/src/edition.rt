@@ -12,7 +12,7 @@ const MARKER_SIZE: usize = 2;
 // The bytes of the header, and of a record in each edition.
 pub const HEADER_SIZE: usize = 8;
 
-const RECORD_SIZE_1: usize = 16;
+pub const RECORD_SIZE_1: usize = 16;
 
 const RECORD_SIZE_2: usize = 22;
 

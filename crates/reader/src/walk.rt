@@ -12,15 +12,18 @@ use crate::bytes;
 use crate::edition;
 use crate::records;
 use grid::GridPoint;
+use polygon::normal::Normal;
 
 fn stopped(code: u32) -> Chain
     ensures { λ r. ⌜ r ≡ stoppedAt code ⌝ }
 {
     let vertices = [GridPoint { x: 0, y: 0, z: 0 }; terms::MAX_VERTICES];
+    let normals = [Normal { x: 0, y: 0, z: 0 }; terms::MAX_VERTICES];
     Chain {
         code,
         n: 0,
         vertices,
+        normals,
     }
 }
 
@@ -35,6 +38,7 @@ fn start(file: &[u8], layout: Layout) -> Progress
         met,
         height: Height::Unknown,
         vertex: GridPoint { x: 0, y: 0, z: 0 },
+        normal: Normal { x: 0, y: 0, z: 0 },
         n: 0,
         link: bytes::u16_at(file, layout.header) as usize,
     }
@@ -71,12 +75,17 @@ fn step(file: &[u8], layout: Layout, walk: Progress) -> Progress
     match records::vertex_at(file, at, height) {
         Vertex::Refused(code) => stop(walk, code),
         Vertex::At(vertex) => {
+            let normal = records::normal_at(file, layout, at);
+            if !normal.in_range() {
+                return stop(walk, codes::NORMAL);
+            }
             met[link] = true;
             Progress {
                 code: 0,
                 met,
                 height: Height::Known(vertex.z),
                 vertex,
+                normal,
                 n: n + 1,
                 link: bytes::u16_at(file, at) as usize,
             }
@@ -84,12 +93,13 @@ fn step(file: &[u8], layout: Layout, walk: Progress) -> Progress
     }
 }
 
-// The vertices of the chain, or the first number due along it.
+// The vertices of the chain and their normals, or the first number due along it.
 pub fn follow_chain(file: &[u8], layout: Layout) -> Chain
     requires { ⌜ (layout ≡ layoutOf (now file)) × (lengthWrong (now file) ≡ false) ⌝ }
     ensures { λ r. ⌜ r ≡ chainOf (now (file .entry)) ⌝ }
 {
     let mut vertices = [GridPoint { x: 0, y: 0, z: 0 }; terms::MAX_VERTICES];
+    let mut normals = [Normal { x: 0, y: 0, z: 0 }; terms::MAX_VERTICES];
     let mut walk = start(file, layout);
     while walk.link != 0 {
         let n = walk.n;
@@ -100,11 +110,14 @@ pub fn follow_chain(file: &[u8], layout: Layout) -> Chain
         }
         let vertex = walk.vertex;
         vertices[n] = vertex;
+        let normal = walk.normal;
+        normals[n] = normal;
     }
     let n = walk.n;
     Chain {
         code: 0,
         n,
         vertices,
+        normals,
     }
 }

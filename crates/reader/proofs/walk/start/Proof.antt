@@ -14,8 +14,8 @@ use Rattle.reader.proofs.walk.start.Tie as tie
 u16-at-requires : tie.Need-u16-at-requires
 u16-at-requires c κs = let w = whole _ (c .before .pre .1) in omega (arith, header-as _ (c .before .pre .0), w .header)
 
-cast-t7 : tie.Need-cast-t7
-cast-t7 c = search needs
+cast-t8 : tie.Need-cast-t8
+cast-t8 c = search needs
 
 returns : tie.Need-returns
 returns c =
@@ -23,4 +23,4 @@ returns c =
     (walking-start s _ (c .u16-at .ensures .0 ∙ ap (λ (h : ℕ). u16At s h) (header-as s (c .before .before .pre .0))), refl)
 
 pub start-spec : {M : Type 1} → statement M
-start-spec = tie.close (tie.spec u16-at-requires cast-t7 returns)
+start-spec = tie.close (tie.spec u16-at-requires cast-t8 returns)
