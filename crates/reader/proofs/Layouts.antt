@@ -1,13 +1,12 @@
 -- Where the numbers of a file stand, in each edition. Assumes nothing.
-use mathlib.Core.Path.{_≡_, refl, sym, ap, _∙_}
+use mathlib.Core.Path.{_≡_, refl, ap, _∙_}
 use mathlib.Core.Bool.{Bool, true, false}
 use mathlib.Core.List.{List}
-use mathlib.Core.Logic.{_⊎_, inl, inr}
 use Prim.Native.Nat.{ℕ, zero, suc, _+_, _-_, _*_, _≤_, _<_}
 use native.Mathlib.Omega.{arith}
 use native.Mathlib.Nat.{mul-le-mul-right, mul-le-mul-left}
 use lib.ListN.{length}
-use Rattle.lists.proofs.Choice.{yes, no}
+use Rattle.lists.proofs.Choice.{yes, no, not-true-false, not-false-true}
 use Rattle.reader.specs.File.{u16At, isEdition2, markerSize, headerSize, recordSize1, recordSize2, layoutOf, headerStart, recordSize, recordCount, offset}
 use Rattle.reader.specs.declared.Layout.{Layout}
 
@@ -21,6 +20,12 @@ module _ (s : List ℕ) where
   unfolding layoutOf
   edition2 e = yes _ _ e
 
+  pub size-1 : isEdition2 s ≡ false → recordSize s ≡ recordSize1
+  size-1 e = ap (λ (l : Layout). l .«record_size») (edition1 e)
+
+  pub size-2 : isEdition2 s ≡ true → recordSize s ≡ recordSize2
+  size-2 e = ap (λ (l : Layout). l .«record_size») (edition2 e)
+
   -- the header starts within 2 bytes, and a record has 16 to 22
   pub record Bounds : Type 0 where
     pub header : headerStart s ≤ markerSize
@@ -33,11 +38,11 @@ module _ (s : List ℕ) where
       by : (b : Bool) → isEdition2 s ≡ b → Bounds
       by true e =
           let h : headerStart s ≡ markerSize = ap (λ (l : Layout). l .header) (edition2 e) in
-          let z : recordSize s ≡ recordSize2 = ap (λ (l : Layout). l .«record_size») (edition2 e) in
+          let z = size-2 e in
           record { header = omega arith; least = omega arith; most = omega arith }
       by false e =
           let h : headerStart s ≡ 0 = ap (λ (l : Layout). l .header) (edition1 e) in
-          let z : recordSize s ≡ recordSize1 = ap (λ (l : Layout). l .«record_size») (edition1 e) in
+          let z = size-1 e in
           record { header = omega arith; least = omega arith; most = omega arith }
 
   -- a record ends where the next one starts
@@ -72,3 +77,10 @@ module _ (s : List ℕ) {l : Layout} (e : l ≡ layoutOf s) where
   length-as {r} c =
       ap (λ (m : Layout). m .header + headerSize + m .«record_size» * r) e
       ∙ ap (λ (k : ℕ). headerStart s + headerSize + recordSize s * k) c
+
+  -- its record size tells the edition
+  pub size-edition1 : l .«record_size» ≡ recordSize1 → isEdition2 s ≡ false
+  size-edition1 d = not-true-false (isEdition2 s) (λ t. omega (arith, d, size-as, size-2 s t))
+
+  pub size-edition2 : (l .«record_size» ≡ recordSize1 → ⊥) → isEdition2 s ≡ true
+  size-edition2 d = not-false-true (isEdition2 s) (λ f. d (size-as ∙ size-1 s f))

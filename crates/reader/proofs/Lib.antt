@@ -1,4 +1,5 @@
 pub mod Numbers
+pub mod Signed
 pub mod Vertices
 pub mod Layouts
 pub mod Lengths

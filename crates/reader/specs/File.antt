@@ -16,9 +16,12 @@ u16At s i = getD s i 0 + 256 * getD s (i + 1) 0
 abbrev pub u32At : List ℕ → ℕ → ℕ
 u32At s i = getD s i 0 + 256 * getD s (i + 1) 0 + 65536 * getD s (i + 2) 0 + 16777216 * getD s (i + 3) 0
 
--- a number of two bytes in two's complement (rule 1.13)
+-- a number of two bytes in two's complement (rule 1.13): from 32768 on it is 65536 less than its bits
+abbrev pub signed16 : ℕ → ℤ
+signed16 bits = cond (ltb bits 32768) (pos bits) (pos bits -ℤ pos 65536)
+
 abbrev pub i16At : List ℕ → ℕ → ℤ
-i16At s i = cond (ltb (u16At s i) 32768) (pos (u16At s i)) (pos (u16At s i) -ℤ pos 65536)
+i16At s i = signed16 (u16At s i)
 
 -- the number that a file of edition 2 begins with; a file that does not is of edition 1 (rule 1.12)
 abbrev pub marker : ℕ
