@@ -1,16 +1,19 @@
 -- The polygon that is read: 3 to 64 vertices, each the one that its record gives, all on the grid, no two equal. Assumes nothing.
 use mathlib.Core.Path.{_≡_, refl, sym, subst}
 use mathlib.Core.List.{List}
-use Prim.Native.Nat.{ℕ, zero, suc, _≤_, _<_}
+use Prim.Native.Nat.{ℕ, zero, suc, _+_, _≤_, _<_}
 use native.Mathlib.Omega.{arith}
 use lib.ListN.{getD}
 use Rattle.grid.specs.Point.{OnGrid, PointOnGrid}
 use Rattle.polygon.specs.Polygon.{Valid}
 use Rattle.polygon.specs.Polygon as polygon
+use Rattle.polygon.specs.Normal.{noNormal, NormalInRange}
+use Rattle.polygon.specs.Normal as polygon-normals
+use Rattle.polygon.proofs.Normals.{normal-in-range}
 use Rattle.polygon.proofs.Validity.{repeated-none}
-use Rattle.reader.specs.File.{offset}
+use Rattle.reader.specs.File.{headerStart, offset}
 use Rattle.reader.specs.Record.{known, heightOf}
-use Rattle.reader.specs.Chain.{link, heightBefore, vertexAt, numberOf, pointOf, vertexCount, verticesOf}
+use Rattle.reader.specs.Chain.{link, heightBefore, vertexAt, numberOf, pointOf, normalAt, vertexCount, verticesOf, normalsOf}
 use Rattle.reader.specs.Due.{HasVertex}
 use Rattle.reader.specs.Reading.{numberDue, polygonOf, answer, readingOf}
 use Rattle.reader.specs.declared.Height.{Height}
@@ -20,8 +23,9 @@ use Rattle.reader.specs.declared.Status.the-variants.{Complete}
 use Rattle.reader.proofs.Vertices.{Vertexed, vertexed, refused-positive}
 use Rattle.reader.proofs.Lengths.{whole}
 use Rattle.reader.proofs.Answers.{count-within}
-use Rattle.reader.proofs.Ends.{no-number}
-use Rattle.reader.proofs.RimVertices.{has-vertex, table-at}
+use Rattle.reader.proofs.Ends.{no-number, in-range}
+use Rattle.reader.proofs.RimVertices.{has-vertex, vertex-in-table}
+use Rattle.reader.proofs.Tables.{table-at}
 use Rattle.reader.proofs.FirstNumber.{Read, read-end}
 use Rattle.reader.proofs.Demand1.{complete-read}
 
@@ -33,10 +37,10 @@ module _ (s : List ℕ) (r : Read s) where
   is-vertex (At p) e h = refl
   is-vertex (Refused k) e h = absurd (omega (arith, h k refl, e))
 
-  vertexed-at : (i : ℕ) → i < vertexCount s → OnGrid (heightOf (heightBefore s i)) → Vertexed s (offset (link s i)) (heightBefore s i) (pointOf (vertexAt s i))
+  vertexed-at : (i : ℕ) → i < vertexCount s → OnGrid (heightOf (heightBefore s i)) → Vertexed s (offset s (link s i)) (heightBefore s i) (pointOf (vertexAt s i))
   vertexed-at i h g =
-      vertexed s (offset (link s i)) (heightBefore s i) (pointOf (vertexAt s i)) g
-      (is-vertex (vertexAt s i) (fine i h) (λ k e. refused-positive s (offset (link s i)) (known (heightBefore s i)) (heightOf (heightBefore s i)) k e))
+      vertexed s (offset s (link s i)) (heightBefore s i) (pointOf (vertexAt s i)) g
+      (is-vertex (vertexAt s i) (fine i h) (λ k e. refused-positive s (offset s (link s i)) (known (heightBefore s i)) (heightOf (heightBefore s i)) k e))
 
   height-on-grid : (i : ℕ) → i ≤ vertexCount s → OnGrid (heightOf (heightBefore s i))
   unfolding heightBefore
@@ -46,14 +50,20 @@ module _ (s : List ℕ) (r : Read s) where
       subst (λ (x : Height). OnGrid (heightOf x)) (sym (v .height-after)) (v .on-grid .z)
 
   vertex-on-grid : (i : ℕ) → i < vertexCount s → PointOnGrid (polygon.vertexAt (verticesOf s (vertexCount s)) i)
-  vertex-on-grid i h = subst PointOnGrid (sym (table-at s (vertexCount s) i h)) (vertexed-at i h (height-on-grid i (omega arith)) .on-grid)
+  vertex-on-grid i h = subst PointOnGrid (sym (vertex-in-table s (vertexCount s) i h)) (vertexed-at i h (height-on-grid i (omega arith)) .on-grid)
+
+  normal-in-table : (i : ℕ) → i < vertexCount s → NormalInRange (polygon-normals.normalAt (normalsOf s (vertexCount s)) i)
+  normal-in-table i h =
+      subst NormalInRange (sym (table-at (λ j. normalAt s j) noNormal (vertexCount s) i h))
+      (normal-in-range (normalAt s i) (in-range s (vertexCount s) (read-end s r) (whole s (r .right)) i h))
 
   valid : ((i : ℕ) → getD s i 0 < 256) → Valid (polygonOf s)
   valid bytes = record {
     area-factor = r .area;
-    bend-factor = omega (arith, bytes 6, bytes 7);
+    bend-factor = omega (arith, bytes (headerStart s + 6), bytes (headerStart s + 6 + 1));
     most = count-within s (r .chain-fine);
     on-grid = vertex-on-grid;
+    normals-in-range = normal-in-table;
     least = r .enough;
     distinct = repeated-none (verticesOf s (vertexCount s)) (vertexCount s) (r .distinct);
   }
@@ -73,4 +83,4 @@ module _ (s : List ℕ) (complete : readingOf s .status ≡ Complete) where
   -- its vertices are those that the records of the chain give, in the chain's order (rule 1.8)
   pub read-vertices : (i : ℕ) → i < readingOf s .polygon .n → HasVertex s i (polygon.vertexAt (readingOf s .polygon .vertices) i)
   read-vertices = subst (λ p. (i : ℕ) → i < p .n → HasVertex s i (polygon.vertexAt (p .vertices) i)) (sym complete-polygon)
-      (λ i h. subst (λ q. HasVertex s i q) (sym (table-at s (vertexCount s) i h)) (has-vertex s i (λ j l. fine s (complete-read s complete) j (omega arith))))
+      (λ i h. subst (λ q. HasVertex s i q) (sym (vertex-in-table s (vertexCount s) i h)) (has-vertex s i (λ j l. fine s (complete-read s complete) j (omega arith))))

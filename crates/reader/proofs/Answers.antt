@@ -9,13 +9,14 @@ use lib.Dec.{ltb, leb, eqb}
 use Rattle.lists.proofs.Choice.{yes, no}
 use Rattle.grid.specs.declared.GridPoint.{GridPoint}
 use Rattle.terms.specs.Limits.{maxVertices}
-use Rattle.polygon.specs.Polygon.{repeatedVertex}
+use Rattle.polygon.specs.Polygon.{firstDue, repeatedVertex}
 use Rattle.polygon.specs.declared.Polygon.{Polygon}
+use Rattle.polygon.specs.declared.normal.Normal.{Normal}
 use Rattle.reader.specs.File.{areaFactor, bendFactor, recordCount, lengthWrong}
-use Rattle.reader.specs.Chain.{metBefore, positionCode, codeFrom, endFrom, chainCode, vertexCount, verticesOf}
+use Rattle.reader.specs.Chain.{metBefore, positionCode, codeFrom, endFrom, chainCode, vertexCount, verticesOf, normalsOf}
 use Rattle.reader.specs.Chain as chain
 use Rattle.reader.specs.Steps.{walked, chainOf}
-use Rattle.reader.specs.Reading.{firstDue, numberDue, polygonOf, refusal, answer, readingOf, statusNumber}
+use Rattle.reader.specs.Reading.{numberDue, polygonOf, refusal, answer, readingOf, statusNumber}
 use Rattle.reader.specs.declared.Chain.{Chain}
 use Rattle.reader.specs.declared.Reading.{Reading}
 use Rattle.reader.specs.declared.Status.the-variants.{Complete}
@@ -95,6 +96,9 @@ module _ (s : List ℕ) {r : Chain} (e : r ≡ chainOf s) where
     pub followed-vertices : r .vertices ≡ verticesOf s (vertexCount s)
     followed-vertices = ap (λ (x : Chain). x .vertices) followed
 
+    pub followed-normals : r .normals ≡ normalsOf s (vertexCount s)
+    followed-normals = ap (λ (x : Chain). x .normals) followed
+
     pub followed-within : r .n ≤ maxVertices
     followed-within = omega (arith, followed-count, count-within s (sym followed-code ∙ none))
 
@@ -147,13 +151,13 @@ module _ (s : List ℕ) where
           none-due h = chain-passed ∙ no 10 _ (le-ltb (vertexCount s) 3 enough) ∙ no 11 _ h
 
 -- no number is due: the answer is the polygon
-pub answer-complete : (s : List ℕ) {n area bend : ℕ} {vertices : List GridPoint} → numberDue s ≡ 0 →
-    n ≡ vertexCount s → area ≡ areaFactor s → bend ≡ bendFactor s → vertices ≡ verticesOf s (vertexCount s) →
-    _≡_ {A = Reading} (record { status = Complete; polygon = record { n = n; «area_factor» = area; «bend_factor» = bend; vertices = vertices } }) (readingOf s)
-answer-complete s {n} {area} {bend} {vertices} e a b c d = same ∙ sym (ap (λ (j : ℕ). answer j (polygonOf s)) e)
+pub answer-complete : (s : List ℕ) {n area bend : ℕ} {vertices : List GridPoint} {normals : List Normal} → numberDue s ≡ 0 →
+    n ≡ vertexCount s → area ≡ areaFactor s → bend ≡ bendFactor s → vertices ≡ verticesOf s (vertexCount s) → normals ≡ normalsOf s (vertexCount s) →
+    _≡_ {A = Reading} (record { status = Complete; polygon = record { n = n; «area_factor» = area; «bend_factor» = bend; vertices = vertices; normals = normals } }) (readingOf s)
+answer-complete s {n} {area} {bend} {vertices} {normals} e a b c d f = same ∙ sym (ap (λ (j : ℕ). answer j (polygonOf s)) e)
   where
-    same : _≡_ {A = Reading} (record { status = Complete; polygon = record { n = n; «area_factor» = area; «bend_factor» = bend; vertices = vertices } }) (answer 0 (polygonOf s))
-    same = λ i. record { status = Complete; polygon = record { n = a i; «area_factor» = b i; «bend_factor» = c i; vertices = d i } }
+    same : _≡_ {A = Reading} (record { status = Complete; polygon = record { n = n; «area_factor» = area; «bend_factor» = bend; vertices = vertices; normals = normals } }) (answer 0 (polygonOf s))
+    same = λ i. record { status = Complete; polygon = record { n = a i; «area_factor» = b i; «bend_factor» = c i; vertices = d i; normals = f i } }
 
 pub answer-number : (k : ℕ) (p : Polygon) → statusNumber (answer k p .status) ≡ k
 answer-number zero p = refl

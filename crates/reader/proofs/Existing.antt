@@ -8,10 +8,10 @@ use lib.ListN.{length, replicate}
 use Rattle.lists.proofs.Choice.{true-not-false}
 use Rattle.grid.specs.declared.GridPoint.{GridPoint}
 use Rattle.terms.specs.Limits.{maxVertices}
-use Rattle.reader.specs.File.{recordCount}
+use Rattle.reader.specs.File.{headerSize, layoutOf, headerStart, recordCount}
 use Rattle.reader.specs.Chain.{link}
 use Rattle.reader.specs.Order.{Place, position}
-use Rattle.reader.specs.Due.{InFile, kindAt, tailZeroAt, OnGridAt, HasVertex, a-point, a-level-point, DueAt, link-over, met-again, too-many, kind-unknown, no-height, not-finite, tail-not-zero, out-of-range}
+use Rattle.reader.specs.Due.{InFile, kindAt, tailZeroAt, OnGridAt, HasVertex, a-point, a-level-point, DueAt, link-over, met-again, too-many, kind-unknown, no-height, not-finite, tail-not-zero, out-of-range, normal-out-of-range}
 
 -- ---- a chain that comes back has no 65 records
 pub no-5-on-loop : (s : List ℕ) (i j : ℕ) → i < j → j ≤ maxVertices → link s i ≡ link s j → (p : Place) → DueAt s p 5 → ⊥
@@ -26,18 +26,18 @@ unfolding point-then
 loop = (1 ∷ 0 ∷ 3 ∷ 0 ∷ 1 ∷ 0 ∷ 1 ∷ replicate 1 0) ++ point-then 2 ++ point-then 3 ++ point-then 1
 
 loop-record : (k : ℕ) → 0 < k → k ≤ 3 → InFile loop k
-unfolding loop
+unfolding loop layoutOf
 loop-record k h l = let n : length loop ≡ 56 = refl in let r : recordCount loop ≡ 3 = refl in record { numbered = h; counted = omega arith; bytes = omega arith }
 
 loop-in-file : (i : ℕ) → i < 3 → InFile loop (link loop i)
-unfolding loop link
+unfolding loop link layoutOf
 loop-in-file zero h = loop-record 1 (omega arith) (omega arith)
 loop-in-file (suc zero) h = loop-record 2 (omega arith) (omega arith)
 loop-in-file (suc (suc zero)) h = loop-record 3 (omega arith) (omega arith)
 loop-in-file (suc (suc (suc i))) h = absurd (omega arith)
 
 loop-different : (i j : ℕ) → i < j → j < 3 → link loop i ≡ link loop j → ⊥
-unfolding loop link
+unfolding loop link layoutOf
 loop-different i zero h l e = omega arith
 loop-different zero (suc zero) h l e = let d : _≡_ {A = ℕ} 1 2 = e in omega arith
 loop-different zero (suc (suc zero)) h l e = let d : _≡_ {A = ℕ} 1 3 = e in omega arith
@@ -47,14 +47,14 @@ loop-different (suc (suc i)) (suc (suc zero)) h l e = omega arith
 loop-different i (suc (suc (suc j))) h l e = omega arith
 
 loop-returns : link loop 0 ≡ link loop 3
-unfolding loop link
+unfolding loop link layoutOf
 loop-returns = refl
 
 pub loop-4 : DueAt loop (position 3) 4
-unfolding loop
+unfolding loop layoutOf
 loop-4 = met-again 0 3 (omega arith) (record { has-header = header; in-file = loop-in-file; different = loop-different }) loop-returns
   where
-    header : 8 ≤ length loop
+    header : headerStart loop + headerSize ≤ length loop
     header = let n : length loop ≡ 56 = refl in omega arith
 
 pub loop-no-5 : (p : Place) → DueAt loop p 5 → ⊥
@@ -70,6 +70,7 @@ only-3-over s _ _ h (no-height i has k none) = absurd (omega (arith, has .in-fil
 only-3-over s _ _ h (not-finite i v has m f) = absurd (omega (arith, has .in-file i (omega arith) .counted))
 only-3-over s _ _ h (tail-not-zero i has k t) = absurd (omega (arith, has .in-file i (omega arith) .counted))
 only-3-over s _ _ h (out-of-range i v has m f) = absurd (omega (arith, has .in-file i (omega arith) .counted))
+only-3-over s _ _ h (normal-out-of-range i c has m f) = absurd (omega (arith, has .in-file i (omega arith) .counted))
 
 -- ---- a record on which one of 6 to 9 is due gives no vertex, so none for 11
 module _ (s : List ℕ) where
@@ -89,12 +90,13 @@ module _ (s : List ℕ) where
   vertex-tail _ _ (a-point i k g) e f = omega arith
   vertex-tail _ _ (a-level-point i j k t g l h) e f = true-not-false t f
 
-  pub refused-no-vertex : (i k : ℕ) (p : GridPoint) → 6 ≤ k → DueAt s (position i) k → HasVertex s i p → ⊥
-  refused-no-vertex _ _ p h (link-over i has l) v = omega arith
-  refused-no-vertex _ _ p h (met-again j i l has e) v = omega arith
-  refused-no-vertex _ _ p h (too-many has) v = omega arith
-  refused-no-vertex _ _ p h (kind-unknown i has a b) v = vertex-kind i p v a b
-  refused-no-vertex _ _ p h (no-height i has k none) v = vertex-height i p v k none
-  refused-no-vertex _ _ p h (not-finite i x has m f) v = true-not-false (vertex-on-grid i p v .all-finite x m) f
-  refused-no-vertex _ _ p h (tail-not-zero i has k t) v = vertex-tail i p v k t
-  refused-no-vertex _ _ p h (out-of-range i x has m f) v = true-not-false (vertex-on-grid i p v .all-in-range x m) f
+  pub refused-no-vertex : (i k : ℕ) (p : GridPoint) → 6 ≤ k → k ≤ 9 → DueAt s (position i) k → HasVertex s i p → ⊥
+  refused-no-vertex _ _ p h l (link-over i has o) v = omega arith
+  refused-no-vertex _ _ p h l (met-again j i b has e) v = omega arith
+  refused-no-vertex _ _ p h l (too-many has) v = omega arith
+  refused-no-vertex _ _ p h l (kind-unknown i has a b) v = vertex-kind i p v a b
+  refused-no-vertex _ _ p h l (no-height i has k none) v = vertex-height i p v k none
+  refused-no-vertex _ _ p h l (not-finite i x has m f) v = true-not-false (vertex-on-grid i p v .all-finite x m) f
+  refused-no-vertex _ _ p h l (tail-not-zero i has k t) v = vertex-tail i p v k t
+  refused-no-vertex _ _ p h l (out-of-range i x has m f) v = true-not-false (vertex-on-grid i p v .all-in-range x m) f
+  refused-no-vertex _ _ p h l (normal-out-of-range i c has m f) v = omega arith

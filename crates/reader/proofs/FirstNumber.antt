@@ -8,12 +8,12 @@ use borrow.Author.Tests.{ltb-true, ltb-false}
 use lib.Dec.{ltb}
 use Rattle.lists.proofs.Choice.{true-not-false}
 use Rattle.grid.specs.declared.GridPoint.{GridPoint}
-use Rattle.polygon.specs.Polygon.{repeatedVertex}
+use Rattle.polygon.specs.Polygon.{firstDue, repeatedVertex}
 use Rattle.reader.specs.File.{areaFactor, lengthWrong}
 use Rattle.reader.specs.Chain.{link, vertexAt, pointOf, positionCode, chainCode, vertexCount, verticesOf}
 use Rattle.reader.specs.Order.{Place, header, position, rim, Precedes, in-header, header-position, header-rim, earlier-position, in-position, position-rim, in-rim, First, NoneDue}
 use Rattle.reader.specs.Due.{HasVertex, DueAt, length-wrong, area-factor, too-few, vertex-repeated}
-use Rattle.reader.specs.Reading.{firstDue, numberDue}
+use Rattle.reader.specs.Reading.{numberDue}
 use Rattle.reader.proofs.Lengths.{whole}
 use Rattle.reader.proofs.Positions.{shorter, due-given, record-reached}
 use Rattle.reader.proofs.Ends.{Stops, Ends, stops, ends, before-end, no-position, no-number}
@@ -47,7 +47,7 @@ module _ (s : List ℕ) where
       no-header _ (length-wrong h) = true-not-false h right
       no-header _ (area-factor l h) = omega arith
 
-      -- ---- 3 to 9
+      -- ---- 3 to 9 and 18
       first-chain : (c : ℕ) → Stops s c → First (DueAt s) c
       first-chain c stop = record { place = position (stop .at); is-due = stop .is-due; none-before = λ p j h d. before (stop .at) p j h d (stop .code) (stop .quiet) }
         where

@@ -1,6 +1,6 @@
 -- Tests of every float of a record, and the number that they give. Assumes nothing.
 use mathlib.Core.Path.{_≡_, refl, sym, ap, _∙_}
-use mathlib.Core.Bool.{Bool, true, false}
+use mathlib.Core.Bool.{Bool, true, false, cond}
 use mathlib.Core.List.{List, [], _∷_, List·Memᴰ, List·Memᴰ·head, List·Memᴰ·tail, List·Memᴰ·cases-cons, List·Memᴰ·not-nil}
 use mathlib.Core.Logic.{⊎-elim}
 use Prim.Native.Nat.{ℕ, _≤_, _<_}
@@ -56,6 +56,15 @@ module _ (vs : List Float) where
       by : (f : Bool) → everyNumber finite vs ≡ f → UpTo 9 (numbersCode vs)
       by false p = let d : numbersCode vs ≡ 8 = no _ 8 p in record { some = omega arith; most = omega arith }
       by true p = let d : numbersCode vs ≡ 9 = yes _ 8 p ∙ no 0 9 e in record { some = omega arith; most = omega arith }
+
+  pub numbers-most : numbersCode vs ≤ 9
+  unfolding numbersCode
+  numbers-most = by (everyNumber finite vs) (everyNumber inRange vs)
+    where
+      by : (f r : Bool) → cond f (cond r 0 9) 8 ≤ 9
+      by true true = omega arith
+      by true false = omega arith
+      by false r = omega arith
 
   pub fine-code : everyNumber finite vs ≡ true → everyNumber inRange vs ≡ true → numbersCode vs ≡ 0
   unfolding numbersCode

@@ -1,43 +1,45 @@
 -- The loop over the steps of the walk: what is left of the chain gives the same number and the same end. Assumes nothing.
 use mathlib.Core.Path.{_≡_, refl, sym, ap, _∙_}
 use mathlib.Core.Bool.{Bool, true, false, cond}
-use mathlib.Core.List.{List, [], _∷_, _++_}
+use mathlib.Core.List.{List}
 use Prim.Native.Nat.{ℕ, zero, suc, _+_, _-_, _<_}
 use native.Mathlib.Numerals.{add-one}
 use native.Mathlib.Omega.{arith}
 use borrow.Author.Tests.{eq-eqb, ne-eqb, leb-true, leb-false}
-use lib.ListN.{length, set, replicate}
+use lib.ListN.{set, replicate}
 use lib.Dec.{leb, eqb}
-use Rattle.lists.specs.Lists.{upFrom, over, filled}
+use Rattle.lists.specs.Lists.{upFrom}
 use Rattle.lists.proofs.Choice.{yes, no}
-use Rattle.lists.proofs.Ranges.{over-last, over-length}
-use Rattle.lists.proofs.Writing.{filled-next}
 use Rattle.terms.specs.Limits.{maxVertices}
+use Rattle.polygon.specs.Normal.{noNormal}
 use Rattle.polygon.specs.Polygon.{origin}
+use Rattle.polygon.specs.declared.normal.Normal.{Normal}
 use Rattle.grid.specs.declared.GridPoint.{GridPoint}
-use Rattle.reader.specs.Chain.{link, vertexAt, pointOf, positionCode, codeFrom, endFrom, chainCode, vertexCount, verticesOf}
+use Rattle.reader.specs.Chain.{link, vertexAt, pointOf, normalAt, positionCode, codeFrom, endFrom, chainCode, vertexCount, verticesOf, normalsOf}
 use Rattle.reader.specs.Steps.{Walking, Stepped, stoppedAt, walked, chainOf}
 use Rattle.reader.specs.declared.Progress.{Progress}
-use Rattle.reader.specs.declared.Vertex.{Vertex}
+use Rattle.reader.proofs.Tables.{table-next}
 use Rattle.reader.proofs.Answers.{code-step, end-step, past-limit}
 
--- the vertices before the walk are listed, and what is left of the chain has its number and its end
-pub record Following (s : List ℕ) (vertices : List GridPoint) (w : Progress) : Type 0 where
+-- the vertices before the walk and their normals are listed, and what is left of the chain has its number and its end
+pub record Following (s : List ℕ) (vertices : List GridPoint) (normals : List Normal) (w : Progress) : Type 0 where
   pub walking : Walking s w
   pub listed : vertices ≡ verticesOf s (w .n)
+  pub listed-normals : normals ≡ normalsOf s (w .n)
   pub code-left : codeFrom s (w .n) (suc maxVertices - w .n) ≡ chainCode s
   pub end-left : endFrom s (w .n) (suc maxVertices - w .n) ≡ vertexCount s
 
-pub following-start : {s : List ℕ} {w : Progress} → Walking s w → w .n ≡ 0 → Following s (replicate maxVertices origin) w
+pub following-start : {s : List ℕ} {w : Progress} → Walking s w → w .n ≡ 0 → Following s (replicate maxVertices origin) (replicate maxVertices noNormal) w
 unfolding upFrom
 following-start {s} {w} v e = record {
   walking = v;
   listed = sym (ap (λ (n : ℕ). verticesOf s n) e);
+  listed-normals = sym (ap (λ (n : ℕ). normalsOf s n) e);
   code-left = ap (λ (n : ℕ). codeFrom s n (suc maxVertices - n)) e;
   end-left = ap (λ (n : ℕ). endFrom s n (suc maxVertices - n)) e;
 }
 
-module _ {s : List ℕ} {vertices : List GridPoint} {w : Progress} (f : Following s vertices w) where
+module _ {s : List ℕ} {vertices : List GridPoint} {normals : List Normal} {w : Progress} (f : Following s vertices normals w) where
   -- one position, taken from what is left
   code-here : codeFrom s (w .n) (suc maxVertices - w .n) ≡
       cond (eqb (link s (w .n)) 0) 0 (cond (eqb (positionCode s (w .n)) 0) (codeFrom s (suc (w .n)) (maxVertices - w .n)) (positionCode s (w .n)))
@@ -51,12 +53,12 @@ module _ {s : List ℕ} {vertices : List GridPoint} {w : Progress} (f : Followin
       ap (λ (k : ℕ). endFrom s (w .n) k) e ∙ end-step s (w .n) (maxVertices - w .n)
 
   -- the chain ends here
-  pub following-end : w .link ≡ 0 → record { code = 0; n = w .n; vertices = vertices } ≡ chainOf s
+  pub following-end : w .link ≡ 0 → record { code = 0; n = w .n; vertices = vertices; normals = normals } ≡ chainOf s
   following-end z =
       let e : eqb (link s (w .n)) 0 ≡ true = eq-eqb (link s (w .n)) 0 (sym (f .walking .here) ∙ z) in
       let c : chainCode s ≡ 0 = sym (f .code-left) ∙ code-here ∙ yes 0 _ e in
       let v : vertexCount s ≡ w .n = sym (f .end-left) ∙ end-here ∙ yes (w .n) _ e in
-      ap (λ (l : List GridPoint). record { code = 0; n = w .n; vertices = l }) (f .listed)
+      (λ i. record { code = 0; n = w .n; vertices = f .listed i; normals = f .listed-normals i })
       ∙ sym (ap (λ (k : ℕ). walked k (vertexCount s) s) c ∙ ap (λ (m : ℕ). walked 0 m s) v)
 
   module _ (nonzero : w .link ≡ 0 → ⊥) {r : Progress} (step : Stepped s w r) where
@@ -86,19 +88,17 @@ module _ {s : List ℕ} {vertices : List GridPoint} {w : Progress} (f : Followin
           by true e = absurd (past-limit s (w .n) (leb-true maxVertices (w .n) e) here-none)
           by false e = leb-false maxVertices (w .n) e
 
-      points : ℕ → List GridPoint
-      points i = pointOf (vertexAt s i) ∷ []
-
       listed-next : set vertices (w .n) (r .vertex) ≡ verticesOf s (w .n + 1)
-      unfolding points
       listed-next =
-          let counted : w .n ≡ length (over 0 (w .n) points) = omega (arith, over-length 0 (w .n) (λ i. pointOf (vertexAt s i))) in
           ap (λ (l : List GridPoint). set l (w .n) (r .vertex)) (f .listed)
-          ∙ filled-next (over 0 (w .n) points) (replicate maxVertices origin) (r .vertex) (w .n) counted room
-          ∙ ap (λ (l : List GridPoint). filled l (replicate maxVertices origin))
-          (ap (λ (q : Vertex). over 0 (w .n) points ++ (pointOf q ∷ [])) (sym (step .vertex-is none)) ∙ sym (over-last 0 (w .n) points (omega arith)))
+          ∙ table-next (λ i. pointOf (vertexAt s i)) origin (w .n) (r .vertex) room (ap pointOf (sym (step .vertex-is none)))
 
-      pub following-next : Following s (set vertices (w .n) (r .vertex)) r
+      normals-next : set normals (w .n) (r .normal) ≡ normalsOf s (w .n + 1)
+      normals-next =
+          ap (λ (l : List Normal). set l (w .n) (r .normal)) (f .listed-normals)
+          ∙ table-next (λ i. normalAt s i) noNormal (w .n) (r .normal) room (step .normal-is none)
+
+      pub following-next : Following s (set vertices (w .n) (r .vertex)) (set normals (w .n) (r .normal)) r
       following-next =
           let n = step .next none in
           let left : suc maxVertices - r .n ≡ maxVertices - w .n = omega arith in
@@ -106,6 +106,7 @@ module _ {s : List ℕ} {vertices : List GridPoint} {w : Progress} (f : Followin
           record {
             walking = step .walking none;
             listed = listed-next ∙ ap (λ (m : ℕ). verticesOf s m) (sym n);
+            listed-normals = normals-next ∙ ap (λ (m : ℕ). normalsOf s m) (sym n);
             code-left =
                 ap (λ (i : ℕ). codeFrom s i (suc maxVertices - r .n)) at ∙ ap (λ (k : ℕ). codeFrom s (suc (w .n)) k) left
                 ∙ sym (code-here ∙ no 0 _ not-ended ∙ yes _ _ (eq-eqb (positionCode s (w .n)) 0 here-none))

@@ -1,6 +1,10 @@
 pub mod Numbers
+pub mod Signed
 pub mod Vertices
+pub mod Layouts
 pub mod Lengths
+pub mod Normals
+pub mod Tables
 pub mod Walking
 pub mod Following
 pub mod Answers

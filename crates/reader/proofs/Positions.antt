@@ -1,6 +1,6 @@
 -- One position of the chain: the number that is given there is due there, and no smaller one is. Assumes nothing.
 use mathlib.Core.Path.{_≡_, refl, sym, ap, _∙_, subst}
-use mathlib.Core.Bool.{Bool, true, false}
+use mathlib.Core.Bool.{Bool, true, false, cond}
 use mathlib.Core.List.{List}
 use mathlib.Core.Logic.{⊎-elim}
 use Prim.Native.Nat.{ℕ, zero, suc, _≤_, _<_}
@@ -9,14 +9,19 @@ use borrow.Author.Tests.{ltb-true, ltb-false, leb-true, leb-false, eqb-true, eq-
 use lib.Dec.{ltb, leb, eqb}
 use Rattle.lists.proofs.Choice.{yes, no, true-not-false, either-left, either-right, either-cases, below-or-same}
 use Rattle.terms.specs.Limits.{maxVertices}
+use Rattle.polygon.specs.Normal.{normalInRange, normalCode}
+use Rattle.polygon.specs.Polygon.{firstDue}
+use Rattle.polygon.proofs.Codes.{due-here, due-on}
 use Rattle.reader.specs.File.{recordCount}
-use Rattle.reader.specs.Chain.{metBefore, vertexAt, numberOf, positionCode}
+use Rattle.reader.specs.Chain.{metBefore, vertexAt, numberOf, normalAt, positionCode}
 use Rattle.reader.specs.Chain as chain
 use Rattle.reader.specs.Order.{position}
-use Rattle.reader.specs.Due.{InFile, HasRecords, DueAt, link-over, met-again, too-many, kind-unknown, no-height, not-finite, tail-not-zero, out-of-range}
+use Rattle.reader.specs.Due.{InFile, HasRecords, DueAt, link-over, met-again, too-many, kind-unknown, no-height, not-finite, tail-not-zero, out-of-range, normal-out-of-range}
+use Rattle.reader.proofs.Layouts.{record-within}
 use Rattle.reader.proofs.Lengths.{Whole}
 use Rattle.reader.proofs.Floats.{UpTo}
-use Rattle.reader.proofs.RecordNumbers.{kind-given, height-given, tail-given, finite-given, range-given, record-due}
+use Rattle.reader.proofs.Normals.{normal-given, normal-due}
+use Rattle.reader.proofs.RecordNumbers.{record-most, kind-given, height-given, tail-given, finite-given, range-given, record-due}
 
 -- ---- records met before
 -- a record at an earlier position is marked as met
@@ -44,8 +49,12 @@ met-found s (suc j) k e =
 
 module _ (s : List ℕ) (i : ℕ) where
   -- ---- a number that is due at the position: the one that is given is at most that
+  -- the first of the record's number and of its normal's
+  abbrev recordCode : ℕ
+  recordCode = firstDue (numberOf (vertexAt s i)) (normalCode (normalAt s i))
+
   -- the link is judged before the record
-  link-first : (k c : ℕ) → 5 ≤ k → numberOf (vertexAt s i) ≡ c → UpTo k c → UpTo k (positionCode s i)
+  link-first : (k c : ℕ) → 5 ≤ k → recordCode ≡ c → UpTo k c → UpTo k (positionCode s i)
   unfolding positionCode
   link-first k c h n u = by (ltb (recordCount s) (chain.link s i)) (metBefore s i (chain.link s i)) (leb maxVertices i) refl refl refl
     where
@@ -57,6 +66,18 @@ module _ (s : List ℕ) (i : ℕ) where
       by false true z p q r = upto 4 (no 3 _ p ∙ yes 4 _ q) (record { some = omega arith; most = omega arith })
       by false false true p q r = upto 5 (no 3 _ p ∙ no 4 _ q ∙ yes 5 _ r) (record { some = omega arith; most = h })
       by false false false p q r = upto c (no 3 _ p ∙ no 4 _ q ∙ no 5 _ r ∙ n) u
+
+  -- the record's number before its normal's
+  record-first : (k : ℕ) → 5 ≤ k → UpTo k (numberOf (vertexAt s i)) → UpTo k (positionCode s i)
+  record-first k h u = link-first k (numberOf (vertexAt s i)) h (due-here (normalCode (normalAt s i)) refl (λ z. omega (arith, u .some))) u
+
+  normal-first : normalInRange (normalAt s i) ≡ false → UpTo 18 (positionCode s i)
+  normal-first f = by (numberOf (vertexAt s i)) refl
+    where
+      by : (c : ℕ) → numberOf (vertexAt s i) ≡ c → UpTo 18 (positionCode s i)
+      by zero e =
+          link-first 18 18 (omega arith) (due-on (normalCode (normalAt s i)) e ∙ no 0 18 f) (record { some = omega arith; most = omega arith })
+      by (suc c) e = record-first 18 (omega arith) (record { some = omega arith; most = omega (arith, record-most s i) })
 
   over-given : recordCount s < chain.link s i → UpTo 3 (positionCode s i)
   unfolding positionCode
@@ -86,11 +107,12 @@ pub due-given : (s : List ℕ) (i k : ℕ) → DueAt s (position i) k → UpTo k
 due-given s _ _ (link-over i has h) = over-given s i h
 due-given s _ _ (met-again j i h has e) = met-given s i (met-marked s j i (chain.link s i) h e)
 due-given s _ _ (too-many has) = many-given s maxVertices (omega arith)
-due-given s _ _ (kind-unknown i has a b) = link-first s i 6 6 (omega arith) (kind-given s i a b) (record { some = omega arith; most = omega arith })
-due-given s _ _ (no-height i has k none) = link-first s i 7 7 (omega arith) (height-given s i k none) (record { some = omega arith; most = omega arith })
-due-given s _ _ (not-finite i v has m f) = link-first s i 8 (numberOf (vertexAt s i)) (omega arith) refl (finite-given s i v m f)
-due-given s _ _ (tail-not-zero i has k t) = link-first s i 8 (numberOf (vertexAt s i)) (omega arith) refl (tail-given s i k t)
-due-given s _ _ (out-of-range i v has m f) = link-first s i 9 (numberOf (vertexAt s i)) (omega arith) refl (range-given s i v m f)
+due-given s _ _ (kind-unknown i has a b) = record-first s i 6 (omega arith) (let e = kind-given s i a b in record { some = omega arith; most = omega arith })
+due-given s _ _ (no-height i has k none) = record-first s i 7 (omega arith) (let e = height-given s i k none in record { some = omega arith; most = omega arith })
+due-given s _ _ (not-finite i v has m f) = record-first s i 8 (omega arith) (finite-given s i v m f)
+due-given s _ _ (tail-not-zero i has k t) = record-first s i 8 (omega arith) (tail-given s i k t)
+due-given s _ _ (out-of-range i v has m f) = record-first s i 9 (omega arith) (range-given s i v m f)
+due-given s _ _ (normal-out-of-range i c has m f) = normal-first s i (normal-given s i c m f)
 
 -- a number is due only at a position that a link leads to
 pub record Reached (s : List ℕ) (i : ℕ) : Type 0 where
@@ -112,6 +134,7 @@ due-reached s _ _ (no-height i has k none) = record-reached i has
 due-reached s _ _ (not-finite i v has m f) = record-reached i has
 due-reached s _ _ (tail-not-zero i has k t) = record-reached i has
 due-reached s _ _ (out-of-range i v has m f) = record-reached i has
+due-reached s _ _ (normal-out-of-range i c has m f) = record-reached i has
 
 module _ (s : List ℕ) (whole : Whole s) (i : ℕ) (r : Reached s i) where
   -- the record that the link leads to
@@ -127,7 +150,16 @@ module _ (s : List ℕ) (whole : Whole s) (i : ℕ) (r : Reached s i) where
   }
     where
       here : InFile s (chain.link s i)
-      here = record { numbered = r .goes-on; counted = l; bytes = omega (arith, whole .records, r .goes-on) }
+      here = record { numbered = r .goes-on; counted = l; bytes = record-within s (chain.link s i) (r .goes-on) l (whole .records) }
+
+  -- the number of the record, or of its normal, is due
+  record-given : HasRecords s (suc i) → (c j : ℕ) → numberOf (vertexAt s i) ≡ j → firstDue j (normalCode (normalAt s i)) ≡ suc c → DueAt s (position i) (suc c)
+  record-given has c (suc j) d e = record-due s i has c (d ∙ e)
+  record-given has c zero d e = by (normalInRange (normalAt s i)) refl
+    where
+      by : (b : Bool) → normalInRange (normalAt s i) ≡ b → DueAt s (position i) (suc c)
+      by true r = absurd (omega (arith, sym (yes 0 18 r) ∙ e))
+      by false r = subst (λ (k : ℕ). DueAt s (position i) k) (sym (no 0 18 r) ∙ e) (normal-due s i has r)
 
   -- the number that is given is due; position i is at most the last that may be
   pub given-due : (c : ℕ) → i ≤ maxVertices → positionCode s i ≡ suc c → DueAt s (position i) (suc c)
@@ -144,13 +176,23 @@ module _ (s : List ℕ) (whole : Whole s) (i : ℕ) (r : Reached s i) where
           let has : HasRecords s (suc i) = next-has (ltb-false (recordCount s) (chain.link s i) p) q in
           subst (λ (k : ℕ). DueAt s (position i) k) (sym (no 3 _ p ∙ no 4 _ q ∙ yes 5 _ t) ∙ e)
           (subst (λ (m : ℕ). DueAt s (position m) 5) last (too-many (subst (λ (m : ℕ). HasRecords s (suc m)) (sym last) has)))
-      by false false false p q t = record-due s i (next-has (ltb-false (recordCount s) (chain.link s i) p) q) c (sym (no 3 _ p ∙ no 4 _ q ∙ no 5 _ t) ∙ e)
+      by false false false p q t =
+          record-given (next-has (ltb-false (recordCount s) (chain.link s i) p) q) c (numberOf (vertexAt s i)) refl (sym (no 3 _ p ∙ no 4 _ q ∙ no 5 _ t) ∙ e)
 
-  -- where no number is given, the chain has the record, within the limit, and the record has a vertex
+  -- where no number is given, the chain has the record, within the limit, and the record has a vertex and a normal in range
   pub record Passing : Type 0 where
     pub next : HasRecords s (suc i)
     pub within : i < maxVertices
     pub no-number : numberOf (vertexAt s i) ≡ 0
+    pub in-range : normalInRange (normalAt s i) ≡ true
+
+  none-first : (j : ℕ) {k : ℕ} → firstDue j k ≡ 0 → (j ≡ 0) × (k ≡ 0)
+  none-first zero e = (refl, e)
+  none-first (suc j) e = absurd (omega (arith, e))
+
+  quiet : (b : Bool) → _≡_ {A = ℕ} (cond b 0 18) 0 → b ≡ true
+  quiet true e = refl
+  quiet false e = absurd (omega (arith, e))
 
   pub passing : positionCode s i ≡ 0 → Passing
   unfolding positionCode
@@ -163,5 +205,6 @@ module _ (s : List ℕ) (whole : Whole s) (i : ℕ) (r : Reached s i) where
       by false false false p q t = record {
         next = next-has (ltb-false (recordCount s) (chain.link s i) p) q;
         within = leb-false maxVertices i t;
-        no-number = sym (no 3 _ p ∙ no 4 _ q ∙ no 5 _ t) ∙ e;
+        no-number = none-first (numberOf (vertexAt s i)) (sym (no 3 _ p ∙ no 4 _ q ∙ no 5 _ t) ∙ e) .0;
+        in-range = quiet (normalInRange (normalAt s i)) (none-first (numberOf (vertexAt s i)) (sym (no 3 _ p ∙ no 4 _ q ∙ no 5 _ t) ∙ e) .1);
       }

@@ -19,7 +19,7 @@ use Rattle.reader.specs.Chain as chain
 use Rattle.reader.specs.Order.{position}
 use Rattle.reader.specs.Due.{HasRecords, kindAt, tailZeroAt, floatsAt, DueAt, kind-unknown, no-height, not-finite, tail-not-zero, out-of-range}
 use Rattle.reader.proofs.Vertices.{shape, shape-is}
-use Rattle.reader.proofs.Floats.{UpTo, every-fails, every-not, finite-code, range-code}
+use Rattle.reader.proofs.Floats.{UpTo, every-fails, every-not, numbers-most, finite-code, range-code}
 use Rattle.reader.proofs.Heights.{height-unknown, no-height-known}
 
 number-unless : (k : ℕ) (p : GridPoint) → numberOf (vertexUnless k p) ≡ k
@@ -40,15 +40,26 @@ shape-number false false kn tail x y z h = refl
 
 module _ (s : List ℕ) (i : ℕ) where
   abbrev pub pointFloats : List Float
-  pointFloats = firstNumber s (offset (chain.link s i)) ∷ secondNumber s (offset (chain.link s i)) ∷ thirdNumber s (offset (chain.link s i)) ∷ []
+  pointFloats = firstNumber s (offset s (chain.link s i)) ∷ secondNumber s (offset s (chain.link s i)) ∷ thirdNumber s (offset s (chain.link s i)) ∷ []
 
   abbrev pub levelFloats : List Float
-  levelFloats = firstNumber s (offset (chain.link s i)) ∷ secondNumber s (offset (chain.link s i)) ∷ []
+  levelFloats = firstNumber s (offset s (chain.link s i)) ∷ secondNumber s (offset s (chain.link s i)) ∷ []
 
   pub record-number : numberOf (vertexAt s i) ≡ tests (eqb (kindAt s i) 1) (eqb (kindAt s i) 2) (known (heightBefore s i)) (tailZeroAt s i) pointFloats levelFloats
   record-number =
-      ap numberOf (shape-is (eqb (kindAt s i) 1) (eqb (kindAt s i) 2) (known (heightBefore s i)) (tailZeroAt s i) s (offset (chain.link s i)) (heightOf (heightBefore s i)) refl refl refl)
-      ∙ shape-number (eqb (kindAt s i) 1) (eqb (kindAt s i) 2) (known (heightBefore s i)) (tailZeroAt s i) (firstNumber s (offset (chain.link s i))) (secondNumber s (offset (chain.link s i))) (thirdNumber s (offset (chain.link s i))) (heightOf (heightBefore s i))
+      ap numberOf (shape-is (eqb (kindAt s i) 1) (eqb (kindAt s i) 2) (known (heightBefore s i)) (tailZeroAt s i) s (offset s (chain.link s i)) (heightOf (heightBefore s i)) refl refl refl)
+      ∙ shape-number (eqb (kindAt s i) 1) (eqb (kindAt s i) 2) (known (heightBefore s i)) (tailZeroAt s i) (firstNumber s (offset s (chain.link s i))) (secondNumber s (offset s (chain.link s i))) (thirdNumber s (offset s (chain.link s i))) (heightOf (heightBefore s i))
+
+  -- the numbers of a record come before 18
+  pub record-most : numberOf (vertexAt s i) ≤ 9
+  record-most = by (eqb (kindAt s i) 1) (eqb (kindAt s i) 2) (known (heightBefore s i)) (tailZeroAt s i) record-number
+    where
+      by : (one two kn tail : Bool) → numberOf (vertexAt s i) ≡ tests one two kn tail pointFloats levelFloats → numberOf (vertexAt s i) ≤ 9
+      by true two kn tail e = omega (arith, e, numbers-most pointFloats)
+      by false true true true e = omega (arith, e, numbers-most levelFloats)
+      by false true true false e = omega (arith, e)
+      by false true false tail e = omega (arith, e)
+      by false false kn tail e = omega (arith, e)
 
   -- ---- of a level point
   level-number : kindAt s i ≡ 2 → numberOf (vertexAt s i) ≡ cond (known (heightBefore s i)) (cond (tailZeroAt s i) (numbersCode levelFloats) 8) 7

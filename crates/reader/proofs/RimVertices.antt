@@ -7,15 +7,12 @@ use native.Mathlib.Omega.{arith}
 use borrow.Author.Tests.{eqb-true, eq-eqb, ne-eqb}
 use lib.Dec.{eqb}
 use lib.Ieee.{Float}
-use lib.ListN.{length, replicate}
-use Rattle.lists.specs.Lists.{over, some}
+use Rattle.lists.specs.Lists.{some}
 use Rattle.lists.proofs.Choice.{yes, no}
-use Rattle.lists.proofs.Ranges.{over-length, over-at, some-found}
-use Rattle.lists.proofs.Writing.{filled-at}
+use Rattle.lists.proofs.Ranges.{some-found}
 use Rattle.grid.specs.declared.GridPoint.{GridPoint}
 use Rattle.grid.specs.Number.{finite, inRange}
 use Rattle.grid.specs.Point.{point}
-use Rattle.terms.specs.Limits.{maxVertices}
 use Rattle.polygon.specs.Polygon.{origin, samePoint, repeatedVertex}
 use Rattle.polygon.specs.Polygon as polygon
 use Rattle.polygon.proofs.Points.{point-equal}
@@ -25,6 +22,7 @@ use Rattle.reader.specs.Record.{known, heightOf, numbersCode, vertexUnle
 use Rattle.reader.specs.Chain.{heightBefore, vertexAt, numberOf, pointOf, verticesOf}
 use Rattle.reader.specs.Chain as chain
 use Rattle.reader.specs.Due.{kindAt, tailZeroAt, floatsAt, OnGridAt, xAt, yAt, heightAt, HasVertex, a-point, a-level-point}
+use Rattle.reader.proofs.Tables.{table-at}
 use Rattle.reader.proofs.Vertices.{shape, shape-is, numbers-fine}
 use Rattle.reader.proofs.Floats.{every-at, every-all, fine-code}
 use Rattle.reader.proofs.Heights.{height-of-last, last-point}
@@ -33,8 +31,8 @@ use Rattle.reader.proofs.RecordNumbers.{tests, pointFloats, levelFloats
 module _ (s : List ℕ) where
   -- the vertex by its tests
   vertex-shape : (i : ℕ) (one two kn tail : Bool) → eqb (kindAt s i) 1 ≡ one → eqb (kindAt s i) 2 ≡ two → known (heightBefore s i) ≡ kn → tailZeroAt s i ≡ tail →
-      vertexAt s i ≡ shape one two kn tail (firstNumber s (offset (chain.link s i))) (secondNumber s (offset (chain.link s i))) (thirdNumber s (offset (chain.link s i))) (heightOf (heightBefore s i))
-  vertex-shape i one two kn tail a b c d = rw c (shape-is one two kn tail s (offset (chain.link s i)) (heightOf (heightBefore s i)) a b d)
+      vertexAt s i ≡ shape one two kn tail (firstNumber s (offset s (chain.link s i))) (secondNumber s (offset s (chain.link s i))) (thirdNumber s (offset s (chain.link s i))) (heightOf (heightBefore s i))
+  vertex-shape i one two kn tail a b c d = rw c (shape-is one two kn tail s (offset s (chain.link s i)) (heightOf (heightBefore s i)) a b d)
 
   grid-code : (i : ℕ) (vs : List Float) → floatsAt s i ≡ vs → OnGridAt s i → numbersCode vs ≡ 0
   grid-code i vs e g =
@@ -100,12 +98,8 @@ module _ (s : List ℕ) where
 
   -- ---- the reader's list
   -- vertex i of the list is the vertex at position i
-  pub table-at : (n i : ℕ) → i < n → polygon.vertexAt (verticesOf s n) i ≡ pointOf (vertexAt s i)
-  table-at n i h =
-      let l : i < length (over 0 n (λ i. pointOf (vertexAt s i) ∷ [])) = omega (arith, over-length 0 n (λ i. pointOf (vertexAt s i))) in
-      filled-at (over 0 n (λ i. pointOf (vertexAt s i) ∷ [])) (replicate maxVertices origin) i origin l
-      ∙ over-at 0 n (λ i. pointOf (vertexAt s i)) origin i (omega arith)
-      ∙ ap (λ (m : ℕ). pointOf (vertexAt s m)) (omega arith)
+  pub vertex-in-table : (n i : ℕ) → i < n → polygon.vertexAt (verticesOf s n) i ≡ pointOf (vertexAt s i)
+  vertex-in-table = table-at (λ i. pointOf (vertexAt s i)) origin
 
   -- where two vertices of the list are equal
   pub record Repeated (n : ℕ) : Type 0 where
@@ -127,10 +121,10 @@ module _ (s : List ℕ) where
         before = g .high;
         within = f .high;
         equal =
-            sym (table-at n (g .at) (omega (arith, g .high, f .high)))
+            sym (vertex-in-table n (g .at) (omega (arith, g .high, f .high)))
             ∙ point-equal (polygon.vertexAt table (g .at)) (polygon.vertexAt table (f .at)) (g .true-at)
-            ∙ table-at n (f .at) (f .high);
+            ∙ vertex-in-table n (f .at) (f .high);
       }
 
   pub not-repeated : (n i j : ℕ) → repeatedVertex (verticesOf s n) n ≡ false → i < j → j < n → pointOf (vertexAt s i) ≡ pointOf (vertexAt s j) → ⊥
-  not-repeated n i j r h l e = repeated-none (verticesOf s n) n r i j h l (table-at n i (omega arith) ∙ e ∙ sym (table-at n j l))
+  not-repeated n i j r h l e = repeated-none (verticesOf s n) n r i j h l (vertex-in-table n i (omega arith) ∙ e ∙ sym (vertex-in-table n j l))

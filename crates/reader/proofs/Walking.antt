@@ -2,7 +2,7 @@
 use mathlib.Core.Path.{_≡_, refl, sym, ap, _∙_, subst}
 use mathlib.Core.Bool.{Bool, true, false, cond}
 use mathlib.Core.List.{List}
-use Prim.Native.Nat.{ℕ, zero, suc, _+_, _-_, _*_, _≤_, _<_}
+use Prim.Native.Nat.{ℕ, zero, suc, _+_, _≤_, _<_}
 use native.Mathlib.Numerals.{add-one}
 use native.Mathlib.Omega.{arith}
 use borrow.Author.Tests.{le-ltb, lt-ltb, lt-leb, le-leb, eqb-true, eqb-false}
@@ -17,13 +17,16 @@ use mathlib.Core.Logic.{⊎-elim}
 use Rattle.lists.specs.Lists.{either}
 use Rattle.lists.proofs.Choice.{yes, no, below-or-same}
 use Rattle.terms.specs.Limits.{maxVertices}
-use Rattle.polygon.specs.Polygon.{origin}
+use Rattle.polygon.specs.Normal.{noNormal, normalInRange, normalCode}
+use Rattle.polygon.specs.Polygon.{origin, firstDue}
+use Rattle.polygon.specs.declared.normal.Normal.{Normal}
+use Rattle.polygon.proofs.Codes.{due-here, due-on}
 use Rattle.grid.specs.declared.GridPoint.{GridPoint}
 use Rattle.grid.specs.Point.{OnGrid}
 use Rattle.grid.specs.Number.{roundEighths}
 use Rattle.reader.specs.File.{u16At, firstRecord, recordCount, maxRecords, recordNumbers, offset, kind, thirdNumber}
-use Rattle.reader.specs.Record.{known, heightOf, recordAt, vertexOf}
-use Rattle.reader.specs.Chain.{link, metBefore, heightBefore, vertexAt, numberOf, positionCode}
+use Rattle.reader.specs.Record.{known, heightOf, recordAt, vertexOf, normalIn}
+use Rattle.reader.specs.Chain.{link, metBefore, heightBefore, vertexAt, numberOf, normalAt, positionCode}
 use Rattle.reader.specs.Steps.{Walking, Stepped}
 use Rattle.reader.specs.declared.Progress.{Progress}
 use Rattle.reader.specs.declared.Height.{Height}
@@ -38,11 +41,11 @@ positive (suc k) h = omega arith
 pub below-limit : {n : ℕ} → n ≤ maxVertices → (n ≡ maxVertices → ⊥) → n < maxVertices
 below-limit {n} h d = ⊎-elim (λ l. l) (λ e. absurd (d e)) (below-or-same n maxVertices h)
 
-abbrev progress : List Bool → Height → GridPoint → ℕ → ℕ → Progress
-progress met height vertex n next = record { code = 0; met = met; height = height; vertex = vertex; n = n; link = next }
+abbrev progress : List Bool → Height → GridPoint → Normal → ℕ → ℕ → Progress
+progress met height vertex normal n next = record { code = 0; met = met; height = height; vertex = vertex; normal = normal; n = n; link = next }
 
 -- before the first position no record is met
-pub walking-start : (s : List ℕ) (first : ℕ) → first ≡ firstRecord s → Walking s (progress (replicate recordNumbers false) Unknown origin 0 first)
+pub walking-start : (s : List ℕ) (first : ℕ) → first ≡ firstRecord s → Walking s (progress (replicate recordNumbers false) Unknown origin noNormal 0 first)
 unfolding link metBefore heightBefore
 walking-start s first e = record {
   here = e;
@@ -74,6 +77,7 @@ module _ {s : List ℕ} {w : Progress} (v : Walking s w) where
     walking = λ z. absurd (omega arith);
     next = λ z. absurd (omega arith);
     vertex-is = λ z. absurd (omega arith);
+    normal-is = λ z. absurd (omega arith);
   }
 
   pub link-due : recordCount s < w .link → positionCode s (w .n) ≡ 3
@@ -96,24 +100,26 @@ module _ {s : List ℕ} {w : Progress} (v : Walking s w) where
       unfolding positionCode
       too-many-due h = no 3 _ link-fine ∙ no 4 _ (sym met-here ∙ new) ∙ yes 5 _ (le-leb maxVertices (w .n) (omega arith))
 
-      module _ (room : w .n < maxVertices) (nonzero : w .link ≡ 0 → ⊥) (at : ℕ) (place : at ≡ 16 * w .link - 8) where
-        record-code : positionCode s (w .n) ≡ numberOf (vertexAt s (w .n))
+      module _ (room : w .n < maxVertices) (at : ℕ) (place : at ≡ offset s (w .link)) where
+        record-code : positionCode s (w .n) ≡ firstDue (numberOf (vertexAt s (w .n))) (normalCode (normalAt s (w .n)))
         unfolding positionCode
         record-code = no 3 _ link-fine ∙ no 4 _ (sym met-here ∙ new) ∙ no 5 _ (lt-leb maxVertices (w .n) room)
 
-        starts : at ≡ offset (link s (w .n))
-        starts = omega (arith, v .here, positive (w .link) nonzero)
+        starts : at ≡ offset s (link s (w .n))
+        starts = place ∙ ap (λ (k : ℕ). offset s k) (v .here)
 
         vertex-here : vertexOf (recordAt s at (known (w .height))) (heightOf (w .height)) ≡ vertexAt s (w .n)
         vertex-here =
             ap (λ (i : ℕ). vertexOf (recordAt s i (known (w .height))) (heightOf (w .height))) starts
-            ∙ ap (λ (h : Height). vertexOf (recordAt s (offset (link s (w .n))) (known h)) (heightOf h)) (v .level)
+            ∙ ap (λ (h : Height). vertexOf (recordAt s (offset s (link s (w .n))) (known h)) (heightOf h)) (v .level)
 
         -- the record here is refused
         pub record-stops : {r : Progress} (k : ℕ) → vertexOf (recordAt s at (known (w .height))) (heightOf (w .height)) ≡ Refused k → r .code ≡ k → Stepped s w r
-        record-stops k e c = stopped-by k (refused-positive s at (known (w .height)) (heightOf (w .height)) k e) (record-code ∙ ap numberOf (sym vertex-here ∙ e)) c
+        record-stops k e c =
+            let some = refused-positive s at (known (w .height)) (heightOf (w .height)) k e in
+            stopped-by k some (record-code ∙ due-here (normalCode (normalAt s (w .n))) (sym (ap numberOf (sym vertex-here ∙ e))) (λ z. omega arith)) c
 
-        -- the record here has a vertex, and is marked
+        -- past the record here: it is marked, and its height is known
         marked-next : (k : ℕ) → k < recordNumbers → getD (set (w .met) (w .link) true) k false ≡ metBefore s (suc (w .n)) k
         unfolding metBefore
         marked-next k h = by (eqb (link s (w .n)) k) refl
@@ -130,24 +136,40 @@ module _ {s : List ℕ} {w : Progress} (v : Walking s w) where
         level-next p d =
             sym (d .height-after)
             ∙ ap (λ (i : ℕ). cond (eqb (kind s i) 1) (Known (roundEighths (thirdNumber s i))) (w .height)) starts
-            ∙ ap (λ (h : Height). cond (eqb (kind s (offset (link s (w .n)))) 1) (Known (roundEighths (thirdNumber s (offset (link s (w .n)))))) h) (v .level)
+            ∙ ap (λ (h : Height). cond (eqb (kind s (offset s (link s (w .n)))) 1) (Known (roundEighths (thirdNumber s (offset s (link s (w .n)))))) h) (v .level)
 
-        pub record-passes : (p : GridPoint) (next : ℕ) → vertexOf (recordAt s at (known (w .height))) (heightOf (w .height)) ≡ At p → next ≡ u16At s at →
-            Stepped s w (progress (set (w .met) (w .link) true) (Known (toZ w64 (ofZ w64 (p .z)))) p (w .n + 1) next)
-        unfolding link
-        record-passes p next e d =
-            let x : Vertexed s at (w .height) p = vertexed s at (w .height) p (v .on-grid) e in
-            let same = held (p .z) (x .on-grid .z) in
-            record {
-              number = sym (record-code ∙ ap numberOf (sym vertex-here ∙ e));
-              walking = λ _. record {
-                here = d ∙ ap (λ (i : ℕ). u16At s i) starts ∙ ap (λ (i : ℕ). link s i) (sym (add-one (w .n)));
-                marks = length-set (w .met) (w .link) true ∙ v .marks;
-                marked = λ k h. marked-next k h ∙ ap (λ (i : ℕ). metBefore s i k) (sym (add-one (w .n)));
-                level = ap Known same ∙ level-next p x ∙ ap (λ (i : ℕ). heightBefore s i) (sym (add-one (w .n)));
-                on-grid = subst OnGrid (sym same) (x .on-grid .z);
-                within = omega arith;
-              };
-              next = λ _. refl;
-              vertex-is = λ _. sym vertex-here ∙ e;
-            }
+        -- the record here has a vertex, and this normal
+        module _ (p : GridPoint) (has-vertex : vertexOf (recordAt s at (known (w .height))) (heightOf (w .height)) ≡ At p) (q : Normal) (has-normal : q ≡ normalIn s at) where
+          normal-here : q ≡ normalAt s (w .n)
+          normal-here = has-normal ∙ ap (λ (i : ℕ). normalIn s i) starts
+
+          normal-code : {b : Bool} → normalInRange q ≡ b → positionCode s (w .n) ≡ cond b 0 18
+          normal-code f =
+              record-code ∙ due-on (normalCode (normalAt s (w .n))) (ap numberOf (sym vertex-here ∙ has-vertex))
+              ∙ ap normalCode (sym normal-here) ∙ ap (λ (b : Bool). cond b 0 18) f
+
+          -- the normal is refused
+          pub normal-stops : {r : Progress} → normalInRange q ≡ false → r .code ≡ 18 → Stepped s w r
+          normal-stops f c = stopped-by 18 (omega arith) (normal-code f) c
+
+          -- the walk goes on
+          pub record-passes : (next : ℕ) → normalInRange q ≡ true → next ≡ u16At s at →
+              Stepped s w (progress (set (w .met) (w .link) true) (Known (toZ w64 (ofZ w64 (p .z)))) p q (w .n + 1) next)
+          unfolding link
+          record-passes next f d =
+              let x : Vertexed s at (w .height) p = vertexed s at (w .height) p (v .on-grid) has-vertex in
+              let same = held (p .z) (x .on-grid .z) in
+              record {
+                number = sym (normal-code f);
+                walking = λ _. record {
+                  here = d ∙ ap (λ (i : ℕ). u16At s i) starts ∙ ap (λ (i : ℕ). link s i) (sym (add-one (w .n)));
+                  marks = length-set (w .met) (w .link) true ∙ v .marks;
+                  marked = λ k h. marked-next k h ∙ ap (λ (i : ℕ). metBefore s i k) (sym (add-one (w .n)));
+                  level = ap Known same ∙ level-next p x ∙ ap (λ (i : ℕ). heightBefore s i) (sym (add-one (w .n)));
+                  on-grid = subst OnGrid (sym same) (x .on-grid .z);
+                  within = omega arith;
+                };
+                next = λ _. refl;
+                vertex-is = λ _. sym vertex-here ∙ has-vertex;
+                normal-is = λ _. normal-here;
+              }

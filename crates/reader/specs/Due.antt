@@ -1,4 +1,4 @@
--- The numbers 1 to 11, each by itself, at its place, and only of what there is (rules 4.1 to 4.11 and 4.31). Definitions only.
+-- The numbers 1 to 11 and 18, each by itself, at its place, and only of what there is (rules 4.1 to 4.11, 4.18 and 4.31). Definitions only.
 use mathlib.Core.Path.{_≡_}
 use mathlib.Core.Bool.{Bool, true, false, cond}
 use mathlib.Core.List.{List, [], _∷_, List·Memᴰ}
@@ -8,10 +8,10 @@ use lib.IntN.{ℤ}
 use lib.Ieee.{Float}
 use lib.ListN.{length}
 use Rattle.grid.specs.Number.{finite, inRange, roundEighths}
-use Rattle.grid.specs.Point.{point}
+use Rattle.grid.specs.Point.{point, OnGrid}
 use Rattle.grid.specs.declared.GridPoint.{GridPoint}
 use Rattle.terms.specs.Limits.{minVertices, maxVertices, maxAreaFactor}
-use Rattle.reader.specs.File.{areaFactor, recordCount, lengthWrong, offset, kind, firstNumber, secondNumber, thirdNumber, tailZero}
+use Rattle.reader.specs.File.{i16At, isEdition2, headerSize, headerStart, recordSize, areaFactor, recordCount, lengthWrong, offset, kind, firstNumber, secondNumber, thirdNumber, tailZero}
 use Rattle.reader.specs.Chain.{link}
 use Rattle.reader.specs.Order.{Place, header, position, rim}
 
@@ -20,20 +20,20 @@ use Rattle.reader.specs.Order.{Place, header, position, rim}
 pub record InFile (s : List ℕ) (k : ℕ) : Type 0 where
   pub numbered : 0 < k
   pub counted : k ≤ recordCount s
-  pub bytes : offset k + 16 ≤ length s
+  pub bytes : offset s k + recordSize s ≤ length s
 
 -- the chain has m records or more (rule 1.5): the links to its first m positions name records of the file, no two the same
 pub record HasRecords (s : List ℕ) (m : ℕ) : Type 0 where
-  pub has-header : 8 ≤ length s
+  pub has-header : headerStart s + headerSize ≤ length s
   pub in-file : (i : ℕ) → i < m → InFile s (link s i)
   pub different : (i j : ℕ) → i < j → j < m → link s i ≡ link s j → ⊥
 
 -- the kind of the record at position i, and whether its last four bytes are zero (rules 1.3, 1.7)
 abbrev pub kindAt : List ℕ → ℕ → ℕ
-kindAt s i = kind s (offset (link s i))
+kindAt s i = kind s (offset s (link s i))
 
 abbrev pub tailZeroAt : List ℕ → ℕ → Bool
-tailZeroAt s i = tailZero s (offset (link s i))
+tailZeroAt s i = tailZero s (offset s (link s i))
 
 -- the floats of the record at position i (rules 1.6, 1.7): a point has three, a level point two
 abbrev pub floatsOf : List ℕ → ℕ → List Float
@@ -42,7 +42,14 @@ floatsOf s at =
     (cond (eqb (kind s at) 2) (firstNumber s at ∷ secondNumber s at ∷ []) [])
 
 abbrev pub floatsAt : List ℕ → ℕ → List Float
-floatsAt s i = floatsOf s (offset (link s i))
+floatsAt s i = floatsOf s (offset s (link s i))
+
+-- the numbers of the normal of the record at position i (rule 1.13): three in edition 2, none in edition 1
+abbrev pub normalNumbersOf : List ℕ → ℕ → List ℤ
+normalNumbersOf s at = cond (isEdition2 s) (i16At s (at + 16) ∷ i16At s (at + 18) ∷ i16At s (at + 20) ∷ []) []
+
+abbrev pub normalNumbersAt : List ℕ → ℕ → List ℤ
+normalNumbersAt s i = normalNumbersOf s (offset s (link s i))
 
 -- ---- what a vertex is
 -- all floats of the record at position i are finite and in range (rule 1.9)
@@ -58,13 +65,13 @@ pub record LastPoint (s : List ℕ) (j i : ℕ) : Type 0 where
 
 -- the grid numbers of the record at position i (rule 1.10)
 abbrev pub xAt : List ℕ → ℕ → ℤ
-xAt s i = roundEighths (firstNumber s (offset (link s i)))
+xAt s i = roundEighths (firstNumber s (offset s (link s i)))
 
 abbrev pub yAt : List ℕ → ℕ → ℤ
-yAt s i = roundEighths (secondNumber s (offset (link s i)))
+yAt s i = roundEighths (secondNumber s (offset s (link s i)))
 
 abbrev pub heightAt : List ℕ → ℕ → ℤ
-heightAt s i = roundEighths (thirdNumber s (offset (link s i)))
+heightAt s i = roundEighths (thirdNumber s (offset s (link s i)))
 
 -- the record at position i gives the vertex p (rules 1.6, 1.7)
 pub data HasVertex (s : List ℕ) : ℕ → GridPoint → Type 0 where
@@ -73,10 +80,10 @@ pub data HasVertex (s : List ℕ) : ℕ → GridPoint → Type 0 where
       HasVertex s i (point (xAt s i) (yAt s i) (heightAt s j))
 
 -- ---- the numbers
--- constructor by constructor, rules 4.1 to 4.11; 4.8 has two
+-- constructor by constructor, rules 4.1 to 4.9, 4.18, 4.10 and 4.11; 4.8 has two
 pub data DueAt (s : List ℕ) : Place → ℕ → Type 0 where
   length-wrong : lengthWrong s ≡ true → DueAt s header 1
-  area-factor : 8 ≤ length s → maxAreaFactor < areaFactor s → DueAt s header 2
+  area-factor : headerStart s + headerSize ≤ length s → maxAreaFactor < areaFactor s → DueAt s header 2
   link-over : (i : ℕ) → HasRecords s i → recordCount s < link s i → DueAt s (position i) 3
   met-again : (i j : ℕ) → i < j → HasRecords s j → link s i ≡ link s j → DueAt s (position j) 4
   too-many : HasRecords s (suc maxVertices) → DueAt s (position maxVertices) 5
@@ -85,5 +92,6 @@ pub data DueAt (s : List ℕ) : Place → ℕ → Type 0 where
   not-finite : (i : ℕ) (v : Float) → HasRecords s (suc i) → List·Memᴰ v (floatsAt s i) → finite v ≡ false → DueAt s (position i) 8
   tail-not-zero : (i : ℕ) → HasRecords s (suc i) → kindAt s i ≡ 2 → tailZeroAt s i ≡ false → DueAt s (position i) 8
   out-of-range : (i : ℕ) (v : Float) → HasRecords s (suc i) → List·Memᴰ v (floatsAt s i) → inRange v ≡ false → DueAt s (position i) 9
+  normal-out-of-range : (i : ℕ) (c : ℤ) → HasRecords s (suc i) → List·Memᴰ c (normalNumbersAt s i) → (OnGrid c → ⊥) → DueAt s (position i) 18
   too-few : (i : ℕ) → HasRecords s i → link s i ≡ 0 → i < minVertices → DueAt s rim 10
   vertex-repeated : (i j : ℕ) (p : GridPoint) → i < j → HasRecords s (suc j) → HasVertex s i p → HasVertex s j p → DueAt s rim 11

@@ -1,23 +1,18 @@
--- The reader's answer: the polygon, or the first number due of 1 to 11. Definitions only.
+-- The reader's answer: the polygon, or the first number due of 1 to 11 and 18. Definitions only.
 use Prim.Native.Nat.{ℕ, zero, suc}
 use mathlib.Core.Bool.{cond}
 use mathlib.Core.List.{List}
 use lib.Dec.{ltb}
 use Rattle.terms.specs.Limits.{minVertices, maxAreaFactor}
-use Rattle.polygon.specs.Polygon.{emptyPolygon, repeatedVertex}
+use Rattle.polygon.specs.Polygon.{emptyPolygon, firstDue, repeatedVertex}
 use Rattle.polygon.specs.declared.Polygon.{Polygon}
 use Rattle.reader.specs.File.{areaFactor, bendFactor, lengthWrong}
-use Rattle.reader.specs.Chain.{chainCode, vertexCount, verticesOf}
+use Rattle.reader.specs.Chain.{chainCode, vertexCount, verticesOf, normalsOf}
 use Rattle.reader.specs.declared.Status.{Status}
 use Rattle.reader.specs.declared.Status.the-variants.{Complete, Refused}
 use Rattle.reader.specs.declared.Reading.{Reading}
 
--- the first of two numbers that is due (rule 4.31)
-abbrev pub firstDue : ℕ → ℕ → ℕ
-firstDue zero k = k
-firstDue (suc j) k = suc j
-
--- the first number due of 1 to 11, 0 where none is (rule 4.31)
+-- the first number due of 1 to 11 and 18, 0 where none is (rule 4.31)
 unfoldable pub numberDue : List ℕ → ℕ
 numberDue s =
     cond (lengthWrong s) 1
@@ -27,9 +22,15 @@ numberDue s =
     (cond (repeatedVertex (verticesOf s (vertexCount s)) (vertexCount s)) 11
     0))))
 
--- the polygon of a file on which no number is due (rule 1.8)
+-- the polygon of a file on which no number is due (rules 1.8, 1.14)
 abbrev pub polygonOf : List ℕ → Polygon
-polygonOf s = record { n = vertexCount s; «area_factor» = areaFactor s; «bend_factor» = bendFactor s; vertices = verticesOf s (vertexCount s) }
+polygonOf s = record {
+  n = vertexCount s;
+  «area_factor» = areaFactor s;
+  «bend_factor» = bendFactor s;
+  vertices = verticesOf s (vertexCount s);
+  normals = normalsOf s (vertexCount s);
+}
 
 -- the number of each case of the answer (rule 5.2)
 abbrev pub statusNumber : Status → ℕ

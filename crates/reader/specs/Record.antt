@@ -1,5 +1,5 @@
--- One record: what it decodes to, and its vertex or the first number due on it. Definitions only.
-use Prim.Native.Nat.{ℕ, suc, zero}
+-- One record: what it decodes to, its vertex or the first number due on it, and its normal. Definitions only.
+use Prim.Native.Nat.{ℕ, suc, zero, _+_}
 use mathlib.Core.Bool.{Bool, true, false, cond}
 use mathlib.Core.List.{List, [], _∷_}
 use lib.IntN.{ℤ, pos}
@@ -9,7 +9,9 @@ use Rattle.lists.specs.Lists.{both}
 use Rattle.grid.specs.Number.{finite, inRange, roundEighths}
 use Rattle.grid.specs.Point.{point}
 use Rattle.grid.specs.declared.GridPoint.{GridPoint}
-use Rattle.reader.specs.File.{kind, firstNumber, secondNumber, thirdNumber, tailZero}
+use Rattle.polygon.specs.Normal.{normal, noNormal}
+use Rattle.polygon.specs.declared.normal.Normal.{Normal}
+use Rattle.reader.specs.File.{i16At, isEdition2, kind, firstNumber, secondNumber, thirdNumber, tailZero}
 use Rattle.reader.specs.declared.Height.{Height}
 use Rattle.reader.specs.declared.Height.the-variants.{Unknown, Known}
 use Rattle.reader.specs.declared.Record.{Record}
@@ -38,6 +40,10 @@ recordAt s i heightKnown =
     (cond (tailZero s i) (Level (firstNumber s i) (secondNumber s i)) (record-variants.Refused 8))
     (record-variants.Refused 7))
     (record-variants.Refused 6))
+
+-- the normal of the record that starts at i (rule 1.13); a record of edition 1 has none
+unfoldable pub normalIn : List ℕ → ℕ → Normal
+normalIn s i = cond (isEdition2 s) (normal (i16At s (i + 16)) (i16At s (i + 18)) (i16At s (i + 20))) noNormal
 
 -- all floats of a record pass a test
 abbrev pub everyNumber : (Float → Bool) → List Float → Bool

@@ -19,7 +19,7 @@ pub record RoundsTo (v : Float) (g : ℤ) : Type 0 where
 
 -- where the record at position i of the chain starts in the file (rule 1.3)
 abbrev pub recordStart : List ℕ → ℕ → ℕ
-recordStart s i = offset (link s i)
+recordStart s i = offset s (link s i)
 
 -- rules 1.6 and 1.7: p, at position i of the chain, has its x and y from its own record, and its height from the last point up to i
 pub record Rounded (s : List ℕ) (i : ℕ) (p : GridPoint) : Type 0 where

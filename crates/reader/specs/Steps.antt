@@ -8,12 +8,13 @@ use lib.ListN.{length, getD, replicate}
 use Rattle.lists.specs.Lists.{both}
 use Rattle.grid.specs.Point.{point, OnGrid}
 use Rattle.terms.specs.Limits.{maxVertices}
+use Rattle.polygon.specs.Normal.{noNormal}
 use Rattle.polygon.specs.Polygon.{origin}
 use Rattle.grid.specs.declared.GridNumber.{GridNumber}
 use Rattle.grid.specs.declared.GridNumber.the-variants.{Value, NotFinite, OutOfRange}
 use Rattle.reader.specs.File.{recordNumbers}
 use Rattle.reader.specs.Record.{heightOf}
-use Rattle.reader.specs.Chain.{link, metBefore, heightBefore, vertexAt, positionCode, chainCode, vertexCount, verticesOf}
+use Rattle.reader.specs.Chain.{link, metBefore, heightBefore, vertexAt, normalAt, positionCode, chainCode, vertexCount, verticesOf, normalsOf}
 use Rattle.reader.specs.declared.Chain.{Chain}
 use Rattle.reader.specs.declared.Progress.{Progress}
 use Rattle.reader.specs.declared.Vertex.{Vertex}
@@ -53,19 +54,20 @@ pub record Walking (s : List ℕ) (w : Progress) : Type 0 where
   pub on-grid : OnGrid (heightOf (w .height))
   pub within : w .n ≤ maxVertices
 
--- the walk after one position: stopped by the number due there, or past its vertex
+-- the walk after one position: stopped by the number due there, or past its vertex and its normal
 pub record Stepped (s : List ℕ) (w r : Progress) : Type 0 where
   pub number : r .code ≡ positionCode s (w .n)
   pub walking : r .code ≡ 0 → Walking s r
   pub next : r .code ≡ 0 → r .n ≡ w .n + 1
   pub vertex-is : r .code ≡ 0 → vertexAt s (w .n) ≡ At (r .vertex)
+  pub normal-is : r .code ≡ 0 → r .normal ≡ normalAt s (w .n)
 
 -- what the loop over the steps returns
 abbrev pub stoppedAt : ℕ → Chain
-stoppedAt k = record { code = k; n = 0; vertices = replicate maxVertices origin }
+stoppedAt k = record { code = k; n = 0; vertices = replicate maxVertices origin; normals = replicate maxVertices noNormal }
 
 abbrev pub walked : ℕ → ℕ → List ℕ → Chain
-walked zero n s = record { code = 0; n = n; vertices = verticesOf s n }
+walked zero n s = record { code = 0; n = n; vertices = verticesOf s n; normals = normalsOf s n }
 walked (suc k) n s = stoppedAt (suc k)
 
 abbrev pub chainOf : List ℕ → Chain

@@ -1,5 +1,6 @@
-// The rim reader: from the bytes of a rim file to its polygon, or the first number due of 1 to 11.
+// The rim reader: from the bytes of a rim file to its polygon, or the first number due of 1 to 11 and 18.
 mod bytes;
+mod edition;
 mod records;
 mod walk;
 
@@ -7,11 +8,18 @@ ghost use mathlib.Core.Path.{_≡_};
 ghost use Rattle.reader.specs.Reading.{refusal, readingOf, statusNumber, numberDue};
 use grid::GridPoint;
 use polygon::Polygon;
+use polygon::normal::Normal;
 
 // The most records of a file (rule 1.4). Marks go by record number, from 0, which names none.
 const MAX_RECORDS: usize = 256;
 
 const MARKS: usize = MAX_RECORDS + 1;
+
+// Where the header's four numbers start, and how many bytes a record has (rule 1.12).
+struct Layout {
+    pub header: usize,
+    pub record_size: usize,
+}
 
 // The coordinates of a point, in millimetres.
 struct Coordinates {
@@ -39,7 +47,7 @@ enum Vertex {
     Refused(u32),
 }
 
-// How far the walk along the chain has come, carried by value from position to position. The vertices are listed beside it: no step copies them.
+// How far the walk along the chain has come, carried by value from position to position. Vertices and normals are listed beside it: no step copies them.
 struct Progress {
     // The number that stops the walk, 0 while none does.
     pub code: u32,
@@ -47,18 +55,20 @@ struct Progress {
     pub met: [bool; MARKS],
     // The height that a level point takes here.
     pub height: Height,
-    // The vertex of the position before.
+    // The vertex of the position before, and its normal.
     pub vertex: GridPoint,
+    pub normal: Normal,
     // The positions behind, and the link that leads on.
     pub n: usize,
     pub link: usize,
 }
 
-// The chain followed to its end: its vertices, or a number and none.
+// The chain followed to its end: its vertices and their normals, or a number and none.
 struct Chain {
     pub code: u32,
     pub n: usize,
     pub vertices: [GridPoint; terms::MAX_VERTICES],
+    pub normals: [Normal; terms::MAX_VERTICES],
 }
 
 pub enum Status {
@@ -93,18 +103,19 @@ fn refused(code: u32) -> Reading
     }
 }
 
-// The polygon of a rim file, or the first number due of 1 to 11. Any bytes are taken.
+// The polygon of a rim file, or the first number due of 1 to 11 and 18. Any bytes are taken.
 pub fn read_polygon(file: &[u8]) -> Reading
     ensures { λ r. ⌜ (r ≡ readingOf (now (file .entry))) × (statusNumber (r .status) ≡ numberDue (now (file .entry))) ⌝ }
 {
-    if bytes::length_wrong(file) {
+    let layout = edition::layout(file);
+    if edition::length_wrong(file, layout) {
         return refused(codes::LENGTH);
     }
-    let area_factor = bytes::u16_at(file, 4);
+    let area_factor = bytes::u16_at(file, layout.header + 4);
     if terms::MAX_AREA_FACTOR < area_factor {
         return refused(codes::AREA_FACTOR);
     }
-    let chain = walk::follow_chain(file);
+    let chain = walk::follow_chain(file, layout);
     let code = chain.code;
     if code != 0 {
         return refused(code);
@@ -117,7 +128,8 @@ pub fn read_polygon(file: &[u8]) -> Reading
     if polygon::has_repeated_vertex(vertices, n) {
         return refused(codes::VERTEX_REPEATED);
     }
-    let bend_factor = bytes::u16_at(file, 6);
+    let normals = chain.normals;
+    let bend_factor = bytes::u16_at(file, layout.header + 6);
     Reading {
         status: Status::Complete,
         polygon: Polygon {
@@ -125,6 +137,7 @@ pub fn read_polygon(file: &[u8]) -> Reading
             area_factor,
             bend_factor,
             vertices,
+            normals,
         },
     }
 }

@@ -1,30 +1,35 @@
 // The walk along the chain of records.
 ghost use mathlib.Core.Path.{_≡_};
 ghost use mathlib.Core.Bool.{false};
-ghost use Rattle.reader.specs.File.{lengthWrong};
+ghost use Rattle.reader.specs.File.{layoutOf, lengthWrong};
 ghost use Rattle.reader.specs.Steps.{Walking, Stepped, chainOf, stoppedAt};
 use crate::Chain;
 use crate::Height;
+use crate::Layout;
 use crate::Progress;
 use crate::Vertex;
 use crate::bytes;
+use crate::edition;
 use crate::records;
 use grid::GridPoint;
+use polygon::normal::Normal;
 
 fn stopped(code: u32) -> Chain
     ensures { λ r. ⌜ r ≡ stoppedAt code ⌝ }
 {
     let vertices = [GridPoint { x: 0, y: 0, z: 0 }; terms::MAX_VERTICES];
+    let normals = [Normal { x: 0, y: 0, z: 0 }; terms::MAX_VERTICES];
     Chain {
         code,
         n: 0,
         vertices,
+        normals,
     }
 }
 
 // The walk before the first position: no record is met.
-fn start(file: &[u8]) -> Progress
-    requires { ⌜ lengthWrong (now file) ≡ false ⌝ }
+fn start(file: &[u8], layout: Layout) -> Progress
+    requires { ⌜ (layout ≡ layoutOf (now file)) × (lengthWrong (now file) ≡ false) ⌝ }
     ensures { λ r. ⌜ (Walking (now (file .entry)) r) × (r .n ≡ 0) ⌝ }
 {
     let met = [false; crate::MARKS];
@@ -33,8 +38,9 @@ fn start(file: &[u8]) -> Progress
         met,
         height: Height::Unknown,
         vertex: GridPoint { x: 0, y: 0, z: 0 },
+        normal: Normal { x: 0, y: 0, z: 0 },
         n: 0,
-        link: bytes::u16_at(file, 0) as usize,
+        link: bytes::u16_at(file, layout.header) as usize,
     }
 }
 
@@ -47,15 +53,15 @@ fn stop(walk: Progress, code: u32) -> Progress
 }
 
 // One position of the chain: the walk past its record, or stopped by the first number due there.
-fn step(file: &[u8], walk: Progress) -> Progress
-    requires { ⌜ (lengthWrong (now file) ≡ false) × (Walking (now file) walk) × (walk .link ≡ 0 → ⊥) ⌝ }
+fn step(file: &[u8], layout: Layout, walk: Progress) -> Progress
+    requires { ⌜ (layout ≡ layoutOf (now file)) × (lengthWrong (now file) ≡ false) × (Walking (now file) walk) × (walk .link ≡ 0 → ⊥) ⌝ }
     ensures { λ r. ⌜ Stepped (now (file .entry)) walk r ⌝ }
 {
     let link = walk.link;
     let n = walk.n;
     let mut met = walk.met;
     let height = walk.height;
-    let count = bytes::u16_at(file, 2) as usize;
+    let count = bytes::u16_at(file, layout.header + 2) as usize;
     if count < link {
         return stop(walk, codes::LINK);
     }
@@ -65,16 +71,21 @@ fn step(file: &[u8], walk: Progress) -> Progress
     if n == terms::MAX_VERTICES {
         return stop(walk, codes::TOO_MANY_VERTICES);
     }
-    let at = 16 * link - 8;
+    let at = layout.header + edition::HEADER_SIZE + layout.record_size * (link - 1);
     match records::vertex_at(file, at, height) {
         Vertex::Refused(code) => stop(walk, code),
         Vertex::At(vertex) => {
+            let normal = records::normal_at(file, layout, at);
+            if !normal.in_range() {
+                return stop(walk, codes::NORMAL);
+            }
             met[link] = true;
             Progress {
                 code: 0,
                 met,
                 height: Height::Known(vertex.z),
                 vertex,
+                normal,
                 n: n + 1,
                 link: bytes::u16_at(file, at) as usize,
             }
@@ -82,27 +93,31 @@ fn step(file: &[u8], walk: Progress) -> Progress
     }
 }
 
-// The vertices of the chain, or the first number due along it.
-pub fn follow_chain(file: &[u8]) -> Chain
-    requires { ⌜ lengthWrong (now file) ≡ false ⌝ }
+// The vertices of the chain and their normals, or the first number due along it.
+pub fn follow_chain(file: &[u8], layout: Layout) -> Chain
+    requires { ⌜ (layout ≡ layoutOf (now file)) × (lengthWrong (now file) ≡ false) ⌝ }
     ensures { λ r. ⌜ r ≡ chainOf (now (file .entry)) ⌝ }
 {
     let mut vertices = [GridPoint { x: 0, y: 0, z: 0 }; terms::MAX_VERTICES];
-    let mut walk = start(file);
+    let mut normals = [Normal { x: 0, y: 0, z: 0 }; terms::MAX_VERTICES];
+    let mut walk = start(file, layout);
     while walk.link != 0 {
         let n = walk.n;
-        walk = step(file, walk);
+        walk = step(file, layout, walk);
         let code = walk.code;
         if code != 0 {
             return stopped(code);
         }
         let vertex = walk.vertex;
         vertices[n] = vertex;
+        let normal = walk.normal;
+        normals[n] = normal;
     }
     let n = walk.n;
     Chain {
         code: 0,
         n,
         vertices,
+        normals,
     }
 }

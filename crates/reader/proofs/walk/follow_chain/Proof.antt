@@ -9,10 +9,10 @@ use Rattle.reader.proofs.walk.follow_chain.Statement.{statement}
 use Rattle.reader.proofs.walk.follow_chain.Tie as tie
 
 abbrev Inv-loop : tie.InvT-loop
-Inv-loop file vertices₀ walk₀ vertices walk = Following file vertices walk
+Inv-loop file layout vertices₀ normals₀ walk₀ vertices normals walk = Following file vertices normals walk
 
 abbrev μ-loop : tie.MeasureT-loop
-μ-loop file vertices₀ walk₀ vertices walk = suc maxVertices - walk .n
+μ-loop file layout vertices₀ normals₀ walk₀ vertices normals walk = suc maxVertices - walk .n
 
 start-requires : tie.Need-start-requires Inv-loop μ-loop
 start-requires c κs = c .before .pre
@@ -21,7 +21,7 @@ loop-holds : tie.Need-loop-holds Inv-loop μ-loop
 loop-holds c = following-start (c .start .ensures .0) (c .start .ensures .1)
 
 step-requires : tie.Need-step-requires Inv-loop μ-loop
-step-requires c κs = (c .before .before .before .before .before .pre, c .before .before .loop .inv .walking, c .if1 .taken)
+step-requires c κs = (c .before .before .before .before .before .pre .0, c .before .before .before .before .before .pre .1, c .before .before .loop .inv .walking, c .if1 .taken)
 
 stopped-requires : tie.Need-stopped-requires Inv-loop μ-loop
 stopped-requires c κs = search needs
@@ -37,14 +37,20 @@ mul-vertices c = let w = c .before .before .before .before .before .loop .inv .w
 array-set-from-vertices : tie.Need-array-set-from-vertices Inv-loop μ-loop
 array-set-from-vertices c = room (c .before .before .before .before .before .loop .inv) (c .before .before .before .if1 .taken) (c .before .before .step .ensures) (c .before .if2 .left)
 
+mul-normals : tie.Need-mul-normals Inv-loop μ-loop
+mul-normals c = let w = c .before .before .before .before .before .before .loop .inv .walking in record { fits = omega (arith, w .within) }
+
+array-set-from-normals : tie.Need-array-set-from-normals Inv-loop μ-loop
+array-set-from-normals c = room (c .before .before .before .before .before .before .loop .inv) (c .before .before .before .before .if1 .taken) (c .before .before .before .step .ensures) (c .before .before .if2 .left)
+
 loop-less : tie.Need-loop-less Inv-loop μ-loop
 loop-less c =
-    let at = c .before .before .before .before .before in
-    let e = c .before .before .step .ensures in
-    omega (arith, e .next (c .before .if2 .left), at .loop .inv .walking .within)
+    let at = c .before .before .before .before .before .before in
+    let e = c .before .before .before .step .ensures in
+    omega (arith, e .next (c .before .before .if2 .left), at .loop .inv .walking .within)
 
 loop-again : tie.Need-loop-again Inv-loop μ-loop
-loop-again c = following-next (c .before .before .before .before .before .loop .inv) (c .before .before .before .if1 .taken) (c .before .before .step .ensures) (c .before .if2 .left)
+loop-again c = following-next (c .before .before .before .before .before .before .loop .inv) (c .before .before .before .before .if1 .taken) (c .before .before .before .step .ensures) (c .before .before .if2 .left)
 
 returns-2 : tie.Need-returns-2 Inv-loop μ-loop
 returns-2 c = following-end (c .before .before .loop .inv) (c .if1 .left)
@@ -62,6 +68,8 @@ follow-chain-spec =
     returns
     mul-vertices
     array-set-from-vertices
+    mul-normals
+    array-set-from-normals
     loop-less
     loop-again
     returns-2)

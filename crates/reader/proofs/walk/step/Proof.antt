@@ -1,14 +1,26 @@
 -- `reader::walk::step` meets its contract. Assumes nothing.
 use borrow.Author.Needs.{needs}
 use native.Mathlib.Omega.{arith}
-use mathlib.Core.Path.{refl, sym, _∙_}
-use Rattle.reader.proofs.Lengths.{whole}
-use Rattle.reader.proofs.Walking.{positive, below-limit, stopped-by, link-due, repeated-due, too-many-due, record-stops, record-passes}
+use mathlib.Core.Path.{sym, _∙_}
+use Prim.Native.Nat.{_-_}
+use denote.Ref.{now}
+use Rattle.lists.proofs.Choice.{fails-via, holds-via}
+use Rattle.reader.proofs.Layouts.{bounds, header-as, number-as, records-size, start-as}
+use Rattle.reader.proofs.Lengths.{whole, record-held}
+use Rattle.reader.proofs.Walking.{positive, below-limit, stopped-by, link-due, repeated-due, too-many-due, record-stops, normal-stops, record-passes}
 use Rattle.reader.proofs.walk.step.Statement.{statement}
 use Rattle.reader.proofs.walk.step.Tie as tie
 
+add-u16-at : tie.Need-add-u16-at
+add-u16-at c =
+    let s = c .before .before .before in
+    record { fits = omega (arith, header-as _ (s .pre .0), bounds (now (s .args .file)) .header) }
+
 u16-at-requires : tie.Need-u16-at-requires
-u16-at-requires c κs = let w = whole _ (c .before .before .pre .0) in omega (arith, w .header)
+u16-at-requires c κs =
+    let s = c .before .before .before in
+    let w = whole _ (s .pre .1) in
+    omega (arith, header-as _ (s .pre .0), w .header)
 
 cast-count : tie.Need-cast-count
 cast-count c = search needs
@@ -18,11 +30,14 @@ stop-requires c κs = search needs
 
 returns : tie.Need-returns
 returns c =
-    let s = c .before .before .before .before .before in
-    stopped-by (s .pre .1) 3 (omega arith) (link-due (s .pre .1) (omega (arith, c .before .before .u16-at .ensures .0, c .before .if1 .taken))) (c .stop .ensures)
+    let s = c .before .before .before .before .before .before in
+    stopped-by (s .pre .2) 3 (omega arith) (link-due (s .pre .2) (omega (arith, c .before .before .u16-at .ensures .0 ∙ number-as _ (s .pre .0) 2, c .before .if1 .taken))) (c .stop .ensures)
 
 array-read-if2 : tie.Need-array-read-if2
-array-read-if2 c = let w = whole _ (c .before .before .before .before .pre .0) in omega (arith, w .few, c .before .u16-at .ensures .0, c .if1 .left)
+array-read-if2 c =
+    let s = c .before .before .before .before .before in
+    let w = whole _ (s .pre .1) in
+    omega (arith, w .few, c .before .u16-at .ensures .0 ∙ number-as _ (s .pre .0) 2, c .if1 .left)
 
 stop-requires-2 : tie.Need-stop-requires-2
 stop-requires-2 c κs = search needs
@@ -30,9 +45,9 @@ stop-requires-2 c κs = search needs
 returns-2 : tie.Need-returns-2
 returns-2 c =
     let past = c .before .before in
-    let s = past .before .before .before .before in
-    stopped-by (s .pre .1) 4 (omega arith)
-    (repeated-due (s .pre .1) (omega (arith, past .before .u16-at .ensures .0, past .if1 .left)) (whole _ (s .pre .0) .few) (c .before .if2 .taken))
+    let s = past .before .before .before .before .before in
+    stopped-by (s .pre .2) 4 (omega arith)
+    (repeated-due (s .pre .2) (omega (arith, past .before .u16-at .ensures .0 ∙ number-as _ (s .pre .0) 2, past .if1 .left)) (whole _ (s .pre .1) .few) (c .before .if2 .taken))
     (c .stop2 .ensures)
 
 stop-requires-3 : tie.Need-stop-requires-3
@@ -41,24 +56,38 @@ stop-requires-3 c κs = search needs
 returns-3 : tie.Need-returns-3
 returns-3 c =
     let past = c .before .before .before in
-    let s = past .before .before .before .before in
-    stopped-by (s .pre .1) 5 (omega arith)
-    (too-many-due (s .pre .1) (omega (arith, past .before .u16-at .ensures .0, past .if1 .left)) (whole _ (s .pre .0) .few) (c .before .before .if2 .left) (c .before .if3 .taken))
+    let s = past .before .before .before .before .before in
+    stopped-by (s .pre .2) 5 (omega arith)
+    (too-many-due (s .pre .2) (omega (arith, past .before .u16-at .ensures .0 ∙ number-as _ (s .pre .0) 2, past .if1 .left)) (whole _ (s .pre .1) .few) (c .before .before .if2 .left) (c .before .if3 .taken))
     (c .stop3 .ensures)
 
-mul-at : tie.Need-mul-at
-mul-at c = search needs
+add-at : tie.Need-add-at
+add-at c =
+    let s = c .before .before .before .before .before .before .before .before in
+    record { fits = omega (arith, header-as _ (s .pre .0), bounds (now (s .args .file)) .header) }
 
 sub-at : tie.Need-sub-at
 sub-at c = search needs
 
+mul-at : tie.Need-mul-at
+mul-at c =
+    let past = c .before .before .before .before in
+    let s = past .before .before .before .before .before in
+    let w = whole _ (s .pre .1) in
+    record { fits = omega (arith, records-size _ (s .pre .0) (s .args .walk .link - 1), w .few, past .before .u16-at .ensures .0 ∙ number-as _ (s .pre .0) 2, past .if1 .left) }
+
+add-at-2 : tie.Need-add-at-2
+add-at-2 c =
+    let past = c .before .before .before .before in
+    let s = past .before .before .before .before .before in
+    let w = whole _ (s .pre .1) in
+    record { fits = omega (arith, header-as _ (s .pre .0), bounds (now (s .args .file)) .header, records-size _ (s .pre .0) (s .args .walk .link - 1), w .few, past .before .u16-at .ensures .0 ∙ number-as _ (s .pre .0) 2, past .if1 .left) }
+
 vertex-at-requires : tie.Need-vertex-at-requires
 vertex-at-requires c κs =
-    let past = c .before .before in
-    let s = past .before .before .before .before in
-    let w = whole _ (s .pre .0) in
-    let p = positive _ (s .pre .2) in
-    (omega (arith, w .records, past .before .u16-at .ensures .0, past .if1 .left), s .pre .1 .on-grid)
+    let past = c .before .before .before .before in
+    let s = past .before .before .before .before .before in
+    (omega (arith, bounds (now (s .args .file)) .least, record-held _ (s .pre .0) (whole _ (s .pre .1)) (s .args .walk .link) (positive _ (s .pre .3)) (omega (arith, past .before .u16-at .ensures .0 ∙ number-as _ (s .pre .0) 2, past .if1 .left))), s .pre .2 .on-grid)
 
 enum-known-code : tie.Need-enum-known-code
 enum-known-code c = search needs
@@ -69,46 +98,71 @@ stop-requires-4 c κs = search needs
 enum-known-vertex : tie.Need-enum-known-vertex
 enum-known-vertex c = search needs
 
-array-write-met : tie.Need-array-write-met
-array-write-met c =
-    let past = c .before .before .before .before .before .before in
-    let w = whole _ (past .before .before .before .before .pre .0) in
-    omega (arith, w .few, past .before .u16-at .ensures .0, past .if1 .left)
+normal-at-requires : tie.Need-normal-at-requires
+normal-at-requires c κs =
+    let past = c .before .before .before .before .before .before .before .before in
+    let s = past .before .before .before .before .before in
+    (s .pre .0, record-held _ (s .pre .0) (whole _ (s .pre .1)) (s .args .walk .link) (positive _ (s .pre .3)) (omega (arith, past .before .u16-at .ensures .0 ∙ number-as _ (s .pre .0) 2, past .if1 .left)))
 
-add-t23 : tie.Need-add-t23
-add-t23 c = search needs
+in-range-requires : tie.Need-in-range-requires
+in-range-requires c κs = search needs
 
-u16-at-requires-2 : tie.Need-u16-at-requires-2
-u16-at-requires-2 c κs =
-    let past = c .before .before .before .before .before .before .before in
-    let s = past .before .before .before .before in
-    let w = whole _ (s .pre .0) in
-    let p = positive _ (s .pre .2) in
-    omega (arith, w .records, past .before .u16-at .ensures .0, past .if1 .left)
-
-cast-t25 : tie.Need-cast-t25
-cast-t25 c = search needs
+stop-requires-5 : tie.Need-stop-requires-5
+stop-requires-5 c κs = search needs
 
 returns-4 : tie.Need-returns-4
 returns-4 c =
-    let read = c .before .before .before .before in
-    let past = read .before .before .before in
-    let s = past .before .before .before .before in
-    record-stops (s .pre .1) (omega (arith, past .before .u16-at .ensures .0, past .if1 .left)) (whole _ (s .pre .0) .few) (read .before .before .if2 .left)
-    (below-limit (s .pre .1 .within) (read .before .if3 .left)) (s .pre .2) _ refl _ (sym (read .vertex-at .ensures) ∙ c .before .before .code .given .1) (c .stop4 .ensures)
+    let read = c .before .before .before .before .before .before .before in
+    let new = read .before .before .before in
+    let past = new .before .before in
+    let s = past .before .before .before .before .before in
+    normal-stops (s .pre .2) (omega (arith, past .before .u16-at .ensures .0 ∙ number-as _ (s .pre .0) 2, past .if1 .left)) (whole _ (s .pre .1) .few) (new .before .if2 .left)
+    (below-limit (s .pre .2 .within) (new .if3 .left)) _ (start-as _ (s .pre .0) (s .args .walk .link)) _ (sym (read .vertex-at .ensures) ∙ c .before .before .before .before .before .vertex .given .1)
+    _ (c .before .before .before .normal-at .ensures) (fails-via (c .before .before .in-range .ensures) (c .before .if4 .taken)) (c .stop5 .ensures)
+
+array-write-met : tie.Need-array-write-met
+array-write-met c =
+    let past = c .before .before .before .before .before .before .before .before .before .before .before in
+    let s = past .before .before .before .before .before in
+    let w = whole _ (s .pre .1) in
+    omega (arith, w .few, past .before .u16-at .ensures .0 ∙ number-as _ (s .pre .0) 2, past .if1 .left)
+
+add-t29 : tie.Need-add-t29
+add-t29 c = search needs
+
+u16-at-requires-2 : tie.Need-u16-at-requires-2
+u16-at-requires-2 c κs =
+    let past = c .before .before .before .before .before .before .before .before .before .before .before .before in
+    let s = past .before .before .before .before .before in
+    omega (arith, bounds (now (s .args .file)) .least, record-held _ (s .pre .0) (whole _ (s .pre .1)) (s .args .walk .link) (positive _ (s .pre .3)) (omega (arith, past .before .u16-at .ensures .0 ∙ number-as _ (s .pre .0) 2, past .if1 .left)))
+
+cast-t31 : tie.Need-cast-t31
+cast-t31 c = search needs
 
 returns-5 : tie.Need-returns-5
 returns-5 c =
-    let read = c .before .before .before .before .before in
-    let past = read .before .before .before in
-    let s = past .before .before .before .before in
-    record-passes (s .pre .1) (omega (arith, past .before .u16-at .ensures .0, past .if1 .left)) (whole _ (s .pre .0) .few) (read .before .before .if2 .left)
-    (below-limit (s .pre .1 .within) (read .before .if3 .left)) (s .pre .2) _ refl _ _ (sym (read .vertex-at .ensures) ∙ c .before .before .before .vertex .given .1) (c .u16-at2 .ensures .0)
+    let read = c .before .before .before .before in
+    let new = read .before .before .before in
+    let past = new .before .before in
+    let s = past .before .before .before .before .before in
+    record-stops (s .pre .2) (omega (arith, past .before .u16-at .ensures .0 ∙ number-as _ (s .pre .0) 2, past .if1 .left)) (whole _ (s .pre .1) .few) (new .before .if2 .left)
+    (below-limit (s .pre .2 .within) (new .if3 .left)) _ (start-as _ (s .pre .0) (s .args .walk .link)) _ (sym (read .vertex-at .ensures) ∙ c .before .before .code .given .1) (c .stop4 .ensures)
+
+returns-6 : tie.Need-returns-6
+returns-6 c =
+    let read = c .before .before .before .before .before .before .before .before in
+    let new = read .before .before .before in
+    let past = new .before .before in
+    let s = past .before .before .before .before .before in
+    record-passes (s .pre .2) (omega (arith, past .before .u16-at .ensures .0 ∙ number-as _ (s .pre .0) 2, past .if1 .left)) (whole _ (s .pre .1) .few) (new .before .if2 .left)
+    (below-limit (s .pre .2 .within) (new .if3 .left)) _ (start-as _ (s .pre .0) (s .args .walk .link)) _ (sym (read .vertex-at .ensures) ∙ c .before .before .before .before .before .before .vertex .given .1)
+    _ (c .before .before .before .before .normal-at .ensures) _ (holds-via (c .before .before .before .in-range .ensures) (c .before .before .if4 .left)) (c .u16-at2 .ensures .0)
 
 pub step-spec : {M : Type 1} → statement M
 step-spec =
     tie.close
     (tie.spec
+    add-u16-at
     u16-at-requires
     cast-count
     stop-requires
@@ -118,15 +172,21 @@ step-spec =
     returns-2
     stop-requires-3
     returns-3
-    mul-at
+    add-at
     sub-at
+    mul-at
+    add-at-2
     vertex-at-requires
     enum-known-code
     stop-requires-4
     enum-known-vertex
-    array-write-met
-    add-t23
-    u16-at-requires-2
-    cast-t25
+    normal-at-requires
+    in-range-requires
+    stop-requires-5
     returns-4
-    returns-5)
+    array-write-met
+    add-t29
+    u16-at-requires-2
+    cast-t31
+    returns-5
+    returns-6)

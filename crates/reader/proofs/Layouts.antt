@@ -1,0 +1,86 @@
+-- Where the numbers of a file stand, in each edition. Assumes nothing.
+use mathlib.Core.Path.{_≡_, refl, ap, _∙_}
+use mathlib.Core.Bool.{Bool, true, false}
+use mathlib.Core.List.{List}
+use Prim.Native.Nat.{ℕ, zero, suc, _+_, _-_, _*_, _≤_, _<_}
+use native.Mathlib.Omega.{arith}
+use native.Mathlib.Nat.{mul-le-mul-right, mul-le-mul-left}
+use lib.ListN.{length}
+use Rattle.lists.proofs.Choice.{yes, no, not-true-false, not-false-true}
+use Rattle.reader.specs.File.{u16At, isEdition2, markerSize, headerSize, recordSize1, recordSize2, layoutOf, headerStart, recordSize, recordCount, offset}
+use Rattle.reader.specs.declared.Layout.{Layout}
+
+module _ (s : List ℕ) where
+  -- the two editions
+  pub edition1 : isEdition2 s ≡ false → layoutOf s ≡ record { header = 0; «record_size» = recordSize1 }
+  unfolding layoutOf
+  edition1 e = no _ _ e
+
+  pub edition2 : isEdition2 s ≡ true → layoutOf s ≡ record { header = markerSize; «record_size» = recordSize2 }
+  unfolding layoutOf
+  edition2 e = yes _ _ e
+
+  pub size-1 : isEdition2 s ≡ false → recordSize s ≡ recordSize1
+  size-1 e = ap (λ (l : Layout). l .«record_size») (edition1 e)
+
+  pub size-2 : isEdition2 s ≡ true → recordSize s ≡ recordSize2
+  size-2 e = ap (λ (l : Layout). l .«record_size») (edition2 e)
+
+  -- the header starts within 2 bytes, and a record has 16 to 22
+  pub record Bounds : Type 0 where
+    pub header : headerStart s ≤ markerSize
+    pub least : recordSize1 ≤ recordSize s
+    pub most : recordSize s ≤ recordSize2
+
+  pub bounds : Bounds
+  bounds = by (isEdition2 s) refl
+    where
+      by : (b : Bool) → isEdition2 s ≡ b → Bounds
+      by true e =
+          let h : headerStart s ≡ markerSize = ap (λ (l : Layout). l .header) (edition2 e) in
+          let z = size-2 e in
+          record { header = omega arith; least = omega arith; most = omega arith }
+      by false e =
+          let h : headerStart s ≡ 0 = ap (λ (l : Layout). l .header) (edition1 e) in
+          let z = size-1 e in
+          record { header = omega arith; least = omega arith; most = omega arith }
+
+  -- a record ends where the next one starts
+  record-end : (k : ℕ) → 0 < k → offset s k + recordSize s ≡ headerStart s + headerSize + recordSize s * k
+  record-end zero h = absurd (omega arith)
+  record-end (suc k) h = let e : suc k - 1 ≡ k = omega arith in rw e (omega arith)
+
+  -- record k of R ends within a file that has all R
+  pub record-within : (k : ℕ) → 0 < k → k ≤ recordCount s → length s ≡ headerStart s + headerSize + recordSize s * recordCount s → offset s k + recordSize s ≤ length s
+  record-within k h l e = omega (arith, record-end k h, mul-le-mul-left (recordSize s) l)
+
+-- ---- the layout as it is handed on
+module _ (s : List ℕ) {l : Layout} (e : l ≡ layoutOf s) where
+  pub header-as : l .header ≡ headerStart s
+  header-as = ap (λ (m : Layout). m .header) e
+
+  size-as : l .«record_size» ≡ recordSize s
+  size-as = ap (λ (m : Layout). m .«record_size») e
+
+  -- the number that stands j bytes into the header
+  pub number-as : (j : ℕ) → u16At s (l .header + j) ≡ u16At s (headerStart s + j)
+  number-as j = ap (λ (h : ℕ). u16At s (h + j)) header-as
+
+  -- so many records take at most so many bytes
+  pub records-size : (k : ℕ) → l .«record_size» * k ≤ recordSize2 * k
+  records-size k = mul-le-mul-right k (omega (arith, size-as, bounds s .most))
+
+  pub start-as : (k : ℕ) → l .header + headerSize + l .«record_size» * (k - 1) ≡ offset s k
+  start-as k = ap (λ (m : Layout). m .header + headerSize + m .«record_size» * (k - 1)) e
+
+  pub length-as : {r : ℕ} → r ≡ recordCount s → l .header + headerSize + l .«record_size» * r ≡ headerStart s + headerSize + recordSize s * recordCount s
+  length-as {r} c =
+      ap (λ (m : Layout). m .header + headerSize + m .«record_size» * r) e
+      ∙ ap (λ (k : ℕ). headerStart s + headerSize + recordSize s * k) c
+
+  -- its record size tells the edition
+  pub size-edition1 : l .«record_size» ≡ recordSize1 → isEdition2 s ≡ false
+  size-edition1 d = not-true-false (isEdition2 s) (λ t. omega (arith, d, size-as, size-2 s t))
+
+  pub size-edition2 : (l .«record_size» ≡ recordSize1 → ⊥) → isEdition2 s ≡ true
+  size-edition2 d = not-false-true (isEdition2 s) (λ f. d (size-as ∙ size-1 s f))

@@ -1,0 +1,18 @@
+-- `reader::edition::layout` meets its contract. Assumes nothing.
+use mathlib.Core.Path.{sym, _∙_}
+use borrow.Author.Needs.{needs}
+use Rattle.reader.proofs.Layouts.{edition1, edition2}
+use Rattle.reader.proofs.edition.layout.Statement.{statement}
+use Rattle.reader.proofs.edition.layout.Tie as tie
+
+is-edition-2-requires : tie.Need-is-edition-2-requires
+is-edition-2-requires c κs = search needs
+
+returns : tie.Need-returns
+returns c = sym (edition2 _ (sym (c .before .is-edition-2 .ensures) ∙ c .if1 .taken))
+
+returns-2 : tie.Need-returns-2
+returns-2 c = sym (edition1 _ (sym (c .before .is-edition-2 .ensures) ∙ c .if1 .left))
+
+pub layout-spec : {M : Type 1} → statement M
+layout-spec = tie.close (tie.spec is-edition-2-requires returns returns-2)
