@@ -122,13 +122,9 @@ fn with_normal(p: Polygon, i: usize, normal: Normal) -> Polygon {
     if i < 64 {
         normals[i] = normal;
     }
-    Polygon {
-        n: p.n,
-        area_factor: p.area_factor,
-        bend_factor: p.bend_factor,
-        vertices: p.vertices,
-        normals,
-    }
+    let mut changed = p;
+    changed.normals = normals;
+    changed
 }
 
 // Rim file P of rule 6.1.

@@ -14,7 +14,7 @@ use Rattle.lists.proofs.Choice.{yes, no}
 use Rattle.grid.specs.Point.{point}
 use Rattle.grid.specs.Number.{finite, numerator, denominator, negative, inRange, roundEighths}
 use Rattle.polygon.specs.declared.Polygon.{Polygon}
-use Rattle.polygon.specs.Polygon.{origin, codeOf, repeatedVertex, verticesOnGrid, firstDue}
+use Rattle.polygon.specs.Polygon.{origin, codeOf, repeatedVertex, codeFrom, firstDue}
 use Rattle.reader.specs.File.{lengthWrong}
 use Rattle.reader.specs.Record.{recordAt, numbersCode, vertexOf}
 use Rattle.reader.specs.Chain.{link, metBefore, heightBefore, positionCode, codeFrom, endFrom}
@@ -64,7 +64,7 @@ unfolding upFrom everyFrom someFrom orientOf centreOf distanceOf isFace counts i
 candidates-P = refl
 
 code-P : codeOf rimP ≡ 0
-unfolding codeOf repeatedVertex verticesOnGrid everyFrom someFrom
+unfolding codeOf repeatedVertex codeFrom everyFrom someFrom
 code-P = refl
 
 twelve-P : cospherical rimP ≡ false
