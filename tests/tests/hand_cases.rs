@@ -6,10 +6,8 @@ use outside_tests::law::finder::{bend, bend_of};
 use outside_tests::law::grid::{grid_number, GridNumber};
 use outside_tests::law::{reader, tilings, BY_INTERVALS, BY_SETS};
 use outside_tests::library::under_test;
-use outside_tests::rims::{Point, RimFile};
+use outside_tests::rims::{Point, RimFile, P};
 use std::collections::HashMap;
-
-const P: [Point; 4] = [[0, 0, 0], [8, 0, 0], [8, 8, 6], [0, 8, 0]];
 
 const P_TRIPLES: [Triangle; 4] = [[0, 1, 2], [0, 1, 3], [0, 2, 3], [1, 2, 3]];
 

@@ -8,7 +8,7 @@
 
 use outside_tests::calls::{Calls, Job, Places, Tables};
 use outside_tests::fast::Fast;
-use outside_tests::jobs::random_job;
+use outside_tests::jobs::{job_of, random_job};
 use outside_tests::library::library;
 use outside_tests::random::Random;
 use outside_tests::rims::{RimFile, Shape};
@@ -73,18 +73,6 @@ fn check(cases: usize, mut call: impl FnMut(&dyn Calls, usize) -> Tables) {
     }
 }
 
-/// The job that the finder makes of a rim.
-fn job_of(file: &[u8], tables: &mut Tables) -> Job {
-    let found = Fast.find_candidates(file, tables);
-    assert_eq!(found.number, 0, "the rims of the benchmark are accepted");
-    Job {
-        n: Fast.read_rim(file).vertices,
-        candidates: tables.candidates.view()[..found.candidates].to_vec(),
-        weights: tables.weights.view()[..found.candidates].to_vec(),
-        rows: tables.rows.view()[..found.rows].to_vec(),
-    }
-}
-
 fn tables_of(job: &Job) -> Tables {
     Tables::of_job(job, 62, job.candidates.len())
 }
@@ -94,7 +82,7 @@ fn rims(shape: Shape, n: usize, random: &mut Random) {
     let mut tables = Tables::guarded(Places::ENOUGH);
     let mut file = || RimFile::plain(&shape.points(n, 1000, random), 1, 1).bytes();
     let files: Vec<Vec<u8>> = (0..count).map(|_| file()).collect();
-    let jobs: Vec<Job> = files.iter().map(|file| job_of(file, &mut tables)).collect();
+    let jobs: Vec<Job> = files.iter().map(|file| job_of(&Fast, file, &mut tables)).collect();
     let mut job_tables: Vec<Tables> = jobs.iter().map(tables_of).collect();
     check(count, |calls, case| {
         let mut left = Tables::guarded(Places::ENOUGH);
