@@ -1,6 +1,7 @@
 //! One call made by two, with the answers and every place of every table compared.
 
 use crate::calls::{Calls, FindAnswer, Job, PatchAnswer, Places, ReadAnswer, Tables};
+use crate::library::each;
 
 /// Bytes in hexadecimal.
 pub fn hexadecimal(bytes: &[u8]) -> String {
@@ -73,10 +74,10 @@ pub fn compare_job(
 }
 
 /// A file is refused with this number by every call of each, and no table changes.
-pub fn expect_number(by: [&dyn Calls; 2], file: &[u8], number: u32, case: &dyn std::fmt::Debug) {
+pub fn expect_number(file: &[u8], number: u32, case: &dyn std::fmt::Debug) {
     const PLACES: Places = Places { triangles: 6, candidates: 30, weights: 30, rows: 60, work: 30 };
     let before = Tables::guarded(PLACES);
-    for calls in by {
+    for calls in each() {
         let mut left = before.clone();
         let answer = calls.patch_rim(file, &mut left);
         let name = calls.name();

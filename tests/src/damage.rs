@@ -37,12 +37,12 @@ pub enum Damage {
 
 use Damage::*;
 
-const NAN: u32 = 0x7fc0_0000;
+pub const NAN: u32 = 0x7fc0_0000;
 const SIGNALLING_NAN: u32 = 0xff80_0001;
 const INFINITY: u32 = 0x7f80_0000;
 const MINUS_INFINITY: u32 = 0xff80_0000;
 const MINUS_ZERO: u32 = 0x8000_0000;
-const ABOVE_125: u32 = 0x42fa_0001;
+pub const ABOVE_125: u32 = 0x42fa_0001;
 const BELOW_MINUS_125: u32 = 0xc2fa_0001;
 const LARGEST: u32 = 0x7f7f_ffff;
 

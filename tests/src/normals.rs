@@ -17,19 +17,25 @@ pub fn along(points: &[Point], random: &mut Random) -> Vec<Normal> {
     (0..points.len()).map(&mut any).collect()
 }
 
-/// A normal for each vertex, none of them zeros.
+/// A normal for each of n vertices, none of them zeros.
 pub fn on_all(n: usize, random: &mut Random) -> Vec<Normal> {
-    (0..n)
-        .map(|_| [random.between(1, 1000), random.between(-1000, 1000), 7].map(|x| x as i16))
-        .collect()
+    let mut any = || match any(1000, random) {
+        NONE => [0, 0, 1],
+        normal => normal,
+    };
+    (0..n).map(|_| any()).collect()
+}
+
+/// Numbers of any size up to this one.
+fn any(size: i64, random: &mut Random) -> Normal {
+    [0; 3].map(|_| random.between(-size, size) as i16)
 }
 
 /// Small, large or at the ends of the range, or along the normal of a triangle on the edge.
 fn one(points: &[Point], k: usize, random: &mut Random) -> Normal {
-    let number = |random: &mut Random, size: i64| random.between(-size, size) as i16;
     match random.below(6) {
-        0 => [0; 3].map(|_| number(random, 2)),
-        1 => [0; 3].map(|_| number(random, 1000)),
+        0 => any(2, random),
+        1 => any(1000, random),
         2 => [0; 3].map(|_| random.one_of(&[-1000, -999, 0, 999, 1000])),
         3 => [0; 3].map(|_| random.one_of(&[-1000, 1000])),
         4 => on_triangle(points, k, random),

@@ -13,6 +13,9 @@ pub const P: [Point; 4] = [[0, 0, 0], [8, 0, 0], [8, 8, 6], [0, 8, 0]];
 /// Five corners of a cube, which are on one sphere.
 pub const FIVE_CORNERS: [Point; 5] = [[0, 0, 0], [40, 0, 0], [40, 40, 0], [0, 40, 0], [0, 0, 40]];
 
+/// A rim in one plane.
+pub const FLAT: [Point; 5] = [[0, 0, 0], [90, 0, 0], [120, 70, 0], [40, 110, 0], [-30, 60, 0]];
+
 /// A record of a rim file; the three floats as bits. Edition 1 leaves the normal out.
 #[derive(Clone, Copy, Debug)]
 pub struct Record {
@@ -92,11 +95,11 @@ impl RimFile {
         self
     }
 
-    /// In edition 2 with normals of any kind along the rim; edition 1 has none.
-    pub fn in_edition(self, edition: Edition, points: &[Point], random: &mut Random) -> RimFile {
+    /// The file of n vertices in an edition, with a normal on every edge in edition 2.
+    pub fn in_edition(self, edition: Edition, n: usize, random: &mut Random) -> RimFile {
         match edition {
             Edition::First => RimFile { edition, ..self },
-            Edition::Second => self.with_normals(&normals::along(points, random)),
+            Edition::Second => self.with_normals(&normals::on_all(n, random)),
         }
     }
 
@@ -126,7 +129,10 @@ impl RimFile {
         file.first = number(0);
         file.declared = records.len() as u16;
         file.records = records;
-        file.in_edition(random.one_of(&Edition::BOTH), points, random)
+        match random.one_of(&Edition::BOTH) {
+            Edition::First => file,
+            Edition::Second => file.with_normals(&normals::along(points, random)),
+        }
     }
 }
 

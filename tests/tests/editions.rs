@@ -1,20 +1,15 @@
 //! The edition of a file (rule 1.12): its first u16 alone tells it, and with it where all else is.
 
-use outside_tests::calls::{Calls, Places, ReadAnswer, Tables};
+use outside_tests::calls::{Places, ReadAnswer, Tables};
 use outside_tests::comparison::expect_number;
-use outside_tests::law::BY_SETS;
-use outside_tests::library::under_test;
+use outside_tests::library::each;
 use outside_tests::normals;
 use outside_tests::random::{seeds, Random};
 use outside_tests::rims::{lattice, Edition, Record, RimFile, Shape};
 
-fn both() -> [&'static dyn Calls; 2] {
-    [&BY_SETS, under_test()]
-}
-
 /// Each reads so many vertices.
 fn expect_vertices(file: &[u8], vertices: usize) {
-    for calls in both() {
+    for calls in each() {
         let expected = ReadAnswer { number: 0, vertices };
         assert_eq!(calls.read_rim(file), expected, "{}, {} bytes", calls.name(), file.len());
     }
@@ -40,7 +35,7 @@ fn shorter_than_a_header() {
         for filling in [0, 1, 0xff] {
             let mut bytes = vec![filling; length];
             bytes.iter_mut().take(2).for_each(|byte| *byte = 0xff);
-            expect_number(both(), &bytes, 1, &(length, filling));
+            expect_number(&bytes, 1, &(length, filling));
         }
     }
 }
@@ -50,9 +45,9 @@ fn shorter_than_a_header() {
 fn no_records() {
     let header = |first: u16| RimFile { first, ..second(0, 0) }.bytes();
     assert_eq!(header(0).len(), 10);
-    expect_number(both(), &header(0), 10, &"empty chain");
-    expect_number(both(), &header(1), 3, &"a first record that there is not");
-    expect_number(both(), &header(0xffff), 3, &"the mark twice");
+    expect_number(&header(0), 10, &"empty chain");
+    expect_number(&header(1), 3, &"a first record that there is not");
+    expect_number(&header(0xffff), 3, &"the mark twice");
 }
 
 /// A count is right with its own length alone; the lengths of edition 1 are wrong here.
@@ -67,7 +62,7 @@ fn wrong_lengths() {
             let mut wrong = file.clone();
             wrong.resize(length, 0);
             if length != right {
-                expect_number(both(), &wrong, 1, &(records, length));
+                expect_number(&wrong, 1, &(records, length));
             }
         }
     }
@@ -79,11 +74,11 @@ fn most_records() {
     assert_eq!(file.len(), 5642);
     expect_vertices(&file, 5);
     expect_vertices(&second(64, 256).bytes(), 64);
-    expect_number(both(), &second(5, 257).bytes(), 1, &257);
+    expect_number(&second(5, 257).bytes(), 1, &257);
     for declared in [258, 0x1ff, 0x100 + 0x8000, 0xffff] {
         let mut wrong = second(5, 256);
         wrong.declared = declared;
-        expect_number(both(), &wrong.bytes(), 1, &declared);
+        expect_number(&wrong.bytes(), 1, &declared);
     }
 }
 
@@ -108,13 +103,13 @@ fn lengths_of_both_editions() {
         set(&mut one, 4, twos as u16);
         set(&mut one, 6, 17);
         let area_factor = if twos > 16 { 2 } else { 0 };
-        for calls in both() {
+        for calls in each() {
             assert_eq!(calls.read_rim(&one).number, area_factor, "edition 1, {k}");
         }
         set(&mut one, 0, 0xffff);
-        expect_number(both(), &one, 2, &k);
+        expect_number(&one, 2, &k);
         set(&mut one, 6, 16);
-        expect_number(both(), &one, 3, &k);
+        expect_number(&one, 3, &k);
     }
 }
 
@@ -123,12 +118,12 @@ fn lengths_of_both_editions() {
 fn marks_that_are_none() {
     for first in [0xfffe, 0xff00, 0x00ff, 0x7fff, 0xfeff] {
         let mut file = RimFile { edition: Edition::First, first, ..second(5, 5) };
-        expect_number(both(), &file.bytes(), 3, &first);
+        expect_number(&file.bytes(), 3, &first);
         file.area_factor = 17;
-        expect_number(both(), &file.bytes(), 2, &first);
+        expect_number(&file.bytes(), 2, &first);
         let mut marked = second(5, 5).bytes();
         set(&mut marked, 0, first);
-        expect_number(both(), &marked, 1, &first);
+        expect_number(&marked, 1, &first);
     }
 }
 
@@ -139,13 +134,13 @@ fn header_of_edition_2() {
     file.bend_factor = 0xffff;
     for (area_factor, number) in [(0, 0), (16, 0), (17, 2), (0xffff, 2)] {
         file.area_factor = area_factor;
-        for calls in both() {
+        for calls in each() {
             assert_eq!(calls.read_rim(&file.bytes()).number, number, "{}", calls.name());
         }
     }
     for (first, number) in [(0, 10), (10, 3), (0xffff, 3)] {
         let file = RimFile { first, area_factor: 1, ..file.clone() };
-        expect_number(both(), &file.bytes(), number, &first);
+        expect_number(&file.bytes(), number, &first);
     }
     let bytes = file.bytes();
     assert_eq!(bytes[..10], [255, 255, 1, 0, 9, 0, 255, 255, 255, 255]);
@@ -168,7 +163,7 @@ fn zero_normals_change_nothing() {
             let file = RimFile::varied(&points, factors, &mut random);
             let two = file.clone().with_normals(&vec![normals::NONE; n]).bytes();
             let one = RimFile { edition: Edition::First, ..file }.bytes();
-            for calls in both() {
+            for calls in each() {
                 let mut left = [before.clone(), before.clone()];
                 let answers = [&one, &two].map(|file| calls.read_rim(file));
                 assert_eq!(answers[0], answers[1], "{}, {points:?}", calls.name());

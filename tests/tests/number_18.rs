@@ -1,17 +1,10 @@
 //! Number 18 (rule 4.18) and its place: after 9 of its record, before the link to the next one.
 
-use outside_tests::calls::Calls;
 use outside_tests::comparison::expect_number;
-use outside_tests::damage::Damage;
-use outside_tests::law::BY_SETS;
-use outside_tests::library::under_test;
+use outside_tests::damage::{Damage, ABOVE_125, NAN};
+use outside_tests::library::each;
 use outside_tests::random::Random;
 use outside_tests::rims::{Edition, Record, RimFile, Shape, FIVE_CORNERS};
-
-const NAN: u32 = 0x7fc0_0000;
-
-/// The float after 125.
-const ABOVE_125: u32 = 0x42fa_0001;
 
 fn undamaged(n: usize) -> RimFile {
     let points = Shape::NoisyCircle.points(n, 500, &mut Random::new(n as u64));
@@ -19,13 +12,12 @@ fn undamaged(n: usize) -> RimFile {
 }
 
 fn expect(file: &RimFile, number: u32, case: &dyn std::fmt::Debug) {
-    expect_number([&BY_SETS, under_test()], &file.bytes(), number, case);
+    expect_number(&file.bytes(), number, case);
 }
 
 fn is_taken(file: &RimFile) -> bool {
-    [&BY_SETS, under_test()]
-        .iter()
-        .all(|calls: &&dyn Calls| calls.read_rim(&file.bytes()).number == 0)
+    let bytes = file.bytes();
+    each().iter().all(|calls| calls.read_rim(&bytes).number == 0)
 }
 
 /// A file of six with 18 due at one position and something else wrong.
@@ -170,7 +162,7 @@ fn before_12() {
     let mut file = RimFile::plain(&FIVE_CORNERS, 1, 1).with_normals(&[[0, 0, 1]; 5]);
     for (normal, number) in [([0, 0, 1], 12), ([0, 0, 1001], 18)] {
         file.records[4].normal = normal;
-        for calls in [&BY_SETS as &dyn Calls, under_test()] {
+        for calls in each() {
             assert_eq!(calls.sizes(&file.bytes()), Err(number), "{}", calls.name());
         }
     }

@@ -4,21 +4,16 @@
 use outside_tests::calls::{Calls, Job, PatchAnswer, Places, Tables, Triangle};
 use outside_tests::fast::Fast;
 use outside_tests::jobs::job_of;
-use outside_tests::law::{BY_INTERVALS, BY_SETS};
-use outside_tests::library::under_test;
+use outside_tests::library::each;
 use outside_tests::normals::{self, Normal};
 use outside_tests::random::{seeds, Random};
-use outside_tests::rims::{Point, RimFile, Shape, P};
-
-fn all() -> [&'static dyn Calls; 3] {
-    [&BY_INTERVALS, &Fast, under_test()]
-}
+use outside_tests::rims::{Point, RimFile, Shape, FLAT, P};
 
 /// The job of a rim with these normals, the same by each.
 fn job_with(points: &[Point], factors: [u16; 2], normals: &[Normal]) -> Job {
     let file = RimFile::plain(points, factors[0], factors[1]).with_normals(normals).bytes();
     let mut tables = Tables::guarded(Places::ENOUGH);
-    let [one, two, three] = all().map(|calls| job_of(calls, &file, &mut tables));
+    let [one, two, three] = each().map(|calls| job_of(calls, &file, &mut tables));
     assert_eq!(one, two, "{points:?}, {normals:?}");
     assert_eq!(one, three, "{points:?}, {normals:?}");
     one
@@ -129,7 +124,7 @@ fn normals_change_the_patch() {
     ];
     for (normals, walk, total) in cases {
         let file = RimFile::plain(&P, 1, 1).with_normals(&normals).bytes();
-        for calls in [&BY_SETS, under_test()] as [&dyn Calls; 2] {
+        for calls in each() {
             let mut left = Tables::guarded(Places::BENCH);
             let answer = calls.patch_rim(&file, &mut left);
             assert_eq!(answer, PatchAnswer { number: 0, triangles: 2, total }, "{normals:?}");
@@ -218,7 +213,7 @@ fn records_in_any_order() {
             let expected = check(&points, [1, 1], &normals);
             let file = RimFile::varied(&points, [1, 1], &mut random).with_normals(&normals).bytes();
             let mut tables = Tables::guarded(Places::BENCH);
-            for calls in all() {
+            for calls in each() {
                 assert_eq!(job_of(calls, &file, &mut tables), expected, "{}", calls.name());
             }
         }
@@ -240,20 +235,22 @@ fn factors() {
     let largest =
         [[-1000, -1000, -1000], [1000, 1000, -1000], [1000, -1000, 1000], [-1000, 1000, 1000]];
     for sign in [1, -1] {
-        check(&largest, [16, 65_535], &vec![[sign; 3].map(|x| 1000 * x); 4]);
+        check(&largest, [16, 65_535], &[[1000 * sign; 3]; 4]);
     }
 }
 
-/// Three vertices have no candidate that a normal could weigh on.
+/// Three vertices, or a flat rim, have no candidate that a normal could weigh on.
 #[test]
-fn three_vertices() {
-    let points = [[0, 0, 0], [90, 0, 3], [40, 70, 0]];
-    for normals in [[[0, 0, 1]; 3], [[1000; 3]; 3], [[0; 3]; 3]] {
-        let file = RimFile::plain(&points, 16, 65_535).with_normals(&normals).bytes();
-        for calls in [&BY_SETS, under_test()] as [&dyn Calls; 2] {
-            let mut left = Tables::guarded(Places::BENCH);
-            assert_eq!(calls.patch_rim(&file, &mut left), PatchAnswer::NONE, "{}", calls.name());
-            assert_eq!(left.difference(&Tables::guarded(Places::BENCH)), None);
+fn rims_without_candidates() {
+    for points in [&FLAT[..3], &[[0, 0, 0], [90, 0, 3], [40, 70, 0]], &FLAT[..4], &FLAT[..]] {
+        for normal in [[0, 0, 1], [0, 0, -1], [1000; 3], normals::NONE] {
+            let normals = vec![normal; points.len()];
+            let file = RimFile::plain(points, 16, 65_535).with_normals(&normals).bytes();
+            for calls in each() {
+                let mut left = Tables::guarded(Places::BENCH);
+                assert_eq!(calls.patch_rim(&file, &mut left), PatchAnswer::NONE);
+                assert_eq!(left.difference(&Tables::guarded(Places::BENCH)), None);
+            }
         }
     }
 }

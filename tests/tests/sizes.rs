@@ -58,7 +58,7 @@ fn rims_of_64() {
     for shape in Shape::GENERAL {
         let points = shape.points(64, 1000, &mut random);
         for edition in Edition::BOTH {
-            let file = RimFile::plain(&points, 1, 1).in_edition(edition, &points, &mut random);
+            let file = RimFile::plain(&points, 1, 1).in_edition(edition, points.len(), &mut random);
             let file = file.bytes();
             if let Ok(sizes) = sizes(&file) {
                 assert_eq!(sizes.triangles, 62);
@@ -75,12 +75,12 @@ fn refused_files() {
         for damage in damage::all(edition) {
             let points = Shape::NoisyCircle.points(6, 500, &mut random);
             let file = RimFile::plain(&points, 1, 1);
-            let mut file = file.in_edition(edition, &points, &mut random);
+            let mut file = file.in_edition(edition, points.len(), &mut random);
             damage.apply(&mut file);
             assert_eq!(sizes(&file.bytes()), Err(damage.number()));
         }
         let cube = RimFile::plain(&FIVE_CORNERS, 1, 1);
-        let cube = cube.in_edition(edition, &FIVE_CORNERS, &mut random);
+        let cube = cube.in_edition(edition, 5, &mut random);
         assert_eq!(sizes(&cube.bytes()), Err(12));
     }
 }

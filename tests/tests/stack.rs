@@ -22,7 +22,7 @@ fn every_call() {
     for shape in [Shape::SkewLines, Shape::Saddle, Shape::Flat] {
         let points = shape.points(64, 1000, &mut random);
         for edition in Edition::BOTH {
-            let file = RimFile::plain(&points, 1, 1).in_edition(edition, &points, &mut random);
+            let file = RimFile::plain(&points, 1, 1).in_edition(edition, points.len(), &mut random);
             let file = file.bytes();
             let mut tables = Tables::guarded(Places::ENOUGH);
             on_a_small_stack(move || {

@@ -31,7 +31,8 @@ fn every_combination_of_lengths() {
     let five = Shape::NoisyCircle.points(5, 100, &mut random);
     let rims = [&P[..], &flat[..], &five[..]];
     for (points, edition) in rims.iter().flat_map(|&points| Edition::BOTH.map(|e| (points, e))) {
-        let file = RimFile::plain(points, 1, 1).in_edition(edition, points, &mut random).bytes();
+        let file =
+            RimFile::plain(points, 1, 1).in_edition(edition, points.len(), &mut random).bytes();
         let need = BY_SETS.sizes(&file).expect("accepted");
         for triangles in 0..=need.triangles + 1 {
             for candidates in 0..=need.candidates + 1 {
@@ -102,7 +103,7 @@ fn tables_of_the_finder() {
 fn fifth_vertex_with_short_tables() {
     let cube = RimFile::plain(&FIVE_CORNERS, 1, 1);
     for (length, edition) in (0..=10).flat_map(|length| Edition::BOTH.map(|e| (length, e))) {
-        let cube = cube.clone().in_edition(edition, &FIVE_CORNERS, &mut Random::new(length as u64));
+        let cube = cube.clone().in_edition(edition, 5, &mut Random::new(length as u64));
         let places = Places {
             triangles: length % 4,
             candidates: length,

@@ -50,7 +50,7 @@ impl Weights {
         Weights { area_factor, bend_factor, last: polygon.n as u8 - 1, outside }
     }
 
-    /// The edges of a triangle, each with the vertex that it starts at where it is a rim edge.
+    /// The area weight of a triangle, and the bend weights at those of its edges that are on the rim.
     pub fn own(&self, [a, b, c]: Triangle, normal: &Normal) -> u32 {
         let bend = |on_rim: bool, start: u8| {
             let outside = &self.outside[start as usize];
