@@ -2,8 +2,11 @@
 //! candidate, by hand and by a second formula.
 
 use outside_tests::calls::{Calls, Job, PatchAnswer, Places, Tables, Triangle};
-use outside_tests::fast::Fast;
+use outside_tests::fast::weights::Weights;
+use outside_tests::fast::{self, Fast};
 use outside_tests::jobs::job_of;
+use outside_tests::law::finder::own_weight;
+use outside_tests::law::{self, reader::Rim};
 use outside_tests::library::each;
 use outside_tests::normals::{self, Normal};
 use outside_tests::random::{seeds, Random};
@@ -88,7 +91,8 @@ fn rim(n: usize, random: &mut Random) -> Vec<Point> {
     }
 }
 
-/// Candidates 012, 013, 023, 123 with rim edges 0 and 1, 0 and 3, 2 and 3, 1 and 2.
+/// Candidates 012, 013, 023, 123 with rim edges 0 and 1, 0 and 3, 2 and 3, 1 and 2: a normal on any
+/// of the edges.
 #[test]
 fn rim_file_p_by_hand() {
     let plain = [80, 64, 80, 93];
@@ -100,16 +104,13 @@ fn rim_file_p_by_hand() {
     ];
     let edges = [[0, 1], [0, 3], [2, 3], [1, 2]];
     for (normal, bends) in bends {
-        let with = |on: &dyn Fn(usize) -> bool| {
+        for some in 0..16 {
+            let on = |edge: usize| some >> edge & 1 == 1;
             let normals = [0, 1, 2, 3].map(|edge| if on(edge) { normal } else { normals::NONE });
             let count = |t: usize| edges[t].iter().filter(|&&edge| on(edge)).count() as u32;
-            let expected = [0, 1, 2, 3].map(|t| plain[t] + count(t) * bends[t]);
             let job = job_with(&P, [1, 1], &normals);
-            assert_eq!(job.weights, expected, "{normals:?}");
+            assert_eq!(job.weights, [0, 1, 2, 3].map(|t| plain[t] + count(t) * bends[t]));
             assert_eq!(job.rows, [[1, 3, 312], [2, 0, 360]]);
-        };
-        for edges in 0..16 {
-            with(&|edge| edges >> edge & 1 == 1);
         }
     }
 }
@@ -236,6 +237,31 @@ fn factors() {
         [[-1000, -1000, -1000], [1000, 1000, -1000], [1000, -1000, 1000], [-1000, 1000, 1000]];
     for sign in [1, -1] {
         check(&largest, [16, 65_535], &[[1000 * sign; 3]; 4]);
+    }
+}
+
+/// With three vertices all three edges are on the rim. No call weighs such a triangle, so the
+/// references are asked themselves.
+#[test]
+fn three_rim_edges() {
+    let points = [[0, 0, 0], [8, 0, 0], [0, 8, 0]];
+    let normals = [([0, 0, 1], 0), ([0, 3, 4], 200), ([5, 0, 0], 1000), ([0, 0, -7], 2000)];
+    for [i, j, k] in [[0, 1, 2], [1, 2, 3], [3, 0, 1], [2, 3, 0], [0, 0, 3]] {
+        let surfaces = [i, j, k].map(|normal| normals[normal].0);
+        let expected = 2 * 64 + 3 * [i, j, k].iter().map(|&normal| normals[normal].1).sum::<u64>();
+        let rim = Rim {
+            area_factor: 2,
+            bend_factor: 3,
+            points: points.to_vec(),
+            surfaces: surfaces.map(Some).to_vec(),
+        };
+        assert_eq!(own_weight(&rim, [0, 1, 2], [0, 0, 64]), expected);
+        let file =
+            RimFile::plain(&points, 2, 3).with_normals(&surfaces.map(|n| n.map(|x| x as i16)));
+        let polygon = fast::reader::read(&file.bytes()).expect("accepted");
+        let normal = fast::weights::Normal::of(&polygon, [0, 1, 2]);
+        assert_eq!(Weights::new(&polygon).own([0, 1, 2], &normal) as u64, expected);
+        assert_eq!(law::reader::read(&file.bytes()), Ok(rim));
     }
 }
 

@@ -1,10 +1,10 @@
 //! The library's own method in plain Rust made for speed, to measure the library against.
 
 mod finder;
-mod reader;
+pub mod reader;
 mod tiler;
 mod vectors;
-mod weights;
+pub mod weights;
 
 use crate::calls::{Calls, FindAnswer, PatchAnswer, Places, ReadAnswer, Tables};
 use finder::Faces;

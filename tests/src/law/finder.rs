@@ -148,7 +148,7 @@ fn has_rim_edge(t: Triangle, i: usize, n: usize) -> bool {
 }
 
 /// Rule 2.15: the area weight, and a bend weight for each rim edge that has a surface outside.
-fn own_weight(rim: &Rim, t: Triangle, normal: Point) -> u64 {
+pub fn own_weight(rim: &Rim, t: Triangle, normal: Point) -> u64 {
     let mut weight = rim.area_factor * whole_length(normal);
     for (i, surface) in rim.surfaces.iter().enumerate() {
         if let Some(outside) = surface {
