@@ -7,8 +7,9 @@ pub struct Polygon {
     pub area_factor: u32,
     pub bend_factor: u32,
     pub vertices: [Vector; 64],
-    /// The normals outside the edges that start at the vertices; zeros where there is no surface.
-    pub outside: [Vector; 64],
+    /// The normals outside the edges that start at the vertices, zeros where there is no surface.
+    /// Edition 1 has no list.
+    pub outside: Vec<Vector>,
 }
 
 /// Where the parts of a file stand, by its edition.
@@ -104,7 +105,7 @@ fn walk(file: &[u8], layout: Layout, records: usize, polygon: &mut Polygon) -> R
         let at = layout.records() + layout.record * (link - 1);
         polygon.vertices[polygon.n] = vertex(file, at, &mut height)?;
         if layout.has_normals() {
-            polygon.outside[polygon.n] = normal(file, at + NORMAL)?;
+            polygon.outside.push(normal(file, at + NORMAL)?);
         }
         polygon.n += 1;
         link = u16_at(file, at);
@@ -126,8 +127,8 @@ pub fn read(file: &[u8]) -> Result<Polygon, u32> {
         return Err(2);
     }
     let bend_factor = u16_at(file, layout.header + 6) as u32;
-    let none = [[0; 3]; 64];
-    let mut polygon = Polygon { n: 0, area_factor, bend_factor, vertices: none, outside: none };
+    let vertices = [[0; 3]; 64];
+    let mut polygon = Polygon { n: 0, area_factor, bend_factor, vertices, outside: Vec::new() };
     walk(file, layout, records, &mut polygon)?;
     if polygon.n < 3 {
         return Err(10);
