@@ -186,33 +186,36 @@ fn random_bytes() {
     }
 }
 
-/// Records that are wrong now and then, linked at random or one after the other.
+/// Record k of so many: linked to the next as a rule, and wrong now and then.
+fn random_record(k: usize, count: usize, random: &mut Random) -> Record {
+    let rarely = 8 + 8 * count;
+    if random.once_in(rarely) {
+        return Record::anything(random);
+    }
+    let next = match random.below(rarely) {
+        0 => random.below(count + 2) as u16,
+        _ => (k as u16 + 2) % (count as u16 + 1),
+    };
+    let kind = if random.once_in(rarely) { random.below(4) as u16 } else { 1 };
+    let value = |random: &mut Random| match random.below(3 * rarely) {
+        0 => random.next_u64() as u32,
+        1 => random.one_of(&[f32::NAN, f32::INFINITY, 126.0, -125.1]).to_bits(),
+        _ => (random.between(-2000, 2000) as f32 / 16.0).to_bits(),
+    };
+    let bits = [0; 3].map(|_| value(random));
+    let normal = match random.below(rarely) {
+        0 => [0; 3].map(|_| random.between(-1002, 1002) as i16),
+        1 => [0, random.next_u64() as i16, 0],
+        _ => normals::NONE,
+    };
+    Record { next, kind, bits, normal }
+}
+
+/// A file whose header is right for its length.
 fn random_records(random: &mut Random) -> RimFile {
     let long = random.once_in(10);
     let count = if long { random.between(64, 80) } else { random.between(0, 8) } as usize;
-    let rarely = 8 + 8 * count;
-    let record = |k: usize, random: &mut Random| {
-        if random.once_in(rarely) {
-            return Record::anything(random);
-        }
-        let next = match random.below(rarely) {
-            0 => random.below(count + 2) as u16,
-            _ => (k as u16 + 2) % (count as u16 + 1),
-        };
-        let kind = if random.once_in(rarely) { random.below(4) as u16 } else { 1 };
-        let value = |random: &mut Random| match random.below(3 * rarely) {
-            0 => random.next_u64() as u32,
-            1 => random.one_of(&[f32::NAN, f32::INFINITY, 126.0, -125.1]).to_bits(),
-            _ => (random.between(-2000, 2000) as f32 / 16.0).to_bits(),
-        };
-        let normal = match random.below(rarely) {
-            0 => [0; 3].map(|_| random.between(-1002, 1002) as i16),
-            1 => [0, random.next_u64() as i16, 0],
-            _ => normals::NONE,
-        };
-        Record { next, kind, bits: [0; 3].map(|_| value(random)), normal }
-    };
-    let mut records: Vec<Record> = (0..count).map(|k| record(k, random)).collect();
+    let mut records: Vec<Record> = (0..count).map(|k| random_record(k, count, random)).collect();
     if count > 1 && random.once_in(20) {
         let from = records[0].bits;
         records[count - 1].bits = from;
