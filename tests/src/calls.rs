@@ -201,18 +201,6 @@ pub trait Calls {
     /// The reader and the finder; the triangle and work tables are not lent.
     fn find_candidates(&self, file: &[u8], tables: &mut Tables) -> FindAnswer;
 
-    /// The places that the tables of a file need, or the number due of 1 to 12.
-    fn sizes(&self, file: &[u8]) -> Result<Places, u32> {
-        let found = self.find_candidates(file, &mut Tables::guarded(Places::ENOUGH));
-        if found.number != 0 {
-            return Err(found.number);
-        }
-        Ok(Places {
-            triangles: self.read_rim(file).vertices - 2,
-            candidates: found.candidates,
-            weights: found.candidates,
-            rows: found.rows,
-            work: found.candidates,
-        })
-    }
+    /// The places that the tables of a file need, or the number due of 1 to 12 and 18.
+    fn sizes(&self, file: &[u8]) -> Result<Places, u32>;
 }

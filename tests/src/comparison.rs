@@ -1,6 +1,7 @@
 //! One call made by two, with the answers and every place of every table compared.
 
-use crate::calls::{Calls, FindAnswer, Job, PatchAnswer, Tables};
+use crate::calls::{Calls, FindAnswer, Job, PatchAnswer, Places, ReadAnswer, Tables};
+use crate::library::each;
 
 /// Bytes in hexadecimal.
 pub fn hexadecimal(bytes: &[u8]) -> String {
@@ -70,4 +71,21 @@ pub fn compare_job(
     let answers = [expected.patch_job(job.n, &mut left[0]), tested.patch_job(job.n, &mut left[1])];
     same([expected, tested], answers, [&left[0], &left[1]], &case);
     answers[0]
+}
+
+/// A file is refused with this number by every call of each, and no table changes.
+pub fn expect_number(file: &[u8], number: u32, case: &dyn std::fmt::Debug) {
+    const PLACES: Places = Places { triangles: 6, candidates: 30, weights: 30, rows: 60, work: 30 };
+    let before = Tables::guarded(PLACES);
+    for calls in each() {
+        let mut left = before.clone();
+        let answer = calls.patch_rim(file, &mut left);
+        let name = calls.name();
+        assert_eq!(answer, PatchAnswer::refused(number), "{name}, {case:?}");
+        let found = calls.find_candidates(file, &mut left);
+        assert_eq!(found, FindAnswer { number, candidates: 0, rows: 0 }, "{name}, {case:?}");
+        assert_eq!(left.difference(&before), None, "{name}, {case:?}");
+        assert_eq!(calls.read_rim(file), ReadAnswer { number, vertices: 0 }, "{name}, {case:?}");
+        assert_eq!(calls.sizes(file), Err(number), "{name}, {case:?}");
+    }
 }

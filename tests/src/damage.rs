@@ -1,6 +1,7 @@
-//! Damage to a rim file, and the number due for it (rules 4.1 to 4.11).
+//! Damage to a rim file, and the number due for it (rules 4.1 to 4.11 and 4.18).
 
-use crate::rims::{Record, RimFile};
+use crate::normals;
+use crate::rims::{Edition, Record, RimFile};
 
 /// One thing wrong with a file. Chain positions count from 0; the records of the undamaged file
 /// stand in chain order, so position p is record p + 1.
@@ -26,6 +27,8 @@ pub enum Damage {
     Tail(usize, u32),
     /// One of the three numbers has these bits, with 8v out of range.
     OutOfRange(usize, usize, u32),
+    /// One of the three numbers of a normal is this.
+    Normal(usize, usize, i16),
     /// The chain ends after this many records.
     TooFew(usize),
     /// The second position has the numbers of the first.
@@ -34,17 +37,25 @@ pub enum Damage {
 
 use Damage::*;
 
-const NAN: u32 = 0x7fc0_0000;
+pub const NAN: u32 = 0x7fc0_0000;
 const SIGNALLING_NAN: u32 = 0xff80_0001;
 const INFINITY: u32 = 0x7f80_0000;
 const MINUS_INFINITY: u32 = 0xff80_0000;
 const MINUS_ZERO: u32 = 0x8000_0000;
-const ABOVE_125: u32 = 0x42fa_0001;
+pub const ABOVE_125: u32 = 0x42fa_0001;
 const BELOW_MINUS_125: u32 = 0xc2fa_0001;
 const LARGEST: u32 = 0x7f7f_ffff;
 
-/// Each number 1 to 11 in several ways, for a chain of at least 6 records.
-pub const ALL: [Damage; 41] = [
+/// Each number of a file in several ways, for a chain of at least 6 records.
+pub fn all(edition: Edition) -> Vec<Damage> {
+    match edition {
+        Edition::First => EITHER.to_vec(),
+        Edition::Second => [&EITHER[..], &NORMALS[..]].concat(),
+    }
+}
+
+/// 1 to 11, in files of either edition.
+const EITHER: [Damage; 41] = [
     Length,
     Records257,
     AreaFactor(17),
@@ -88,6 +99,19 @@ pub const ALL: [Damage; 41] = [
     SamePoint(1, 4),
 ];
 
+/// 18, in files of edition 2.
+const NORMALS: [Damage; 9] = [
+    Normal(0, 0, 1001),
+    Normal(0, 2, i16::MIN),
+    Normal(1, 1, -1001),
+    Normal(2, 0, i16::MAX),
+    Normal(3, 2, 1001),
+    Normal(3, 0, -1001),
+    Normal(4, 1, 1024),
+    Normal(5, 0, -1001),
+    Normal(5, 2, 1001),
+];
+
 impl Damage {
     pub fn number(self) -> u32 {
         match self {
@@ -100,6 +124,7 @@ impl Damage {
             NoHeight => 7,
             NotFinite(..) | Tail(..) => 8,
             OutOfRange(..) => 9,
+            Normal(..) => 18,
             TooFew(_) => 10,
             SamePoint(..) => 11,
         }
@@ -112,6 +137,7 @@ impl Damage {
             Length | Records257 | AreaFactor(_) => (0, 0, self.number()),
             Link(p, _) | Repeat(p, _) | Kind(p, _) => (1, p, self.number()),
             NotFinite(p, ..) | Tail(p, _) | OutOfRange(p, ..) => (1, p, self.number()),
+            Normal(p, ..) => (1, p, self.number()),
             NoHeight => (1, 0, self.number()),
             TooMany => (1, 64, self.number()),
             TooFew(p) => (1, p, 0),
@@ -134,7 +160,7 @@ impl Damage {
         touched[0].iter().any(|field| touched[1].contains(field))
     }
 
-    /// The fields written: the header's, then for each record its link in, kind and numbers.
+    /// The fields written: the header's, then for each record its link in, kind, numbers, normal.
     fn touched(self) -> Vec<(usize, usize)> {
         const HEADER: usize = usize::MAX;
         match self {
@@ -145,6 +171,7 @@ impl Damage {
             Kind(p, _) => vec![(p, 1)],
             NoHeight => vec![(0, 1), (0, 4)],
             NotFinite(p, k, _) | OutOfRange(p, k, _) => vec![(p, 2 + k)],
+            Normal(p, k, _) => vec![(p, 5 + k)],
             Tail(p, _) => vec![(p, 1), (p, 4)],
             SamePoint(p, q) => [p, q].iter().flat_map(|&p| (1..5).map(move |k| (p, k))).collect(),
         }
@@ -163,7 +190,7 @@ impl Damage {
         file.records[last - 1].next = last as u16 + 1;
         for k in last..66 {
             let bits = [k as f32, -(k as f32), 1.0].map(f32::to_bits);
-            file.records.push(Record { next: k as u16 + 2, kind: 1, bits });
+            file.records.push(Record { next: k as u16 + 2, kind: 1, bits, normal: normals::NONE });
         }
         file.records[65].next = 0;
         file.declared = file.records.len() as u16;
@@ -189,6 +216,7 @@ impl Damage {
                 file.records[0].bits[2] = 0;
             }
             NotFinite(p, k, bits) | OutOfRange(p, k, bits) => file.records[p].bits[k] = bits,
+            Normal(p, k, number) => file.records[p].normal[k] = number,
             Tail(p, bits) => {
                 file.records[p].kind = 2;
                 file.records[p].bits[2] = bits;

@@ -1,6 +1,6 @@
 //! Direct jobs.
 
-use crate::calls::{Job, Row, Triangle};
+use crate::calls::{Calls, Job, Row, Tables, Triangle};
 use crate::law::finder::hangs_on;
 use crate::random::Random;
 use std::collections::HashMap;
@@ -10,6 +10,18 @@ pub fn all_triples(n: usize) -> Vec<Triangle> {
     let n = n as u8;
     let pairs = (0..n).flat_map(move |a| (a + 1..n).map(move |b| (a, b)));
     pairs.flat_map(move |(a, b)| (b + 1..n).map(move |c| [a, b, c])).collect()
+}
+
+/// The job that the finder makes of a rim, which it accepts, in tables that are long enough.
+pub fn job_of(calls: &dyn Calls, file: &[u8], tables: &mut Tables) -> Job {
+    let found = calls.find_candidates(file, tables);
+    assert_eq!(found.number, 0, "{}", calls.name());
+    Job {
+        n: calls.read_rim(file).vertices,
+        candidates: tables.candidates.view()[..found.candidates].to_vec(),
+        weights: tables.weights.view()[..found.candidates].to_vec(),
+        rows: tables.rows.view()[..found.rows].to_vec(),
+    }
 }
 
 /// Every hanging pair (outer, inner) in order, with weight 0.

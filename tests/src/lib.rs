@@ -14,5 +14,6 @@ pub mod interval;
 pub mod jobs;
 pub mod law;
 pub mod library;
+pub mod normals;
 pub mod random;
 pub mod rims;

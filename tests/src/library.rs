@@ -2,6 +2,7 @@
 
 use crate::calls::Calls;
 use crate::fast::Fast;
+use crate::law::BY_SETS;
 
 #[cfg(feature = "library")]
 mod linked {
@@ -86,4 +87,9 @@ pub fn library() -> Option<&'static dyn Calls> {
 /// What the tests judge: the library, and the fast reference where it is not linked.
 pub fn under_test() -> &'static dyn Calls {
     library().unwrap_or(&Fast)
+}
+
+/// The plain search, the fast reference and what is under test.
+pub fn each() -> [&'static dyn Calls; 3] {
+    [&BY_SETS, &Fast, under_test()]
 }

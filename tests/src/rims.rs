@@ -1,22 +1,45 @@
 //! Rim files and polygons of several shapes.
 
+use crate::normals::{self, Normal};
 use crate::random::Random;
 use std::f64::consts::TAU;
 
 /// A grid point.
 pub type Point = [i64; 3];
 
-/// A record of a rim file; the three floats as bits.
+/// Rim file P (rule 6.1).
+pub const P: [Point; 4] = [[0, 0, 0], [8, 0, 0], [8, 8, 6], [0, 8, 0]];
+
+/// Five corners of a cube, which are on one sphere.
+pub const FIVE_CORNERS: [Point; 5] = [[0, 0, 0], [40, 0, 0], [40, 40, 0], [0, 40, 0], [0, 0, 40]];
+
+/// A rim in one plane.
+pub const FLAT: [Point; 5] = [[0, 0, 0], [90, 0, 0], [120, 70, 0], [40, 110, 0], [-30, 60, 0]];
+
+/// A record of a rim file; the three floats as bits. Edition 1 leaves the normal out.
 #[derive(Clone, Copy, Debug)]
 pub struct Record {
     pub next: u16,
     pub kind: u16,
     pub bits: [u32; 3],
+    pub normal: Normal,
+}
+
+/// The editions of the rim file.
+#[derive(Clone, Copy, Debug, PartialEq, Eq)]
+pub enum Edition {
+    First,
+    Second,
+}
+
+impl Edition {
+    pub const BOTH: [Edition; 2] = [Edition::First, Edition::Second];
 }
 
 /// A rim file before it is written. `declared` is the record count in the header.
 #[derive(Clone, Debug)]
 pub struct RimFile {
+    pub edition: Edition,
     pub first: u16,
     pub declared: u16,
     pub area_factor: u16,
@@ -26,25 +49,32 @@ pub struct RimFile {
 
 impl RimFile {
     pub fn bytes(&self) -> Vec<u8> {
+        let second = self.edition == Edition::Second;
+        let mut bytes = if second { vec![0xff, 0xff] } else { Vec::new() };
         let header = [self.first, self.declared, self.area_factor, self.bend_factor];
-        let mut bytes: Vec<u8> = header.iter().flat_map(|x| x.to_le_bytes()).collect();
+        bytes.extend(header.iter().flat_map(|x| x.to_le_bytes()));
         for record in &self.records {
             bytes.extend(record.next.to_le_bytes());
             bytes.extend(record.kind.to_le_bytes());
             bytes.extend(record.bits.iter().flat_map(|x| x.to_le_bytes()));
+            if second {
+                bytes.extend(record.normal.iter().flat_map(|x| x.to_le_bytes()));
+            }
         }
         bytes
     }
 
-    /// The records in chain order, of kind 1 and on their grid points exactly.
+    /// Edition 1, with the records in chain order, of kind 1 and on their grid points exactly.
     pub fn plain(points: &[Point], area_factor: u16, bend_factor: u16) -> RimFile {
         let count = points.len();
         let record = |(k, point): (usize, &Point)| Record {
             next: if k + 1 == count { 0 } else { k as u16 + 2 },
             kind: 1,
             bits: point.map(|g| (g as f32 / 8.0).to_bits()),
+            normal: normals::NONE,
         };
         RimFile {
+            edition: Edition::First,
             first: (count > 0) as u16,
             declared: count as u16,
             area_factor,
@@ -53,8 +83,29 @@ impl RimFile {
         }
     }
 
-    /// The same vertices in a less plain file: records in any order between spare ones that hold
-    /// anything, level points where they will do, floats that are not on the grid.
+    /// The file in edition 2, with these normals along its chain.
+    pub fn with_normals(mut self, normals: &[Normal]) -> RimFile {
+        self.edition = Edition::Second;
+        let mut link = self.first;
+        for &normal in normals {
+            let record = &mut self.records[link as usize - 1];
+            record.normal = normal;
+            link = record.next;
+        }
+        self
+    }
+
+    /// The file of n vertices in an edition, with a normal on every edge in edition 2.
+    pub fn in_edition(self, edition: Edition, n: usize, random: &mut Random) -> RimFile {
+        match edition {
+            Edition::First => RimFile { edition, ..self },
+            Edition::Second => self.with_normals(&normals::on_all(n, random)),
+        }
+    }
+
+    /// The same vertices in a less plain file, of either edition: records in any order between
+    /// spare ones that hold anything, level points where they will do, floats that are not on the
+    /// grid.
     pub fn varied(points: &[Point], factors: [u16; 2], random: &mut Random) -> RimFile {
         let mut file = RimFile::plain(points, factors[0], factors[1]);
         let spare = random.below(4);
@@ -78,17 +129,21 @@ impl RimFile {
         file.first = number(0);
         file.declared = records.len() as u16;
         file.records = records;
-        file
+        match random.one_of(&Edition::BOTH) {
+            Edition::First => file,
+            Edition::Second => file.with_normals(&normals::along(points, random)),
+        }
     }
 }
 
 impl Record {
     pub fn anything(random: &mut Random) -> Record {
-        let any = [random.next_u64(), random.next_u64()];
+        let any = [random.next_u64(), random.next_u64(), random.next_u64()];
         Record {
             next: any[0] as u16,
             kind: (any[0] >> 16) as u16,
             bits: [(any[0] >> 32) as u32, any[1] as u32, (any[1] >> 32) as u32],
+            normal: [0, 16, 32].map(|shift| (any[2] >> shift) as i16),
         }
     }
 }

@@ -6,10 +6,8 @@ use outside_tests::law::finder::{bend, bend_of};
 use outside_tests::law::grid::{grid_number, GridNumber};
 use outside_tests::law::{reader, tilings, BY_INTERVALS, BY_SETS};
 use outside_tests::library::under_test;
-use outside_tests::rims::{Point, RimFile};
+use outside_tests::rims::{Point, RimFile, FLAT, P};
 use std::collections::HashMap;
-
-const P: [Point; 4] = [[0, 0, 0], [8, 0, 0], [8, 8, 6], [0, 8, 0]];
 
 const P_TRIPLES: [Triangle; 4] = [[0, 1, 2], [0, 1, 3], [0, 2, 3], [1, 2, 3]];
 
@@ -170,9 +168,8 @@ fn a_vertex_on_a_sphere_that_does_not_count() {
 
 #[test]
 fn flat_rims_and_three_vertices_have_no_candidates() {
-    let flat: [Point; 5] = [[0, 0, 0], [90, 0, 0], [120, 70, 0], [40, 110, 0], [-30, 60, 0]];
     let square: [Point; 4] = [[0, 0, 5], [8, 0, 5], [8, 8, 5], [0, 8, 5]];
-    for points in [&flat[..], &flat[..3], &square[..]] {
+    for points in [&FLAT[..], &FLAT[..3], &square[..]] {
         let file = RimFile::plain(points, 3, 5).bytes();
         for calls in all() {
             let mut tables = Tables::guarded(Places::BENCH);

@@ -5,7 +5,7 @@ use outside_tests::comparison::{compare_finder, compare_rim};
 use outside_tests::law::BY_INTERVALS;
 use outside_tests::library::under_test;
 use outside_tests::random::{seeds, Random};
-use outside_tests::rims::{lattice, RimFile, Shape};
+use outside_tests::rims::{lattice, Edition, RimFile, Shape};
 
 #[test]
 fn rims_of_10_to_32() {
@@ -32,12 +32,15 @@ fn rims_of_64() {
         let mut random = Random::new(seed);
         for shape in Shape::GENERAL {
             let points = shape.points(64, 1000, &mut random);
-            let file = RimFile::varied(&points, [1, 1], &mut random).bytes();
-            let answer = compare_rim(&BY_INTERVALS, under_test(), &file, &enough);
-            patches += (answer.triangles == 62) as usize;
+            for edition in Edition::BOTH {
+                let file = RimFile::varied(&points, [1, 1], &mut random);
+                let file = file.in_edition(edition, 64, &mut random).bytes();
+                let answer = compare_rim(&BY_INTERVALS, under_test(), &file, &enough);
+                patches += (answer.triangles == 62) as usize;
+            }
         }
     }
-    assert!(patches >= 2, "{patches} patches");
+    assert!(patches >= 4, "{patches} patches");
 }
 
 /// More candidates than the bench program's tables hold.
@@ -65,7 +68,7 @@ fn refused_and_flat_rims() {
             let flat = Shape::Flat.points(n, 1000, &mut random);
             let small = lattice(n, 12, &mut random);
             for points in [flat, small] {
-                let file = RimFile::plain(&points, 1, 1).bytes();
+                let file = RimFile::varied(&points, [1, 1], &mut random).bytes();
                 compare_finder(&BY_INTERVALS, under_test(), &file, &tables);
                 compare_rim(&BY_INTERVALS, under_test(), &file, &tables);
             }

@@ -5,12 +5,10 @@ use outside_tests::comparison::hexadecimal;
 use outside_tests::damage;
 use outside_tests::law::program::output;
 use outside_tests::random::{seeds, Random};
-use outside_tests::rims::{lattice, RimFile, Shape};
+use outside_tests::rims::{lattice, Edition, RimFile, Shape, P};
 use std::io::Write;
 use std::path::Path;
 use std::process::{Command, Stdio};
-
-const P: [[i64; 3]; 4] = [[0, 0, 0], [8, 0, 0], [8, 8, 6], [0, 8, 0]];
 
 /// The program's output, or nothing where no program is named.
 fn printed(file: &[u8]) -> Option<String> {
@@ -37,6 +35,14 @@ fn rim_file_p() {
     compare(&file);
 }
 
+/// The fourth number is the whole own weight: 93 and twice 312 for the surfaces outside.
+#[test]
+fn rim_file_p_with_normals() {
+    let file = RimFile::plain(&P, 1, 1).with_normals(&[[0, 0, 1]; 4]).bytes();
+    assert_eq!(output(&file), "patch 4 2 1093\n0 1 3 64 0\n1 2 3 717 312\n");
+    compare(&file);
+}
+
 #[test]
 fn rims_of_every_shape() {
     for seed in seeds("rims for the program") {
@@ -58,39 +64,56 @@ fn rims_of_every_shape() {
 fn rims_of_64() {
     let mut random = Random::new(1);
     for shape in Shape::GENERAL {
-        compare(&RimFile::plain(&shape.points(64, 1000, &mut random), 1, 1).bytes());
+        let points = shape.points(64, 1000, &mut random);
+        for edition in Edition::BOTH {
+            compare(
+                &RimFile::plain(&points, 1, 1)
+                    .in_edition(edition, points.len(), &mut random)
+                    .bytes(),
+            );
+        }
     }
+}
+
+fn six(edition: Edition) -> RimFile {
+    let mut random = Random::new(4);
+    let points = Shape::NoisyCircle.points(6, 500, &mut random);
+    RimFile::plain(&points, 1, 1).in_edition(edition, points.len(), &mut random)
 }
 
 #[test]
 fn damaged_files() {
-    let points = Shape::NoisyCircle.points(6, 500, &mut Random::new(4));
-    for damage in damage::ALL {
-        let mut file = RimFile::plain(&points, 1, 1);
-        damage.apply(&mut file);
-        assert_eq!(output(&file.bytes()), format!("refused {}\n", damage.number()));
-        compare(&file.bytes());
+    for edition in Edition::BOTH {
+        for damage in damage::all(edition) {
+            let mut file = six(edition);
+            damage.apply(&mut file);
+            assert_eq!(output(&file.bytes()), format!("refused {}\n", damage.number()));
+            compare(&file.bytes());
+        }
     }
 }
 
-/// The part that fits into any buffer is no file of its own.
+/// The part that fits into any buffer is no file of its own. With 187 records, a file of edition 2
+/// is longer than any of edition 1.
 #[test]
 fn input_longer_than_any_file() {
-    let points = Shape::NoisyCircle.points(6, 500, &mut Random::new(4));
-    let mut file = RimFile::plain(&points, 1, 1);
-    let spare = file.records[0];
-    for records in [6, 256] {
-        file.records.resize(records, spare);
-        file.declared = records as u16;
-        for more in [0, 1, 2, 16, 5_000_000] {
-            let longer = [file.bytes(), vec![0; more]].concat();
-            if let Some(text) = printed(&longer) {
-                assert_eq!(text == "refused 1\n", more > 0, "{more} more bytes");
+    for edition in Edition::BOTH {
+        let mut file = six(edition);
+        let spare = file.records[0];
+        for records in [6, 186, 187, 256] {
+            file.records.resize(records, spare);
+            file.declared = records as u16;
+            for more in [0, 1, 2, 16, 22, 5_000_000] {
+                let longer = [file.bytes(), vec![0; more]].concat();
+                assert_eq!(output(&longer) == "refused 1\n", more > 0, "{more} more bytes");
+                compare(&longer);
             }
         }
+        assert_eq!(file.bytes().len(), if edition == Edition::First { 4104 } else { 5642 });
     }
-    for length in 0..9 {
+    for length in 0..11 {
         compare(&vec![0; length]);
+        compare(&vec![0xff; length]);
     }
 }
 

@@ -118,7 +118,7 @@ fn rims_by_sets_by_intervals_and_fast() {
         for _ in 0..4_000 {
             let n = random.between(3, 8) as usize;
             let points = random.one_of(&Shape::ALL).points(n, 60, &mut random);
-            let file = RimFile::plain(&points, 1, 1).bytes();
+            let file = RimFile::varied(&points, [1, 1], &mut random).bytes();
             compare_rim(&BY_SETS, &BY_INTERVALS, &file, &tables);
             compare_rim(&BY_SETS, &Fast, &file, &tables);
         }

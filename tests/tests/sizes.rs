@@ -6,7 +6,7 @@ use outside_tests::damage;
 use outside_tests::law::{BY_INTERVALS, BY_SETS};
 use outside_tests::library::under_test;
 use outside_tests::random::{seeds, Random};
-use outside_tests::rims::{lattice, RimFile, Shape};
+use outside_tests::rims::{lattice, Edition, RimFile, Shape, FIVE_CORNERS};
 
 /// By the reference and by what is under test.
 fn sizes(file: &[u8]) -> Result<Places, u32> {
@@ -56,24 +56,33 @@ fn rims_of_every_shape() {
 fn rims_of_64() {
     let mut random = Random::new(5);
     for shape in Shape::GENERAL {
-        let file = RimFile::plain(&shape.points(64, 1000, &mut random), 1, 1).bytes();
-        if let Ok(sizes) = sizes(&file) {
-            assert_eq!(sizes.triangles, 62);
-            assert_eq!(number(&file, sizes), 0, "{shape:?}");
+        let points = shape.points(64, 1000, &mut random);
+        for edition in Edition::BOTH {
+            let file = RimFile::plain(&points, 1, 1).in_edition(edition, points.len(), &mut random);
+            let file = file.bytes();
+            if let Ok(sizes) = sizes(&file) {
+                assert_eq!(sizes.triangles, 62);
+                assert_eq!(number(&file, sizes), 0, "{shape:?}");
+            }
         }
     }
 }
 
 #[test]
 fn refused_files() {
-    for damage in damage::ALL {
-        let points = Shape::NoisyCircle.points(6, 500, &mut Random::new(4));
-        let mut file = RimFile::plain(&points, 1, 1);
-        damage.apply(&mut file);
-        assert_eq!(sizes(&file.bytes()), Err(damage.number()));
+    let mut random = Random::new(4);
+    for edition in Edition::BOTH {
+        for damage in damage::all(edition) {
+            let points = Shape::NoisyCircle.points(6, 500, &mut random);
+            let file = RimFile::plain(&points, 1, 1);
+            let mut file = file.in_edition(edition, points.len(), &mut random);
+            damage.apply(&mut file);
+            assert_eq!(sizes(&file.bytes()), Err(damage.number()));
+        }
+        let cube = RimFile::plain(&FIVE_CORNERS, 1, 1);
+        let cube = cube.in_edition(edition, 5, &mut random);
+        assert_eq!(sizes(&cube.bytes()), Err(12));
     }
-    let cube = [[0, 0, 0], [40, 0, 0], [40, 40, 0], [0, 40, 0], [0, 0, 40]];
-    assert_eq!(sizes(&RimFile::plain(&cube, 1, 1).bytes()), Err(12));
 }
 
 /// The places that patch_box.h states for every rim: triples of vertices, and two rows for a four.

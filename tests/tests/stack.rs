@@ -6,7 +6,7 @@ use outside_tests::calls::{Places, Tables};
 use outside_tests::jobs::random_job;
 use outside_tests::library::under_test;
 use outside_tests::random::Random;
-use outside_tests::rims::{RimFile, Shape};
+use outside_tests::rims::{Edition, RimFile, Shape};
 
 /// The whole stack of the thread: what the thread itself needs is within it.
 const STACK: usize = 64 * 1024;
@@ -20,15 +20,19 @@ fn on_a_small_stack(call: impl FnOnce() + Send + 'static) {
 fn every_call() {
     let mut random = Random::new(3);
     for shape in [Shape::SkewLines, Shape::Saddle, Shape::Flat] {
-        let file = RimFile::plain(&shape.points(64, 1000, &mut random), 1, 1).bytes();
-        let mut tables = Tables::guarded(Places::ENOUGH);
-        on_a_small_stack(move || {
-            let library = under_test();
-            library.read_rim(&file);
-            let _ = library.sizes(&file);
-            library.find_candidates(&file, &mut tables);
-            library.patch_rim(&file, &mut tables);
-        });
+        let points = shape.points(64, 1000, &mut random);
+        for edition in Edition::BOTH {
+            let file = RimFile::plain(&points, 1, 1).in_edition(edition, points.len(), &mut random);
+            let file = file.bytes();
+            let mut tables = Tables::guarded(Places::ENOUGH);
+            on_a_small_stack(move || {
+                let library = under_test();
+                library.read_rim(&file);
+                let _ = library.sizes(&file);
+                library.find_candidates(&file, &mut tables);
+                library.patch_rim(&file, &mut tables);
+            });
+        }
     }
     let job = random_job(64, 100, 10, 1000, &mut random);
     let mut tables = Tables::of_job(&job, 62, job.candidates.len());

@@ -6,7 +6,7 @@ use outside_tests::jobs::random_job;
 use outside_tests::law::BY_SETS;
 use outside_tests::library::under_test;
 use outside_tests::random::{seeds, Random};
-use outside_tests::rims::{RimFile, Shape};
+use outside_tests::rims::{Edition, RimFile, Shape, FIVE_CORNERS, P};
 
 fn is_enough(places: Places, needed: Places) -> bool {
     needed.triangles <= places.triangles
@@ -26,12 +26,13 @@ fn check(file: &[u8], places: Places, needed: Places) {
 /// Every combination of lengths for rims of three to five vertices.
 #[test]
 fn every_combination_of_lengths() {
-    let p = [[0, 0, 0], [8, 0, 0], [8, 8, 6], [0, 8, 0]];
     let flat = [[0, 0, 0], [9, 0, 0], [5, 7, 0]];
     let mut random = Random::new(2);
     let five = Shape::NoisyCircle.points(5, 100, &mut random);
-    for points in [&p[..], &flat[..], &five[..]] {
-        let file = RimFile::plain(points, 1, 1).bytes();
+    let rims = [&P[..], &flat[..], &five[..]];
+    for (points, edition) in rims.iter().flat_map(|&points| Edition::BOTH.map(|e| (points, e))) {
+        let file =
+            RimFile::plain(points, 1, 1).in_edition(edition, points.len(), &mut random).bytes();
         let need = BY_SETS.sizes(&file).expect("accepted");
         for triangles in 0..=need.triangles + 1 {
             for candidates in 0..=need.candidates + 1 {
@@ -100,9 +101,9 @@ fn tables_of_the_finder() {
 /// 12 comes before 13, whatever the tables.
 #[test]
 fn fifth_vertex_with_short_tables() {
-    let cube = [[0, 0, 0], [40, 0, 0], [40, 40, 0], [0, 40, 0], [0, 0, 40]];
-    let file = RimFile::plain(&cube, 1, 1).bytes();
-    for length in 0..=10 {
+    let cube = RimFile::plain(&FIVE_CORNERS, 1, 1);
+    for (length, edition) in (0..=10).flat_map(|length| Edition::BOTH.map(|e| (length, e))) {
+        let cube = cube.clone().in_edition(edition, 5, &mut Random::new(length as u64));
         let places = Places {
             triangles: length % 4,
             candidates: length,
@@ -110,8 +111,8 @@ fn fifth_vertex_with_short_tables() {
             rows: length,
             work: length,
         };
-        let answer = compare_rim(&BY_SETS, under_test(), &file, &Tables::guarded(places));
-        assert_eq!(answer.number, 12);
+        let tables = Tables::guarded(places);
+        assert_eq!(compare_rim(&BY_SETS, under_test(), &cube.bytes(), &tables).number, 12);
     }
 }
 

@@ -2,14 +2,17 @@
 //! same run, over changing rims and jobs. Each figure is the least mean of several rounds, in
 //! microseconds per call: library, reference, and library / reference. The time is the clock's:
 //! the machine should be quiet, and the least round is the one that other work disturbed least.
-//! The finder's call reads the file too. Without the library only the reference is timed.
+//! The finder's call reads the file too. The first table is of rim files of edition 1; another has
+//! the whole call on the same rims in both editions. Without the library only the reference is
+//! timed.
 
 #![forbid(unsafe_code)]
 
 use outside_tests::calls::{Calls, Job, Places, Tables};
 use outside_tests::fast::Fast;
-use outside_tests::jobs::random_job;
+use outside_tests::jobs::{job_of, random_job};
 use outside_tests::library::library;
+use outside_tests::normals;
 use outside_tests::random::Random;
 use outside_tests::rims::{RimFile, Shape};
 use std::hint::black_box;
@@ -73,34 +76,30 @@ fn check(cases: usize, mut call: impl FnMut(&dyn Calls, usize) -> Tables) {
     }
 }
 
-/// The job that the finder makes of a rim.
-fn job_of(file: &[u8], tables: &mut Tables) -> Job {
-    let found = Fast.find_candidates(file, tables);
-    assert_eq!(found.number, 0, "the rims of the benchmark are accepted");
-    Job {
-        n: Fast.read_rim(file).vertices,
-        candidates: tables.candidates.view()[..found.candidates].to_vec(),
-        weights: tables.weights.view()[..found.candidates].to_vec(),
-        rows: tables.rows.view()[..found.rows].to_vec(),
-    }
-}
-
 fn tables_of(job: &Job) -> Tables {
     Tables::of_job(job, 62, job.candidates.len())
 }
 
-fn rims(shape: Shape, n: usize, random: &mut Random) {
-    let count = 256 / n;
-    let mut tables = Tables::guarded(Places::ENOUGH);
-    let mut file = || RimFile::plain(&shape.points(n, 1000, random), 1, 1).bytes();
-    let files: Vec<Vec<u8>> = (0..count).map(|_| file()).collect();
-    let jobs: Vec<Job> = files.iter().map(|file| job_of(file, &mut tables)).collect();
-    let mut job_tables: Vec<Tables> = jobs.iter().map(tables_of).collect();
-    check(count, |calls, case| {
+/// The rims of one line of a table.
+fn rim_files(shape: Shape, n: usize, random: &mut Random) -> Vec<RimFile> {
+    (0..256 / n).map(|_| RimFile::plain(&shape.points(n, 1000, random), 1, 1)).collect()
+}
+
+fn check_rims(files: &[Vec<u8>]) {
+    check(files.len(), |calls, case| {
         let mut left = Tables::guarded(Places::ENOUGH);
         calls.patch_rim(&files[case], &mut left);
         left
     });
+}
+
+fn rims(shape: Shape, n: usize, random: &mut Random) {
+    let mut tables = Tables::guarded(Places::ENOUGH);
+    let files: Vec<Vec<u8>> = rim_files(shape, n, random).iter().map(RimFile::bytes).collect();
+    let count = files.len();
+    let jobs: Vec<Job> = files.iter().map(|file| job_of(&Fast, file, &mut tables)).collect();
+    let mut job_tables: Vec<Tables> = jobs.iter().map(tables_of).collect();
+    check_rims(&files);
     let reader = measure(count, &mut |calls, case| {
         black_box(calls.read_rim(black_box(&files[case])));
     });
@@ -124,6 +123,23 @@ fn rims(shape: Shape, n: usize, random: &mut Random) {
         tiler.shown(),
         whole.shown()
     );
+}
+
+/// The whole call in edition 1, and in edition 2 with a normal on every edge.
+fn editions(shape: Shape, n: usize, random: &mut Random, of_normals: &mut Random) {
+    let mut tables = Tables::guarded(Places::ENOUGH);
+    let first = rim_files(shape, n, random);
+    let second =
+        first.iter().map(|file| file.clone().with_normals(&normals::on_all(n, of_normals)));
+    let second: Vec<RimFile> = second.collect();
+    let [one, two] = [first, second].map(|files| {
+        let files: Vec<Vec<u8>> = files.iter().map(RimFile::bytes).collect();
+        check_rims(&files);
+        measure(files.len(), &mut |calls, case| {
+            black_box(calls.patch_rim(black_box(&files[case]), &mut tables));
+        })
+    });
+    println!("{:<12} {n:>2} {} {}", format!("{shape:?}"), one.shown(), two.shown());
 }
 
 fn jobs(n: usize, rows: usize, random: &mut Random) {
@@ -161,6 +177,16 @@ fn main() {
     for n in SIZES {
         for rows in [0, 10, 100] {
             jobs(n, rows, &mut random);
+        }
+    }
+    println!(
+        "\nwhole call by edition, with normals on all edges in edition 2\n{:<12} {:>2} {:>30} {:>30}",
+        "shape", "n", "edition 1", "edition 2"
+    );
+    let [mut random, mut of_normals] = [Random::new(1), Random::new(2)];
+    for shape in Shape::GENERAL {
+        for n in SIZES {
+            editions(shape, n, &mut random, &mut of_normals);
         }
     }
 }

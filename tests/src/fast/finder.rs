@@ -1,21 +1,9 @@
 //! The Delaunay faces of a polygon as masks, and the lists made from them.
 
 use super::reader::Polygon;
+use super::vectors::{cross, dot, minus, Vector};
+use super::weights::{Normal, Weights};
 use crate::calls::{Row, Triangle};
-
-type Vector = [i64; 3];
-
-fn minus(p: Vector, q: Vector) -> Vector {
-    [p[0] - q[0], p[1] - q[1], p[2] - q[2]]
-}
-
-fn dot(u: Vector, v: Vector) -> i64 {
-    u[0] * v[0] + u[1] * v[1] + u[2] * v[2]
-}
-
-fn cross(u: Vector, v: Vector) -> Vector {
-    [u[1] * v[2] - u[2] * v[1], u[2] * v[0] - u[0] * v[2], u[0] * v[1] - u[1] * v[0]]
-}
 
 /// A vector from the first corner, with its squared length.
 #[derive(Clone, Copy)]
@@ -253,12 +241,11 @@ impl Faces {
         rows: &mut [Row],
     ) {
         let mut normals = Vec::with_capacity(candidates.len());
+        let own = Weights::new(polygon);
         for (place, &triangle) in weights.iter_mut().zip(candidates) {
-            let [p, q, r] = triangle.map(|k| polygon.vertices[k as usize]);
-            let normal = cross(minus(q, p), minus(r, p));
-            let m = (dot(normal, normal) as u64).isqrt() as i64;
-            *place = polygon.area_factor * m as u32;
-            normals.push((normal, m));
+            let normal = Normal::of(polygon, triangle);
+            *place = own.own(triangle, &normal);
+            normals.push(normal);
         }
         let mut places = rows.iter_mut();
         for (outer, &triangle) in candidates.iter().enumerate() {
@@ -269,16 +256,11 @@ impl Faces {
                     let x = rest.trailing_zeros() as usize;
                     rest &= rest - 1;
                     let inner = self.number(i, x, j);
-                    let bend = bend(normals[inner as usize], normals[outer]);
+                    let bend = normals[inner as usize].bend(&normals[outer]);
                     let place = places.next().expect("counted");
                     *place = [outer as u32, inner, polygon.bend_factor * bend];
                 }
             }
         }
     }
-}
-
-fn bend((t, m): (Vector, i64), (u, k): (Vector, i64)) -> u32 {
-    let quotient = (1000 * dot(t, u)).div_euclid(m * k);
-    (1000 - quotient.clamp(-1000, 1000)) as u32
 }

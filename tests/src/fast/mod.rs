@@ -1,10 +1,12 @@
 //! The library's own method in plain Rust made for speed, to measure the library against.
 
 mod finder;
-mod reader;
+pub mod reader;
 mod tiler;
+mod vectors;
+pub mod weights;
 
-use crate::calls::{Calls, FindAnswer, PatchAnswer, ReadAnswer, Tables};
+use crate::calls::{Calls, FindAnswer, PatchAnswer, Places, ReadAnswer, Tables};
 use finder::Faces;
 use reader::Polygon;
 
@@ -91,5 +93,12 @@ impl Calls for Fast {
         }
         write_lists(&polygon, &faces, tables);
         FindAnswer { number: 0, candidates: faces.candidates(), rows: faces.rows() }
+    }
+
+    fn sizes(&self, file: &[u8]) -> Result<Places, u32> {
+        let (polygon, faces) = faces_of(file)?;
+        let (candidates, rows) = (faces.candidates(), faces.rows());
+        let triangles = polygon.n - 2;
+        Ok(Places { triangles, candidates, weights: candidates, rows, work: candidates })
     }
 }

@@ -1,11 +1,43 @@
 //! From the bytes of a rim file to its polygon.
 
+use super::vectors::Vector;
+
 pub struct Polygon {
     pub n: usize,
     pub area_factor: u32,
     pub bend_factor: u32,
-    pub vertices: [[i64; 3]; 64],
+    pub vertices: [Vector; 64],
+    /// The normals outside the edges that start at the vertices, zeros where there is no surface.
+    /// Edition 1 has no list.
+    pub outside: Vec<Vector>,
 }
+
+/// Where the parts of a file stand, by its edition.
+#[derive(Clone, Copy)]
+struct Layout {
+    header: usize,
+    record: usize,
+}
+
+impl Layout {
+    fn of(file: &[u8]) -> Layout {
+        match file.first_chunk() {
+            Some(&[0xff, 0xff]) => Layout { header: 2, record: NORMAL + 6 },
+            _ => Layout { header: 0, record: NORMAL },
+        }
+    }
+
+    fn records(self) -> usize {
+        self.header + 8
+    }
+
+    fn has_normals(self) -> bool {
+        self.record > NORMAL
+    }
+}
+
+/// Where the normal stands in a record that has one.
+const NORMAL: usize = 16;
 
 fn u16_at(file: &[u8], at: usize) -> usize {
     u16::from_le_bytes([file[at], file[at + 1]]) as usize
@@ -23,7 +55,7 @@ fn grid(v: f32) -> Result<i64, u32> {
     Ok((v * 8.0).round_ties_even() as i64)
 }
 
-fn vertex(file: &[u8], at: usize, height: &mut Option<i64>) -> Result<[i64; 3], u32> {
+fn vertex(file: &[u8], at: usize, height: &mut Option<i64>) -> Result<Vector, u32> {
     let [x, y, z] = [4, 8, 12].map(|offset| f32_at(file, at + offset));
     match u16_at(file, at + 2) {
         1 => {
@@ -45,23 +77,20 @@ fn vertex(file: &[u8], at: usize, height: &mut Option<i64>) -> Result<[i64; 3], 
     }
 }
 
-pub fn read(file: &[u8]) -> Result<Polygon, u32> {
-    if file.len() < 8 {
-        return Err(1);
+fn normal(file: &[u8], at: usize) -> Result<Vector, u32> {
+    let number = |k: usize| i16::from_le_bytes([file[at + 2 * k], file[at + 2 * k + 1]]);
+    let normal = [number(0), number(1), number(2)];
+    if normal.iter().any(|number| !(-1000..=1000).contains(number)) {
+        return Err(18);
     }
-    let records = u16_at(file, 2);
-    if records > 256 || file.len() != 8 + 16 * records {
-        return Err(1);
-    }
-    let area_factor = u16_at(file, 4) as u32;
-    if area_factor > 16 {
-        return Err(2);
-    }
-    let bend_factor = u16_at(file, 6) as u32;
-    let mut polygon = Polygon { n: 0, area_factor, bend_factor, vertices: [[0; 3]; 64] };
+    Ok(normal.map(i64::from))
+}
+
+/// The vertices of the chain, with the normals of their edges.
+fn walk(file: &[u8], layout: Layout, records: usize, polygon: &mut Polygon) -> Result<(), u32> {
     let mut met = [false; 257];
     let mut height = None;
-    let mut link = u16_at(file, 0);
+    let mut link = u16_at(file, layout.header);
     while link != 0 {
         if link > records {
             return Err(3);
@@ -73,11 +102,34 @@ pub fn read(file: &[u8]) -> Result<Polygon, u32> {
             return Err(5);
         }
         met[link] = true;
-        let at = 16 * link - 8;
+        let at = layout.records() + layout.record * (link - 1);
         polygon.vertices[polygon.n] = vertex(file, at, &mut height)?;
+        if layout.has_normals() {
+            polygon.outside.push(normal(file, at + NORMAL)?);
+        }
         polygon.n += 1;
         link = u16_at(file, at);
     }
+    Ok(())
+}
+
+pub fn read(file: &[u8]) -> Result<Polygon, u32> {
+    let layout = Layout::of(file);
+    if file.len() < layout.records() {
+        return Err(1);
+    }
+    let records = u16_at(file, layout.header + 2);
+    if records > 256 || file.len() != layout.records() + layout.record * records {
+        return Err(1);
+    }
+    let area_factor = u16_at(file, layout.header + 4) as u32;
+    if area_factor > 16 {
+        return Err(2);
+    }
+    let bend_factor = u16_at(file, layout.header + 6) as u32;
+    let vertices = [[0; 3]; 64];
+    let mut polygon = Polygon { n: 0, area_factor, bend_factor, vertices, outside: Vec::new() };
+    walk(file, layout, records, &mut polygon)?;
     if polygon.n < 3 {
         return Err(10);
     }

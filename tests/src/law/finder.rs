@@ -1,4 +1,4 @@
-//! Candidates, weights and rows of a rim (rules 2.1 to 2.13), or number 12.
+//! Candidates, weights and rows of a rim (rules 2.1 to 2.15), or number 12.
 
 use super::reader::{Point, Rim};
 use crate::calls::{Row, Triangle};
@@ -142,12 +142,30 @@ pub fn hangs_on(t: Triangle, u: Triangle) -> bool {
     (t[0], t[2]) == (u[0], u[1]) || (t[0], t[2]) == (u[1], u[2])
 }
 
+/// Rule 2.14: both ends of rim edge i are corners of t.
+fn has_rim_edge(t: Triangle, i: usize, n: usize) -> bool {
+    [i, (i + 1) % n].iter().all(|&end| t.contains(&(end as u8)))
+}
+
+/// Rule 2.15: the area weight, and a bend weight for each rim edge that has a surface outside.
+pub fn own_weight(rim: &Rim, t: Triangle, normal: Point) -> u64 {
+    let mut weight = rim.area_factor * whole_length(normal);
+    for (i, surface) in rim.surfaces.iter().enumerate() {
+        if let Some(outside) = surface {
+            if has_rim_edge(t, i, rim.points.len()) {
+                weight += rim.bend_factor * bend_of(normal, *outside);
+            }
+        }
+    }
+    weight
+}
+
 /// The candidates with their weights and rows, or 12.
 pub fn find(rim: &Rim) -> Result<Lists, u32> {
     let candidates: Vec<Triangle> = faces(&rim.points)?.into_iter().collect();
     let normals: Vec<Point> = candidates.iter().map(|&t| normal(&rim.points, t)).collect();
-    let area = |normal: &Point| (rim.area_factor * whole_length(*normal)) as u32;
-    let weights = normals.iter().map(area).collect();
+    let own = |(&t, &normal)| own_weight(rim, t, normal) as u32;
+    let weights = candidates.iter().zip(&normals).map(own).collect();
     let mut rows = Vec::new();
     for (outer, &u) in candidates.iter().enumerate() {
         for (inner, &t) in candidates.iter().enumerate() {

@@ -26,7 +26,7 @@ pub const BY_SETS: Law = Law { name: "law by sets", best: tilings::best };
 /// For polygons too large for sets.
 pub const BY_INTERVALS: Law = Law { name: "law by intervals", best: interval::best };
 
-/// The vertices and the lists of a file, or the number due of 1 to 12 (rule 4.31).
+/// The vertices and the lists of a file, or the number due of 1 to 12 and 18 (rule 4.31).
 fn lists_of(file: &[u8]) -> Result<(usize, Lists), u32> {
     let rim = reader::read(file)?;
     Ok((rim.points.len(), finder::find(&rim)?))

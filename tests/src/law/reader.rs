@@ -1,4 +1,5 @@
-//! The rim file (rules 1.1 to 1.8): its polygon, or the first number due of 1 to 11.
+//! The rim file (rules 1.1 to 1.8 and 1.12 to 1.14): its polygon, or the first number due of 1 to
+//! 11 and 18.
 
 use super::grid::{grid_number, GridNumber};
 
@@ -10,7 +11,21 @@ pub struct Rim {
     pub area_factor: u64,
     pub bend_factor: u64,
     pub points: Vec<Point>,
+    /// The normal outside each rim edge, where there is a surface. Edge i starts at vertex i.
+    pub surfaces: Vec<Option<Point>>,
 }
+
+/// A file of either edition, cut up: its header numbers but the count, and its records.
+struct Parts<'a> {
+    first: usize,
+    area_factor: u64,
+    bend_factor: u64,
+    records: Vec<&'a [u8]>,
+}
+
+/// Bytes of a record up to its normal, and of the normal.
+const RECORD: usize = 16;
+const NORMAL: usize = 6;
 
 fn u16_at(file: &[u8], at: usize) -> usize {
     u16::from_le_bytes([file[at], file[at + 1]]) as usize
@@ -54,15 +69,49 @@ fn point_of(record: &[u8], height: Option<i64>) -> Result<(Point, i64), u32> {
     }
 }
 
-/// The points along the chain. A link is judged when it is followed (rule 4.31): 3, 4, 5, then the
-/// record.
-fn chain(file: &[u8], records: usize) -> Result<Vec<Point>, u32> {
+/// Rule 1.13: the normal that a record of edition 2 ends with, none where it is three zeros, and in
+/// edition 1; or 18.
+fn surface_of(record: &[u8]) -> Result<Option<Point>, u32> {
+    let mut normal = [0; 3];
+    for (number, at) in normal.iter_mut().zip((RECORD..record.len()).step_by(2)) {
+        let unsigned = u16_at(record, at) as i64;
+        *number = if unsigned < 32_768 { unsigned } else { unsigned - 65_536 };
+    }
+    if normal.iter().any(|number| number.abs() > 1000) {
+        return Err(18);
+    }
+    Ok(Some(normal).filter(|normal| *normal != [0; 3]))
+}
+
+/// Rules 1.2 to 1.4 and 1.12: the first u16 alone tells the edition; or 1.
+fn cut(file: &[u8]) -> Result<Parts<'_>, u32> {
+    let (file, record) = match file {
+        [255, 255, rest @ ..] => (rest, RECORD + NORMAL),
+        _ => (file, RECORD),
+    };
+    let (header, records) = file.split_at_checked(8).ok_or(1u32)?;
+    let count = u16_at(header, 2);
+    if count > 256 || records.len() != record * count {
+        return Err(1);
+    }
+    Ok(Parts {
+        first: u16_at(header, 0),
+        area_factor: u16_at(header, 4) as u64,
+        bend_factor: u16_at(header, 6) as u64,
+        records: records.chunks(record).collect(),
+    })
+}
+
+/// The points and surfaces along the chain. A link is judged when it is followed (rule 4.31): 3, 4,
+/// 5, then the record.
+fn chain(file: &Parts) -> Result<(Vec<Point>, Vec<Option<Point>>), u32> {
     let mut met = Vec::new();
     let mut points = Vec::new();
+    let mut surfaces = Vec::new();
     let mut height = None;
-    let mut link = u16_at(file, 0);
+    let mut link = file.first;
     while link != 0 {
-        if link > records {
+        if link > file.records.len() {
             return Err(3);
         }
         if met.contains(&link) {
@@ -72,28 +121,22 @@ fn chain(file: &[u8], records: usize) -> Result<Vec<Point>, u32> {
             return Err(5);
         }
         met.push(link);
-        let record = &file[8 + 16 * (link - 1)..8 + 16 * link];
+        let record = file.records[link - 1];
         let (point, its_height) = point_of(record, height)?;
         points.push(point);
         height = Some(its_height);
+        surfaces.push(surface_of(record)?);
         link = u16_at(record, 0);
     }
-    Ok(points)
+    Ok((points, surfaces))
 }
 
 pub fn read(file: &[u8]) -> Result<Rim, u32> {
-    if file.len() < 8 {
-        return Err(1);
-    }
-    let records = u16_at(file, 2);
-    if records > 256 || file.len() != 8 + 16 * records {
-        return Err(1);
-    }
-    let area_factor = u16_at(file, 4) as u64;
-    if area_factor > 16 {
+    let parts = cut(file)?;
+    if parts.area_factor > 16 {
         return Err(2);
     }
-    let points = chain(file, records)?;
+    let (points, surfaces) = chain(&parts)?;
     if points.len() < 3 {
         return Err(10);
     }
@@ -102,5 +145,6 @@ pub fn read(file: &[u8]) -> Result<Rim, u32> {
             return Err(11);
         }
     }
-    Ok(Rim { area_factor, bend_factor: u16_at(file, 6) as u64, points })
+    let Parts { area_factor, bend_factor, .. } = parts;
+    Ok(Rim { area_factor, bend_factor, points, surfaces })
 }
