@@ -175,7 +175,11 @@ fn run_p() {
 // A slope outside each edge in turn, outside two edges of one candidate (rule 6.6), and at a place that belongs to no vertex.
 fn run_normals() {
     let p = polygon(4, 1, 1, RIM_P);
-    let slope = Normal { x: 0, y: -600, z: 800 };
+    let slope = Normal {
+        x: 0,
+        y: -600,
+        z: 800,
+    };
     run(with_normal(p, 0, slope), 4, 4, 2);
     run(with_normal(p, 1, slope), 4, 4, 2);
     run(with_normal(p, 2, slope), 4, 4, 2);
@@ -206,7 +210,11 @@ fn run_refused() {
     run(polygon(6, 1, 1, FLAT), 20, 20, 20);
     run(polygon(2, 1, 1, RIM_P), 20, 20, 20);
     run(polygon(5, 1, 1, RIM_P), 20, 20, 20);
-    let steep = Normal { x: 0, y: 1001, z: 0 };
+    let steep = Normal {
+        x: 0,
+        y: 1001,
+        z: 0,
+    };
     run(with_normal(polygon(4, 1, 1, RIM_P), 3, steep), 20, 20, 20);
     run(with_normal(polygon(6, 1, 1, FLAT), 4, steep), 20, 20, 20);
     run(with_normal(polygon(6, 1, 1, FLAT), 5, steep), 20, 20, 20);

@@ -1,10 +1,10 @@
--- The worked cases hold. Each is computed over the definitions, rim file P in steps; then one proof for the list. Assumes nothing.
+-- The worked cases hold. Each is computed over the definitions, the rim files in steps; then one proof for the list. Assumes nothing.
 use mathlib.Core.Path.{_≡_, refl, ap, _∙_}
 use mathlib.Core.Bool.{false}
 use mathlib.Core.List.{List, [], _∷_, map}
 use Prim.Native.Nat.{ℕ}
 use lib.Ieee.{ofBits}
-use lib.IntN.{pos}
+use lib.IntN.{pos, negsuc}
 use lib.Dec.{eqb}
 use lib.ListN.{length, drop, replicate}
 use Rattle.terms.specs.Limits.{maxVertices}
@@ -14,9 +14,12 @@ use Rattle.lists.proofs.Choice.{yes, no}
 use Rattle.grid.specs.Point.{point}
 use Rattle.grid.specs.Number.{finite, numerator, denominator, negative, inRange, roundEighths}
 use Rattle.polygon.specs.declared.Polygon.{Polygon}
-use Rattle.polygon.specs.Polygon.{origin, codeOf, repeatedVertex, codeFrom, firstDue}
-use Rattle.reader.specs.File.{lengthWrong}
-use Rattle.reader.specs.Record.{recordAt, numbersCode, vertexOf}
+use Rattle.polygon.specs.Polygon.{origin, codeOf, repeatedVertex, firstDue}
+use Rattle.polygon.specs.Polygon as polygon
+use Rattle.polygon.specs.declared.normal.Normal.{Normal}
+use Rattle.polygon.specs.Normal.{normal, noNormal}
+use Rattle.reader.specs.File.{layoutOf, lengthWrong}
+use Rattle.reader.specs.Record.{recordAt, numbersCode, vertexOf, normalIn}
 use Rattle.reader.specs.Chain.{link, metBefore, heightBefore, positionCode, codeFrom, endFrom}
 use Rattle.reader.specs.Reading.{polygonOf}
 use Rattle.reader.specs.Reading as reader
@@ -26,106 +29,150 @@ use Rattle.geometry.specs.Spheres.{orientOf, centreOf, distanceOf}
 use Rattle.faces.specs.Faces.{isFace}
 use Rattle.delaunay.specs.Candidates.{counts, isCandidate, candidatesOf, cospherical}
 use Rattle.dihedrals.specs.Dihedrals.{rowsOf}
-use Rattle.weights.specs.Weights.{weightsOf}
+use Rattle.weights.specs.Weights.{edgeNormal, outsideWeightOf, weightsOf}
 use Rattle.jobs.specs.Job.{ascends, before, candidateFits, hangs, namesPair, rowBefore, rowFits, listsCode, jobCode}
 use Rattle.finder.specs.Finding.{short, numberDue}
 use Rattle.triangulation.specs.Triangulations.{Job, Answer, best, patch, bestKey, key, isTriangulation, totalWeight, preorderFrom, countBetween, countOutside}
 use Rattle.triangulation.specs.Jobs.{jobOf}
 use Rattle.triangulator.specs.Call.{settled, triangulated}
 use Rattle.pipeline.specs.Patching.{tables, Patching, patching, jobIn, tablesShort, patched, patchBy, polygonNumber, fileNumber, patchFile}
-use Rattle.demands.specs.Worked.{of-file, of-tilings, fileP, lentP, withTotals, worked}
+use Rattle.demands.specs.Worked.{of-file, of-tilings, fileP, fileN, lentP, withTotals, worked}
 
--- ---- rim file P
--- what is read of its bytes: the polygon on the grid of eighths, with the origin at each further place
-abbrev rimP : Polygon
-rimP = record {
+-- ---- rim file P and the same rim with normals
+-- the polygon on the grid of eighths, with the origin and no normal at each further place
+abbrev rimWith : List Normal → Polygon
+rimWith normals = record {
   n = 4;
   «area_factor» = 1;
   «bend_factor» = 1;
   vertices = filled (point (pos 0) (pos 0) (pos 0) ∷ point (pos 8) (pos 0) (pos 0) ∷ point (pos 8) (pos 8) (pos 6) ∷ point (pos 0) (pos 8) (pos 0) ∷ []) (replicate maxVertices origin);
+  normals = filled normals (replicate maxVertices noNormal);
 }
 
-number-P : reader.numberDue fileP ≡ 0
-unfolding ofBits upFrom someFrom finite numerator denominator negative inRange roundEighths repeatedVertex lengthWrong recordAt numbersCode vertexOf link metBefore heightBefore positionCode codeFrom endFrom reader.numberDue
-number-P = refl
+abbrev none : List Normal
+none = noNormal ∷ noNormal ∷ noNormal ∷ noNormal ∷ []
 
-polygon-P : polygonOf fileP ≡ rimP
-unfolding ofBits upFrom someFrom finite numerator denominator negative inRange roundEighths recordAt numbersCode vertexOf link metBefore heightBefore positionCode codeFrom endFrom
-polygon-P = refl
+abbrev slopes : List Normal
+slopes = noNormal ∷ noNormal ∷ normal (pos 0) (negsuc 599) (pos 800) ∷ normal (pos 0) (negsuc 599) (pos 800) ∷ []
 
 abbrev triplesP : List (List ℕ)
 triplesP = triple 0 1 2 ∷ triple 0 1 3 ∷ triple 0 2 3 ∷ triple 1 2 3 ∷ []
 
-abbrev jobP : Job
-jobP = jobOf 4 triplesP (80 ∷ 64 ∷ 80 ∷ 93 ∷ []) (triple 1 3 312 ∷ triple 2 0 360 ∷ [])
+abbrev rowsP : List (List ℕ)
+rowsP = triple 1 3 312 ∷ triple 2 0 360 ∷ []
 
-candidates-P : candidatesOf rimP ≡ triplesP
-unfolding upFrom everyFrom someFrom orientOf centreOf distanceOf isFace counts isCandidate
-candidates-P = refl
+abbrev job : List ℕ → Job
+job weights = jobOf 4 triplesP weights rowsP
 
-code-P : codeOf rimP ≡ 0
-unfolding codeOf repeatedVertex codeFrom everyFrom someFrom
+-- what is read of the bytes
+number-P : reader.numberDue fileP ≡ 0
+unfolding ofBits upFrom someFrom finite numerator denominator negative inRange roundEighths repeatedVertex layoutOf lengthWrong recordAt numbersCode vertexOf normalIn link metBefore heightBefore positionCode codeFrom endFrom reader.numberDue
+number-P = refl
+
+polygon-P : polygonOf fileP ≡ rimWith none
+unfolding ofBits upFrom someFrom finite numerator denominator negative inRange roundEighths layoutOf recordAt numbersCode vertexOf normalIn link metBefore heightBefore positionCode codeFrom endFrom
+polygon-P = refl
+
+number-N : reader.numberDue fileN ≡ 0
+unfolding ofBits upFrom someFrom finite numerator denominator negative inRange roundEighths repeatedVertex layoutOf lengthWrong recordAt numbersCode vertexOf normalIn link metBefore heightBefore positionCode codeFrom endFrom reader.numberDue
+number-N = refl
+
+polygon-N : polygonOf fileN ≡ rimWith slopes
+unfolding ofBits upFrom someFrom finite numerator denominator negative inRange roundEighths layoutOf recordAt numbersCode vertexOf normalIn link metBefore heightBefore positionCode codeFrom endFrom
+polygon-N = refl
+
+-- the number due on the polygon, its weights, and the best tiling
+code-P : codeOf (rimWith none) ≡ 0
+unfolding codeOf repeatedVertex polygon.codeFrom someFrom
 code-P = refl
 
-twelve-P : cospherical rimP ≡ false
-unfolding upFrom everyFrom someFrom orientOf centreOf distanceOf counts cospherical
-twelve-P = refl
+code-N : codeOf (rimWith slopes) ≡ 0
+unfolding codeOf repeatedVertex polygon.codeFrom someFrom
+code-N = refl
 
-weights-P : weightsOf rimP triplesP ≡ 80 ∷ 64 ∷ 80 ∷ 93 ∷ []
-unfolding lengthOf rootDigits
+weights-P : weightsOf (rimWith none) triplesP ≡ 80 ∷ 64 ∷ 80 ∷ 93 ∷ []
+unfolding lengthOf rootDigits edgeNormal outsideWeightOf
 weights-P = refl
 
-rows-P : rowsOf rimP triplesP ≡ triple 1 3 312 ∷ triple 2 0 360 ∷ []
-unfolding upFrom hangs lengthOf rootDigits ratioOf bendOf
-rows-P = refl
+weights-N : weightsOf (rimWith slopes) triplesP ≡ 80 ∷ 264 ∷ 800 ∷ 233 ∷ []
+unfolding lengthOf rootDigits ratioOf bendOf edgeNormal outsideWeightOf
+weights-N = refl
 
-best-P : best jobP ≡ patch 469 (1 ∷ 3 ∷ [])
+best-P : best (job (80 ∷ 64 ∷ 80 ∷ 93 ∷ [])) ≡ patch 469 (1 ∷ 3 ∷ [])
 unfolding bestKey key isTriangulation totalWeight preorderFrom countBetween countOutside
 best-P = refl
 
-tilings-P : withTotals jobP ≡ (520 ∷ 0 ∷ 2 ∷ []) ∷ (469 ∷ 1 ∷ 3 ∷ []) ∷ []
+best-N : best (job (80 ∷ 264 ∷ 800 ∷ 233 ∷ [])) ≡ patch 809 (1 ∷ 3 ∷ [])
+unfolding bestKey key isTriangulation totalWeight preorderFrom countBetween countOutside
+best-N = refl
+
+tilings-P : withTotals (job (80 ∷ 64 ∷ 80 ∷ 93 ∷ [])) ≡ (520 ∷ 0 ∷ 2 ∷ []) ∷ (469 ∷ 1 ∷ 3 ∷ []) ∷ []
 unfolding isTriangulation totalWeight countBetween countOutside
 tilings-P = refl
 
-weights-are : weightsOf rimP (candidatesOf rimP) ≡ 80 ∷ 64 ∷ 80 ∷ 93 ∷ []
-weights-are = ap (weightsOf rimP) candidates-P ∙ weights-P
+-- what does not depend on the normals: candidates, 12 and rows
+module _ (normals : List Normal) where
+  candidates-are : candidatesOf (rimWith normals) ≡ triplesP
+  unfolding upFrom everyFrom someFrom orientOf centreOf distanceOf isFace counts isCandidate
+  candidates-are = refl
 
-rows-are : rowsOf rimP (candidatesOf rimP) ≡ triple 1 3 312 ∷ triple 2 0 360 ∷ []
-rows-are = ap (rowsOf rimP) candidates-P ∙ rows-P
+  no-12 : cospherical (rimWith normals) ≡ false
+  unfolding upFrom everyFrom someFrom orientOf centreOf distanceOf counts cospherical
+  no-12 = refl
 
-job-P : jobIn rimP ≡ jobP
-job-P i = jobOf 4 (candidates-P i) (weights-are i) (rows-are i)
+  rows-of : rowsOf (rimWith normals) triplesP ≡ rowsP
+  unfolding upFrom hangs lengthOf rootDigits ratioOf bendOf
+  rows-of = refl
 
-short-P : tablesShort rimP lentP ≡ false
-unfolding tablesShort
-short-P =
-    ap (λ (c : List (List ℕ)). either (short 3 2) (either (short 5 (length c)) (either (short 5 (length c)) (either (short 5 (length c)) (short 3 (length (rowsOf rimP c))))))) candidates-P
-    ∙ ap (λ (r : List (List ℕ)). short 3 (length r)) rows-P
-
-none-due : fileNumber fileP lentP ≡ 0
-unfolding numberDue
-none-due =
-    ap (λ (k : ℕ). firstDue k (polygonNumber (polygonOf fileP) lentP)) number-P
-    ∙ ap (λ (p : Polygon). polygonNumber p lentP) polygon-P
-    ∙ yes _ _ (ap (λ (k : ℕ). eqb k 0) code-P) ∙ no _ _ twelve-P ∙ no _ _ short-P
+  enough : tablesShort (rimWith normals) lentP ≡ false
+  unfolding tablesShort
+  enough =
+      ap (λ (c : List (List ℕ)). either (short 3 2) (either (short 5 (length c)) (either (short 5 (length c)) (either (short 5 (length c)) (short 3 (length (rowsOf (rimWith normals) c))))))) candidates-are
+      ∙ ap (λ (r : List (List ℕ)). short 3 (length r)) rows-of
 
 -- the call's answer from an answer to the job and the three lists
-abbrev answerP : Answer → List (List ℕ) → List ℕ → List (List ℕ) → Patching
-answerP a c w r =
+abbrev answerWith : Answer → List (List ℕ) → List ℕ → List (List ℕ) → Patching
+answerWith a c w r =
     let s = settled a (length c) (lentP .triangles) (lentP .work) in
     patching (s .outcome) (tables (s .triangles) (filled c (lentP .candidates)) (filled w (lentP .weights)) (filled r (lentP .rows)) (s .work))
 
-pub file-P : patchFile fileP lentP ≡ answerP (patch 469 (1 ∷ 3 ∷ [])) triplesP (80 ∷ 64 ∷ 80 ∷ 93 ∷ []) (triple 1 3 312 ∷ triple 2 0 360 ∷ [])
-unfolding patchFile
-file-P =
-    ap (λ (k : ℕ). patchBy k (polygonOf fileP) lentP) none-due
-    ∙ ap (λ (p : Polygon). patched p lentP) polygon-P
-    ∙ (λ i. answerP ((ap best job-P ∙ best-P) i) (candidates-P i) (weights-are i) (rows-are i))
+-- the rim with these normals, which give these weights
+module _ (normals : List Normal) {w : List ℕ} (weighs : weightsOf (rimWith normals) triplesP ≡ w) where
+  weights-are : weightsOf (rimWith normals) (candidatesOf (rimWith normals)) ≡ w
+  weights-are = ap (weightsOf (rimWith normals)) (candidates-are normals) ∙ weighs
+
+  rows-are : rowsOf (rimWith normals) (candidatesOf (rimWith normals)) ≡ rowsP
+  rows-are = ap (rowsOf (rimWith normals)) (candidates-are normals) ∙ rows-of normals
+
+  job-is : jobIn (rimWith normals) ≡ job w
+  job-is i = jobOf 4 (candidates-are normals i) (weights-are i) (rows-are i)
+
+  -- a file that gives it, and the best tiling
+  module _ (file : List ℕ) {a : Answer} (number : reader.numberDue file ≡ 0) (reads : polygonOf file ≡ rimWith normals) (code : codeOf (rimWith normals) ≡ 0) (is-best : best (job w) ≡ a) where
+    none-due : fileNumber file lentP ≡ 0
+    unfolding numberDue
+    none-due =
+        ap (λ (k : ℕ). firstDue k (polygonNumber (polygonOf file) lentP)) number
+        ∙ ap (λ (p : Polygon). polygonNumber p lentP) reads
+        ∙ yes _ _ (ap (λ (k : ℕ). eqb k 0) code) ∙ no _ _ (no-12 normals) ∙ no _ _ (enough normals)
+
+    call-is : patchFile file lentP ≡ answerWith a triplesP w rowsP
+    unfolding patchFile
+    call-is =
+        ap (λ (k : ℕ). patchBy k (polygonOf file) lentP) none-due
+        ∙ ap (λ (p : Polygon). patched p lentP) reads
+        ∙ (λ i. answerWith ((ap best job-is ∙ is-best) i) (candidates-are normals i) (weights-are i) (rows-are i))
+
+pub file-P : patchFile fileP lentP ≡ answerWith (patch 469 (1 ∷ 3 ∷ [])) triplesP (80 ∷ 64 ∷ 80 ∷ 93 ∷ []) rowsP
+file-P = call-is none weights-P fileP number-P polygon-P code-P best-P
+
+pub file-N : patchFile fileN lentP ≡ answerWith (patch 809 (1 ∷ 3 ∷ [])) triplesP (80 ∷ 264 ∷ 800 ∷ 233 ∷ []) rowsP
+file-N = call-is slopes weights-N fileN number-N polygon-N code-N best-N
 
 -- ---- the list
-others-hold : map (λ c. c .computed) (drop 2 worked) ≡ map (λ c. c .expected) (drop 2 worked)
+others-hold : map (λ c. c .computed) (drop 3 worked) ≡ map (λ c. c .expected) (drop 3 worked)
 unfolding triangulated jobCode listsCode everyFrom candidateFits ascends before rowFits namesPair hangs rowBefore bestKey key isTriangulation totalWeight preorderFrom countBetween countOutside rootDigits lengthOf ratioOf bendOf
 others-hold = refl
 
 pub worked-hold : map (λ c. c .computed) worked ≡ map (λ c. c .expected) worked
-worked-hold = λ i. of-file (file-P i) ∷ of-tilings ((ap (λ (p : Polygon). withTotals (jobIn p)) polygon-P ∙ ap withTotals job-P ∙ tilings-P) i) ∷ others-hold i
+worked-hold = λ i. of-file (file-P i) ∷ of-tilings ((ap (λ (p : Polygon). withTotals (jobIn p)) polygon-P ∙ ap withTotals (job-is none weights-P) ∙ tilings-P) i) ∷ of-file (file-N i) ∷ others-hold i

@@ -1,4 +1,4 @@
--- The worked cases of rules 6.1 to 6.5 in one list: what the definitions give, and what it should be. Definitions only.
+-- The worked cases of rules 6.1 to 6.6 in one list: what the definitions give, and what it should be. Definitions only.
 use mathlib.Core.List.{List, [], _∷_, map}
 use Prim.Native.Nat.{ℕ}
 use lib.IntN.{pos, negsuc}
@@ -36,6 +36,15 @@ fileP =
     ∷ 4 ∷ 0 ∷ 1 ∷ 0 ∷ 0 ∷ 0 ∷ 128 ∷ 63 ∷ 0 ∷ 0 ∷ 128 ∷ 63 ∷ 0 ∷ 0 ∷ 64 ∷ 63
     ∷ 0 ∷ 0 ∷ 1 ∷ 0 ∷ 0 ∷ 0 ∷ 0 ∷ 0 ∷ 0 ∷ 0 ∷ 128 ∷ 63 ∷ 0 ∷ 0 ∷ 0 ∷ 0 ∷ []
 
+-- the bytes of the same rim in edition 2, with the normal (0, -600, 800) outside the edge from vertex 2 to 3 and the one from 3 to 0 (rule 6.6)
+abbrev pub fileN : List ℕ
+fileN =
+    255 ∷ 255 ∷ 1 ∷ 0 ∷ 4 ∷ 0 ∷ 1 ∷ 0 ∷ 1 ∷ 0
+    ∷ 2 ∷ 0 ∷ 1 ∷ 0 ∷ 0 ∷ 0 ∷ 0 ∷ 0 ∷ 0 ∷ 0 ∷ 0 ∷ 0 ∷ 0 ∷ 0 ∷ 0 ∷ 0 ∷ 0 ∷ 0 ∷ 0 ∷ 0 ∷ 0 ∷ 0
+    ∷ 3 ∷ 0 ∷ 1 ∷ 0 ∷ 0 ∷ 0 ∷ 128 ∷ 63 ∷ 0 ∷ 0 ∷ 0 ∷ 0 ∷ 0 ∷ 0 ∷ 0 ∷ 0 ∷ 0 ∷ 0 ∷ 0 ∷ 0 ∷ 0 ∷ 0
+    ∷ 4 ∷ 0 ∷ 1 ∷ 0 ∷ 0 ∷ 0 ∷ 128 ∷ 63 ∷ 0 ∷ 0 ∷ 128 ∷ 63 ∷ 0 ∷ 0 ∷ 64 ∷ 63 ∷ 0 ∷ 0 ∷ 168 ∷ 253 ∷ 32 ∷ 3
+    ∷ 0 ∷ 0 ∷ 1 ∷ 0 ∷ 0 ∷ 0 ∷ 0 ∷ 0 ∷ 0 ∷ 0 ∷ 128 ∷ 63 ∷ 0 ∷ 0 ∷ 0 ∷ 0 ∷ 0 ∷ 0 ∷ 168 ∷ 253 ∷ 32 ∷ 3 ∷ []
+
 -- tables with one place more than P needs, 9 in each
 abbrev pub lentP : Tables
 lentP = tables (replicate 3 9) (replicate 5 (triple 9 9 9)) (replicate 5 9) (replicate 3 (triple 9 9 9)) (replicate 5 9)
@@ -63,6 +72,13 @@ worked =
     (triple 1 3 312 ∷ triple 2 0 360 ∷ triple 9 9 9 ∷ [])
     (0 ∷ 0 ∷ 0 ∷ 0 ∷ 9 ∷ []))))
     ∷ case (of-tilings (withTotals (jobIn (polygonOf fileP)))) (of-tilings ((520 ∷ 0 ∷ 2 ∷ []) ∷ (469 ∷ 1 ∷ 3 ∷ []) ∷ []))
+    -- rule 6.6: with normals outside two edges of a candidate
+    ∷ case (of-file (patchFile fileN lentP))
+    (of-file (patching (Patch 2 809) (tables (1 ∷ 3 ∷ 9 ∷ [])
+    (triple 0 1 2 ∷ triple 0 1 3 ∷ triple 0 2 3 ∷ triple 1 2 3 ∷ triple 9 9 9 ∷ [])
+    (80 ∷ 264 ∷ 800 ∷ 233 ∷ 9 ∷ [])
+    (triple 1 3 312 ∷ triple 2 0 360 ∷ triple 9 9 9 ∷ [])
+    (0 ∷ 0 ∷ 0 ∷ 0 ∷ 9 ∷ []))))
     -- rule 6.2: a candidate of weight 5; no candidate
     ∷ case (of-job (answered single)) (of-job (result (Patch 1 5) (0 ∷ 9 ∷ []) (0 ∷ 9 ∷ [])))
     ∷ case (of-job (answered (lists 3 [] [] []))) (of-job (result None (9 ∷ 9 ∷ []) (9 ∷ [])))
