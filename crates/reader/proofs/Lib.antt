@@ -21,3 +21,4 @@ pub mod Accepted
 pub mod Existing
 pub mod HalfSteps
 pub mod Editions
+pub mod Cases
