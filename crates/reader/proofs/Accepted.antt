@@ -1,5 +1,6 @@
--- The polygon that is read: 3 to 64 vertices, each the one that its record gives, all on the grid, no two equal. Assumes nothing.
+-- The polygon that is read: 3 to 64 vertices, each the one that its record gives, with its normal, all in range, no two vertices equal. Assumes nothing.
 use mathlib.Core.Path.{_≡_, refl, sym, subst}
+use mathlib.Core.Bool.{true}
 use mathlib.Core.List.{List}
 use Prim.Native.Nat.{ℕ, zero, suc, _+_, _≤_, _<_}
 use native.Mathlib.Omega.{arith}
@@ -7,14 +8,14 @@ use lib.ListN.{getD}
 use Rattle.grid.specs.Point.{OnGrid, PointOnGrid}
 use Rattle.polygon.specs.Polygon.{Valid}
 use Rattle.polygon.specs.Polygon as polygon
-use Rattle.polygon.specs.Normal.{noNormal, NormalInRange}
+use Rattle.polygon.specs.Normal.{noNormal, normalInRange, NormalInRange}
 use Rattle.polygon.specs.Normal as polygon-normals
 use Rattle.polygon.proofs.Normals.{normal-in-range}
 use Rattle.polygon.proofs.Validity.{repeated-none}
 use Rattle.reader.specs.File.{headerStart, offset}
 use Rattle.reader.specs.Record.{known, heightOf}
 use Rattle.reader.specs.Chain.{link, heightBefore, vertexAt, numberOf, pointOf, normalAt, vertexCount, verticesOf, normalsOf}
-use Rattle.reader.specs.Due.{HasVertex}
+use Rattle.reader.specs.Due.{HasVertex, HasNormal}
 use Rattle.reader.specs.Reading.{numberDue, polygonOf, answer, readingOf}
 use Rattle.reader.specs.declared.Height.{Height}
 use Rattle.reader.specs.declared.Vertex.{Vertex}
@@ -25,6 +26,7 @@ use Rattle.reader.proofs.Lengths.{whole}
 use Rattle.reader.proofs.Answers.{count-within}
 use Rattle.reader.proofs.Ends.{no-number, in-range}
 use Rattle.reader.proofs.RimVertices.{has-vertex, vertex-in-table}
+use Rattle.reader.proofs.Normals.{has-normal}
 use Rattle.reader.proofs.Tables.{table-at}
 use Rattle.reader.proofs.FirstNumber.{Read, read-end}
 use Rattle.reader.proofs.Demand1.{complete-read}
@@ -52,10 +54,13 @@ module _ (s : List ℕ) (r : Read s) where
   vertex-on-grid : (i : ℕ) → i < vertexCount s → PointOnGrid (polygon.vertexAt (verticesOf s (vertexCount s)) i)
   vertex-on-grid i h = subst PointOnGrid (sym (vertex-in-table s (vertexCount s) i h)) (vertexed-at i h (height-on-grid i (omega arith)) .on-grid)
 
+  normal-fine : (i : ℕ) → i < vertexCount s → normalInRange (normalAt s i) ≡ true
+  normal-fine i h = in-range s (vertexCount s) (read-end s r) (whole s (r .right)) i h
+
   normal-in-table : (i : ℕ) → i < vertexCount s → NormalInRange (polygon-normals.normalAt (normalsOf s (vertexCount s)) i)
   normal-in-table i h =
       subst NormalInRange (sym (table-at (λ j. normalAt s j) noNormal (vertexCount s) i h))
-      (normal-in-range (normalAt s i) (in-range s (vertexCount s) (read-end s r) (whole s (r .right)) i h))
+      (normal-in-range (normalAt s i) (normal-fine i h))
 
   valid : ((i : ℕ) → getD s i 0 < 256) → Valid (polygonOf s)
   valid bytes = record {
@@ -84,3 +89,8 @@ module _ (s : List ℕ) (complete : readingOf s .status ≡ Complete) where
   pub read-vertices : (i : ℕ) → i < readingOf s .polygon .n → HasVertex s i (polygon.vertexAt (readingOf s .polygon .vertices) i)
   read-vertices = subst (λ p. (i : ℕ) → i < p .n → HasVertex s i (polygon.vertexAt (p .vertices) i)) (sym complete-polygon)
       (λ i h. subst (λ q. HasVertex s i q) (sym (vertex-in-table s (vertexCount s) i h)) (has-vertex s i (λ j l. fine s (complete-read s complete) j (omega arith))))
+
+  -- its normals are those that the same records give (rules 1.13, 1.14)
+  pub read-normals : (i : ℕ) → i < readingOf s .polygon .n → HasNormal s i (polygon-normals.normalAt (readingOf s .polygon .normals) i)
+  read-normals = subst (λ p. (i : ℕ) → i < p .n → HasNormal s i (polygon-normals.normalAt (p .normals) i)) (sym complete-polygon)
+      (λ i h. subst (λ q. HasNormal s i q) (sym (table-at (λ j. normalAt s j) noNormal (vertexCount s) i h)) (has-normal s i (normal-fine s (complete-read s complete) i h)))

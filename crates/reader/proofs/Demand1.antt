@@ -1,14 +1,17 @@
--- Demand 1 for rim files, numbers 1 to 11 (rules 4.31, 4.33): a file is read exactly when no number is due, and the number that is given is exactly the first that is due. Assumes nothing.
+-- Demand 1 for rim files, numbers 1 to 11 and 18 (rules 4.31, 4.33): a file is read exactly when no number is due, and the number that is given is exactly the first that is due. Assumes nothing.
 use mathlib.Core.Path.{_≡_, refl, sym, ap, _∙_}
+use mathlib.Core.Bool.{false}
 use mathlib.Core.List.{List}
 use mathlib.Core.Logic.{_⊎_, inl, inr}
 use Prim.Native.Nat.{ℕ, zero, suc}
 use native.Mathlib.Omega.{arith}
 use Rattle.polygon.specs.Polygon.{emptyPolygon}
+use Rattle.reader.specs.File.{isEdition2}
 use Rattle.reader.specs.Order.{First, NoneDue}
 use Rattle.reader.specs.Due.{DueAt}
 use Rattle.reader.specs.Reading.{numberDue, polygonOf, answer, readingOf, statusNumber}
 use Rattle.reader.specs.declared.Status.the-variants.{Complete}
+use Rattle.reader.proofs.Normals.{no-18-in-edition-1}
 use Rattle.reader.proofs.Answers.{answer-number}
 use Rattle.reader.proofs.Order.{first-unique, none-first}
 use Rattle.reader.proofs.FirstNumber.{Read, number-first, no-number-read, read-none}
@@ -47,6 +50,10 @@ module _ (s : List ℕ) where
   -- the number that is given is exactly the first that is due; the polygon is then the empty one
   pub given-first : (k : ℕ) → statusNumber (readingOf s .status) ≡ suc k → First (DueAt s) (suc k)
   given-first k e = number-first s k (sym number-is ∙ e)
+
+  -- 18 is given to no file of edition 1 (rule 4.18)
+  pub edition-1-not-18 : isEdition2 s ≡ false → statusNumber (readingOf s .status) ≡ 18 → ⊥
+  edition-1-not-18 e d = let f = given-first 17 d in no-18-in-edition-1 s e (f .place) (f .is-due)
 
   pub first-given : (k : ℕ) → First (DueAt s) k → statusNumber (readingOf s .status) ≡ k
   first-given k f = by (numberDue s) refl

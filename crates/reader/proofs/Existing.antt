@@ -1,4 +1,4 @@
--- A number is due only on what there is: 5 on no loop, 6 to 9 on no record that a link misses, 11 on no record that is refused. Assumes nothing.
+-- A number is due only on what there is: 5 on no loop, 6 to 9 and 18 on no record that a link misses, 11 on no record that one of 6 to 9 refuses. Assumes nothing.
 use mathlib.Core.Path.{_≡_, refl}
 use mathlib.Core.Bool.{false}
 use mathlib.Core.List.{List, _∷_, _++_}

@@ -20,3 +20,5 @@ pub mod Demand1
 pub mod Accepted
 pub mod Existing
 pub mod HalfSteps
+pub mod Editions
+pub mod Cases

@@ -1,22 +1,21 @@
 -- The normal of a record, by its edition and by its numbers. Assumes nothing.
-use mathlib.Core.Path.{_≡_, refl, sym, ap, _∙_, subst}
-use mathlib.Core.Bool.{Bool, true, false, cond}
+use mathlib.Core.Path.{_≡_, refl, sym, subst}
+use mathlib.Core.Bool.{Bool, true, false}
 use mathlib.Core.List.{List, [], _∷_, List·Memᴰ, List·Memᴰ·head, List·Memᴰ·tail, List·Memᴰ·cases-cons, List·Memᴰ·not-nil}
 use mathlib.Core.Logic.{⊎-elim}
 use Prim.Native.Nat.{ℕ, suc, _+_}
-use native.Mathlib.Omega.{arith}
-use lib.IntN.{ℤ, pos}
+use lib.IntN.{ℤ}
 use Rattle.lists.proofs.Choice.{yes, no, true-not-false, not-true-false}
 use Rattle.grid.specs.Point.{OnGrid, coordinateOnGrid}
 use Rattle.grid.proofs.Points.{on-grid, on-grid-test}
-use Rattle.polygon.specs.Normal.{normal, noNormal, normalInRange, NormalInRange}
+use Rattle.polygon.specs.Normal.{normal, noNormal, normalInRange}
 use Rattle.polygon.specs.declared.normal.Normal.{Normal}
 use Rattle.polygon.proofs.Normals.{normal-in-range, normal-in-range-test}
 use Rattle.reader.specs.File.{i16At, isEdition2, offset}
 use Rattle.reader.specs.Record.{normalIn}
 use Rattle.reader.specs.Chain.{link, normalAt}
 use Rattle.reader.specs.Order.{Place, position}
-use Rattle.reader.specs.Due.{normalNumbersOf, normalNumbersAt, HasRecords, DueAt, normal-out-of-range}
+use Rattle.reader.specs.Due.{normalNumbersOf, normalNumbersAt, HasRecords, heldNormal, HasNormal, held, none, DueAt, normal-out-of-range}
 
 -- a number that is out of range
 pub record Outside (cs : List ℤ) : Type 0 where
@@ -45,7 +44,7 @@ module _ (s : List ℕ) (at : ℕ) where
   unfolding normalIn
   normal-1 e = no _ _ e
 
-  pub normal-2 : isEdition2 s ≡ true → normalIn s at ≡ normal (i16At s (at + 16)) (i16At s (at + 18)) (i16At s (at + 20))
+  pub normal-2 : isEdition2 s ≡ true → normalIn s at ≡ heldNormal s at
   unfolding normalIn
   normal-2 e = yes _ _ e
 
@@ -62,7 +61,7 @@ module _ (s : List ℕ) (at : ℕ) where
       by : (b : Bool) → isEdition2 s ≡ b → OnGrid c
       by false e = absurd (List·Memᴰ·not-nil (subst (λ (l : List ℤ). List·Memᴰ c l) (numbers-1 e) m))
       by true e =
-          let r = normal-in-range (normal (i16At s (at + 16)) (i16At s (at + 18)) (i16At s (at + 20))) (subst (λ (n : Normal). normalInRange n ≡ true) (normal-2 e) h) in
+          let r = normal-in-range (heldNormal s at) (subst (λ (n : Normal). normalInRange n ≡ true) (normal-2 e) h) in
           ⊎-elim (λ d. subst OnGrid (sym d) (r .x))
           (λ t. ⊎-elim (λ d. subst OnGrid (sym d) (r .y))
           (λ u. ⊎-elim (λ d. subst OnGrid (sym d) (r .z)) (λ v. absurd (List·Memᴰ·not-nil v)) (List·Memᴰ·cases-cons u))
@@ -90,6 +89,19 @@ module _ (s : List ℕ) (i : ℕ) where
   normal-due has h =
       let o = outside s (offset s (link s i)) h in
       normal-out-of-range i (o .number) has (o .member) (o .fails)
+
+  -- the normal of a record, where it is in range
+  pub has-normal : normalInRange (normalAt s i) ≡ true → HasNormal s i (normalAt s i)
+  has-normal h = by (isEdition2 s) refl
+    where
+      at : ℕ
+      at = offset s (link s i)
+
+      by : (b : Bool) → isEdition2 s ≡ b → HasNormal s i (normalAt s i)
+      by true e =
+          subst (λ (q : Normal). HasNormal s i q) (sym (normal-2 s at e))
+          (held i e (normal-in-range (heldNormal s at) (subst (λ (q : Normal). normalInRange q ≡ true) (normal-2 s at e) h)))
+      by false e = subst (λ (q : Normal). HasNormal s i q) (sym (normal-1 s at e)) (none i e)
 
 -- rule 4.18: 18 is due on no file of edition 1
 pub no-18-in-edition-1 : (s : List ℕ) → isEdition2 s ≡ false → (p : Place) → DueAt s p 18 → ⊥

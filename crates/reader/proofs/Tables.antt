@@ -3,7 +3,7 @@ use mathlib.Core.Path.{_≡_, sym, ap, _∙_}
 use mathlib.Core.List.{List, [], _∷_, _++_}
 use Prim.Native.Nat.{ℕ, _+_, _<_}
 use native.Mathlib.Omega.{arith}
-use lib.ListN.{length, getD, set, replicate, length-replicate}
+use lib.ListN.{length, getD, set, replicate}
 use Rattle.lists.specs.Lists.{over, filled}
 use Rattle.lists.proofs.Ranges.{over-last, over-length, over-at}
 use Rattle.lists.proofs.Writing.{filled-at, filled-next}

@@ -10,6 +10,8 @@ use lib.ListN.{length}
 use Rattle.grid.specs.Number.{finite, inRange, roundEighths}
 use Rattle.grid.specs.Point.{point, OnGrid}
 use Rattle.grid.specs.declared.GridPoint.{GridPoint}
+use Rattle.polygon.specs.Normal.{normal, noNormal, NormalInRange}
+use Rattle.polygon.specs.declared.normal.Normal.{Normal}
 use Rattle.terms.specs.Limits.{minVertices, maxVertices, maxAreaFactor}
 use Rattle.reader.specs.File.{i16At, isEdition2, headerSize, headerStart, recordSize, areaFactor, recordCount, lengthWrong, offset, kind, firstNumber, secondNumber, thirdNumber, tailZero}
 use Rattle.reader.specs.Chain.{link}
@@ -51,7 +53,7 @@ normalNumbersOf s at = cond (isEdition2 s) (i16At s (at + 16) ∷ i16At s (at + 
 abbrev pub normalNumbersAt : List ℕ → ℕ → List ℤ
 normalNumbersAt s i = normalNumbersOf s (offset s (link s i))
 
--- ---- what a vertex is
+-- ---- what a vertex is, and its normal
 -- all floats of the record at position i are finite and in range (rule 1.9)
 pub record OnGridAt (s : List ℕ) (i : ℕ) : Type 0 where
   pub all-finite : (v : Float) → List·Memᴰ v (floatsAt s i) → finite v ≡ true
@@ -78,6 +80,14 @@ pub data HasVertex (s : List ℕ) : ℕ → GridPoint → Type 0 where
   a-point : (i : ℕ) → kindAt s i ≡ 1 → OnGridAt s i → HasVertex s i (point (xAt s i) (yAt s i) (heightAt s i))
   a-level-point : (i j : ℕ) → kindAt s i ≡ 2 → tailZeroAt s i ≡ true → OnGridAt s i → LastPoint s j i → OnGridAt s j →
       HasVertex s i (point (xAt s i) (yAt s i) (heightAt s j))
+
+-- the record at position i gives the normal q (rules 1.13, 4.18): in edition 2 the one that it holds, if that is in range, and in edition 1 none
+abbrev pub heldNormal : List ℕ → ℕ → Normal
+heldNormal s at = normal (i16At s (at + 16)) (i16At s (at + 18)) (i16At s (at + 20))
+
+pub data HasNormal (s : List ℕ) : ℕ → Normal → Type 0 where
+  held : (i : ℕ) → isEdition2 s ≡ true → NormalInRange (heldNormal s (offset s (link s i))) → HasNormal s i (heldNormal s (offset s (link s i)))
+  none : (i : ℕ) → isEdition2 s ≡ false → HasNormal s i noNormal
 
 -- ---- the numbers
 -- constructor by constructor, rules 4.1 to 4.9, 4.18, 4.10 and 4.11; 4.8 has two

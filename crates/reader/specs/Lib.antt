@@ -5,4 +5,5 @@ pub mod Reading
 pub mod Order
 pub mod Due
 pub mod Rounded
+pub mod Editions
 pub mod Steps

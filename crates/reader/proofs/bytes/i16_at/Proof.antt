@@ -1,6 +1,5 @@
 -- `reader::bytes::i16_at` meets its contract. Assumes nothing.
 use borrow.Author.Needs.{needs}
-use native.Mathlib.Omega.{arith}
 use mathlib.Core.Path.{ap, _∙_}
 use Rattle.reader.specs.File.{signed16}
 use Rattle.reader.proofs.Signed.{low-half, fits-64, fits-16, high-half}

@@ -1,0 +1,47 @@
+-- Two files of edition 2, worked out: a normal out of range is refused in the chain, and not looked at in a spare record (rule 4.18). Assumes nothing.
+use mathlib.Core.Path.{_≡_, refl}
+use mathlib.Core.List.{List, [], _∷_, _++_}
+use Prim.Native.Nat.{ℕ}
+use lib.Ieee.{ofBits}
+use lib.ListN.{replicate}
+use Rattle.lists.specs.Lists.{upFrom, someFrom}
+use Rattle.grid.specs.Number.{finite, numerator, denominator, negative, inRange, roundEighths}
+use Rattle.polygon.specs.Polygon.{repeatedVertex}
+use Rattle.reader.specs.File.{layoutOf, lengthWrong}
+use Rattle.reader.specs.Record.{recordAt, numbersCode, vertexOf, normalIn}
+use Rattle.reader.specs.Chain.{link, metBefore, heightBefore, positionCode, codeFrom, endFrom}
+use Rattle.reader.specs.Reading.{numberDue}
+
+-- the point (x, y, 0) with x and y of 0 mm or 1 mm, by the two high bytes of each, and a link
+abbrev point-then : ℕ → List ℕ → List ℕ → List ℕ
+point-then next x y = (next ∷ 0 ∷ 1 ∷ 0 ∷ 0 ∷ 0 ∷ []) ++ x ++ (0 ∷ 0 ∷ []) ++ y ++ replicate 4 0
+
+abbrev zero-mm : List ℕ
+zero-mm = 0 ∷ 0 ∷ []
+
+abbrev one-mm : List ℕ
+one-mm = 128 ∷ 63 ∷ []
+
+-- the normals (0, 0, 0) and (0, 0, 2000)
+abbrev no-surface : List ℕ
+no-surface = replicate 6 0
+
+abbrev too-long : List ℕ
+too-long = replicate 4 0 ++ (208 ∷ 7 ∷ [])
+
+-- a chain of records 1, 2 and 3, with the normal that record 3 has and the one that the spare record 4 has
+abbrev file : List ℕ → List ℕ → List ℕ
+file last spare =
+    (255 ∷ 255 ∷ 1 ∷ 0 ∷ 4 ∷ 0 ∷ 1 ∷ 0 ∷ 1 ∷ 0 ∷ [])
+    ++ point-then 2 zero-mm zero-mm ++ no-surface
+    ++ point-then 3 one-mm zero-mm ++ no-surface
+    ++ point-then 0 zero-mm one-mm ++ last
+    ++ point-then 0 one-mm one-mm ++ spare
+
+pub spare-normal-taken : numberDue (file no-surface too-long) ≡ 0
+unfolding ofBits upFrom someFrom finite numerator denominator negative inRange roundEighths repeatedVertex layoutOf lengthWrong recordAt numbersCode vertexOf normalIn link metBefore heightBefore positionCode codeFrom endFrom numberDue
+spare-normal-taken = refl
+
+pub chain-normal-refused : numberDue (file too-long no-surface) ≡ 18
+unfolding ofBits upFrom someFrom finite numerator denominator negative inRange roundEighths repeatedVertex layoutOf lengthWrong recordAt numbersCode vertexOf normalIn link metBefore heightBefore positionCode codeFrom endFrom numberDue
+chain-normal-refused = refl
