@@ -20,6 +20,9 @@ module _ (s : List ℕ) where
   unfolding layoutOf
   edition2 e = yes _ _ e
 
+  pub start-1 : isEdition2 s ≡ false → headerStart s ≡ 0
+  start-1 e = ap (λ (l : Layout). l .header) (edition1 e)
+
   pub size-1 : isEdition2 s ≡ false → recordSize s ≡ recordSize1
   size-1 e = ap (λ (l : Layout). l .«record_size») (edition1 e)
 

@@ -1,0 +1,115 @@
+-- Where no surface adjoins the rim, the answer is that of areas and rows alone: for every file of edition 1, and for a file of edition 2 whose normals are
+-- all zero. Assumes nothing.
+use mathlib.Core.Path.{_≡_, refl, sym, ap, _∙_, subst}
+use mathlib.Core.Bool.{Bool, true, false, cond, not}
+use mathlib.Core.List.{List, [], _∷_, map, List·Memᴰ, List·Memᴰ·head, List·Memᴰ·tail}
+use Prim.Native.Nat.{ℕ, zero, suc, _+_, _-_, _*_, _<_}
+use native.Mathlib.Omega.{arith}
+use lib.Dec.{ltb, eqb}
+use lib.ListN.{length}
+use Rattle.lists.specs.Lists.{both, either}
+use Rattle.lists.proofs.Choice.{true-not-false}
+use Rattle.polygon.specs.declared.Polygon.{Polygon}
+use Rattle.polygon.specs.declared.normal.Normal.{Normal}
+use Rattle.polygon.specs.Polygon.{firstDue}
+use Rattle.polygon.specs.Normal.{noNormal, normalAt}
+use Rattle.terms.specs.Entries.{vertexA, vertexB, vertexC}
+use Rattle.reader.specs.declared.Status.the-variants.{Complete}
+use Rattle.reader.specs.File.{u16At, isEdition2, headerStart, recordSize, lengthWrong}
+use Rattle.reader.specs.Due.{HasNormal, held, none}
+use Rattle.reader.specs.Editions.{SameRim}
+use Rattle.reader.specs.Reading.{answer, polygonOf, readingOf}
+use Rattle.reader.specs.Reading as reader
+use Rattle.reader.proofs.Layouts.{start-1, size-1}
+use Rattle.reader.proofs.Accepted.{read-normals}
+use Rattle.reader.proofs.Editions.{number-same, polygon-same}
+use Rattle.faces.proofs.Members.{triples-member}
+use Rattle.delaunay.specs.Candidates.{isCandidate, candidatesOf}
+use Rattle.dihedrals.specs.Dihedrals.{faceNormal}
+use Rattle.weights.specs.Weights.{edgeNormal, outsideWeightOf, outsideWeight, areaWeight, ownWeight}
+use Rattle.weights.proofs.Surfaces.{outside-none}
+use Rattle.pipeline.specs.Patching.{Tables, weightsIn, patchedWith, patchBy, polygonNumber, fileNumber, patchFile}
+use Rattle.demands.specs.Base.{NoSurface, areaWeights, baseBy, baseFile, Edition1}
+
+map-members : {A B : Type 0} (f g : A → B) (l : List A) → ((x : A) → List·Memᴰ x l → f x ≡ g x) → map f l ≡ map g l
+map-members f g [] h = refl
+map-members f g (x ∷ l) h = λ i. h x (List·Memᴰ·head refl) i ∷ map-members f g l (λ y m. h y (List·Memᴰ·tail m)) i
+
+edge-none : (n x y : ℕ) → edgeNormal n x y noNormal noNormal ≡ noNormal
+unfolding edgeNormal
+edge-none n x y = by (eqb y (x + 1)) (both (eqb x 0) (eqb (y + 1) n))
+  where
+    by : (a b : Bool) → cond a noNormal (cond b noNormal noNormal) ≡ noNormal
+    by true b = refl
+    by false true = refl
+    by false false = refl
+
+-- ---- a polygon without a surface outside
+module _ (p : Polygon) (bare : NoSurface p) where
+  no-bend : (t : List ℕ) (x y : ℕ) → x < p .n → y < p .n → outsideWeight p t x y ≡ 0
+  no-bend t x y h k =
+      ap (outsideWeightOf (p .«bend_factor») (faceNormal p t)) ((λ i. edgeNormal (p .n) x y (bare .none x h i) (bare .none y k i)) ∙ edge-none (p .n) x y)
+      ∙ outside-none (p .«bend_factor») (faceNormal p t) noNormal refl
+
+  own-is-area : (t : List ℕ) → List·Memᴰ t (candidatesOf p) → ownWeight p t ≡ areaWeight p t
+  own-is-area t m =
+      let r = triples-member (p .n) (isCandidate p) t m in
+      let a : vertexA t < p .n = omega (arith, ap vertexA (r .is), r .a<b, r .b<c, r .c<n) in
+      let b : vertexB t < p .n = omega (arith, ap vertexB (r .is), r .b<c, r .c<n) in
+      let c : vertexC t < p .n = omega (arith, ap vertexC (r .is), r .c<n) in
+      omega (arith, no-bend t (vertexA t) (vertexB t) a b, no-bend t (vertexB t) (vertexC t) b c, no-bend t (vertexA t) (vertexC t) a c)
+
+  pub areas-alone : weightsIn p ≡ areaWeights p
+  areas-alone = map-members (ownWeight p) (areaWeight p) (candidatesOf p) own-is-area
+
+-- ---- files
+module _ (file : List ℕ) (t : Tables) where
+  by-number : (k : ℕ) → (k ≡ 0 → NoSurface (polygonOf file)) → patchBy k (polygonOf file) t ≡ baseBy k (polygonOf file) t
+  by-number zero h = ap (λ (w : List ℕ). patchedWith w (polygonOf file) t) (areas-alone (polygonOf file) (h refl))
+  by-number (suc k) h = refl
+
+  -- a file of whichever edition whose rim has no surface outside
+  pub no-surface-answer : NoSurface (polygonOf file) → patchFile file t ≡ baseFile file t
+  unfolding patchFile
+  no-surface-answer bare = by-number (fileNumber file t) (λ e. bare)
+
+  read-first : (j k : ℕ) → firstDue j k ≡ 0 → j ≡ 0
+  read-first zero k e = refl
+  read-first (suc j) k e = e
+
+  module _ (one : isEdition2 file ≡ false) where
+    bare-read : reader.numberDue file ≡ 0 → NoSurface (polygonOf file)
+    bare-read e =
+        let complete : readingOf file .status ≡ Complete = ap (λ (k : ℕ). answer k (polygonOf file) .status) e in
+        let same : readingOf file .polygon ≡ polygonOf file = ap (λ (k : ℕ). answer k (polygonOf file) .polygon) e in
+        subst (λ (p : Polygon). NoSurface p) same (record { none = λ i h. zero-normal (read-normals file complete i h) })
+      where
+        zero-normal : {i : ℕ} {k : Normal} → HasNormal file i k → k ≡ noNormal
+        zero-normal (held i two r) = absurd (true-not-false two one)
+        zero-normal (none i e) = refl
+
+    -- every file of edition 1 has the answer of areas and rows alone
+    pub edition-1-answer : patchFile file t ≡ baseFile file t
+    unfolding patchFile
+    edition-1-answer = by-number (fileNumber file t) (λ e. bare-read (read-first (reader.numberDue file) (polygonNumber (polygonOf file) t) e))
+
+-- and its header and records stand where they did
+pub edition-1-layout : (file : List ℕ) → isEdition2 file ≡ false → Edition1 file
+unfolding lengthWrong
+edition-1-layout file one =
+    let start : headerStart file ≡ 0 = start-1 file one in
+    let size : recordSize file ≡ 16 = size-1 file one in
+    record {
+      first = ap (λ (k : ℕ). u16At file k) start;
+      count = ap (λ (k : ℕ). u16At file (k + 2)) start;
+      area = ap (λ (k : ℕ). u16At file (k + 4)) start;
+      bend = ap (λ (k : ℕ). u16At file (k + 6)) start;
+      records = λ k i. start i + 8 + size i * (k - 1);
+      number-1 = λ i. either (ltb (length file) (start i + 8)) (either (ltb 256 (u16At file (start i + 2))) (not (eqb (length file) (start i + 8 + size i * u16At file (start i + 2)))));
+    }
+
+-- a file of edition 2 with the same header and records as one of edition 1, so that its normals are all zero, has the answer of that one
+pub edition-2-answer : {one two : List ℕ} → isEdition2 one ≡ false → SameRim two one → (t : Tables) → patchFile two t ≡ baseFile one t
+unfolding patchFile
+edition-2-answer {one} {two} e r t =
+    (λ i. patchBy (firstDue (number-same r i) (polygonNumber (polygon-same r i) t)) (polygon-same r i) t) ∙ edition-1-answer one t e
