@@ -18,7 +18,7 @@ use Rattle.pipeline.specs.Patching.{Tables, Patching, refused, patchedWith, fil
 pub record NoSurface (p : Polygon) : Type 0 where
   pub none : (i : ℕ) → i < p .n → normalAt (p .normals) i ≡ noNormal
 
--- the weights then: the area weights (rule 2.8)
+-- the weights then: the area weights (rules 2.8, 2.16)
 abbrev pub areaWeights : Polygon → List ℕ
 areaWeights p = map (areaWeight p) (candidatesOf p)
 
@@ -27,7 +27,7 @@ abbrev pub baseBy : ℕ → Polygon → Tables → Patching
 baseBy zero p t = patchedWith (areaWeights p) p t
 baseBy (suc k) p t = refused (suc k) t
 
--- the answer to a file, its normals not looked at (rule 3.10)
+-- the answer to a file, its normals not looked at (rule 2.16)
 abbrev pub baseFile : List ℕ → Tables → Patching
 baseFile file t = baseBy (fileNumber file t) (polygonOf file) t
 
