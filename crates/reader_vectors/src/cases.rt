@@ -8,26 +8,27 @@ use crate::text;
 use crate::text::Text;
 ghost use Prim.Native.Nat.{_≤_};
 
-// Sets the file that a case starts from, P or a chain, and returns the case's length.
-fn set_base(file: &mut Bytes, text: &Text, at: usize) -> usize {
+// Sets the file that a case starts from, P, Q or a chain, and returns the case's length.
+fn set_base(file: &mut Bytes, second: bool, text: &Text, at: usize) -> usize {
     file::clear(file);
-    if text::byte(text, at) == b'P' {
-        file::four_points(file);
+    if text::byte(text, at) < b'c' {
+        file::four_points(file, second);
         let length = text::decimal(text, at);
         return length.value as usize;
     }
     let n = text::decimal(text, at);
     let count = text::decimal(text, n.end);
     let stride = text::decimal(text, count.end);
-    file::chain(file, n.value, count.value, stride.value);
+    file::chain(file, second, n.value, count.value, stride.value);
     let length = text::decimal(text, stride.end);
     length.value as usize
 }
 
 // A file with its changes.
 fn run_file(file: &mut Bytes, text: &Text, at: usize, answer: usize) {
-    let length = set_base(file, text, at);
-    file::change_all(file, text, at);
+    let second = file::is_second(text, at);
+    let length = set_base(file, second, text, at);
+    file::change_all(file, second, text, at);
     let mut numbers = [0i64; COUNT];
     let n = answers::of_file(text, at, answer, &mut numbers);
     compare(file, length, answers::number_due(text, answer), n, &numbers);
@@ -45,7 +46,7 @@ fn run_number(file: &mut Bytes, text: &Text, place: usize, bits: u32, answer: us
 
 // A case with nothing but a number's bits before the colon tries them at each place.
 fn run_case(file: &mut Bytes, text: &Text, at: usize, colon: usize)
-    requires { ⌜ colon ≤ 16384 ⌝ }
+    requires { ⌜ colon ≤ 24576 ⌝ }
 {
     io::write_all(1, b":");
     let bits = text::number_in(text, at, 16);
@@ -60,7 +61,7 @@ fn run_case(file: &mut Bytes, text: &Text, at: usize, colon: usize)
 
 // Where the part of a line that is printed ends: at a semicolon, a colon or the line's end.
 fn printed_end(text: &Text, at: usize) -> usize
-    ensures { λ r. ⌜ r ≤ 16384 ⌝ }
+    ensures { λ r. ⌜ r ≤ 24576 ⌝ }
 {
     for i in at..text::ROOM {
         let c = text[i];

@@ -2,11 +2,15 @@
 use crate::file::Bytes;
 use grid::GridPoint;
 use polygon::Polygon;
+use polygon::normal::Normal;
 use reader::Reading;
 ghost use Prim.Native.Nat.{_≤_};
 
-// Two factors and the coordinates of 64 vertices.
-pub const COUNT: usize = 194;
+// Two factors, the coordinates of 64 vertices, and the numbers of their normals.
+pub const COUNT: usize = 386;
+
+// Where those of the normals start.
+pub const NORMALS: usize = 194;
 
 // A polygon's numbers, and 0 in the places after them.
 pub type Numbers = [i64; COUNT];
@@ -25,7 +29,18 @@ fn is_point(p: GridPoint, numbers: &Numbers, at: usize) -> bool
     p.x == numbers[at] && p.y == numbers[at + 1] && p.z == numbers[at + 2]
 }
 
-// Compares all places: those after the vertices hold the origin.
+fn wide(number: i16) -> i64 {
+    number as i64
+}
+
+// Is q the normal whose numbers start at `at`?
+fn is_normal(q: Normal, numbers: &Numbers, at: usize) -> bool
+    requires { ⌜ at ≤ 383 ⌝ }
+{
+    wide(q.x) == numbers[at] && wide(q.y) == numbers[at + 1] && wide(q.z) == numbers[at + 2]
+}
+
+// Compares all places: those after the vertices hold the origin and no normal.
 fn same_polygon(p: Polygon, n: u32, numbers: &Numbers) -> bool {
     if p.n != n as usize {
         return false;
@@ -37,8 +52,12 @@ fn same_polygon(p: Polygon, n: u32, numbers: &Numbers) -> bool {
         return false;
     }
     let vertices = p.vertices;
+    let normals = p.normals;
     for i in 0..terms::MAX_VERTICES {
         if !is_point(vertices[i], numbers, 2 + 3 * i) {
+            return false;
+        }
+        if !is_normal(normals[i], numbers, NORMALS + 3 * i) {
             return false;
         }
     }

@@ -2,7 +2,7 @@
 ghost use Prim.Native.Nat.{_≤_};
 
 // Room for the text. Zeros stand after its end.
-pub const ROOM: usize = 16384;
+pub const ROOM: usize = 24576;
 
 pub type Text = [u8; ROOM];
 
@@ -20,7 +20,7 @@ pub(crate) fn byte(text: &Text, at: usize) -> u8 {
 
 // The first place from `at` on that holds c, or the end.
 pub(crate) fn find(text: &Text, at: usize, c: u8) -> usize
-    ensures { λ r. ⌜ r ≤ 16384 ⌝ }
+    ensures { λ r. ⌜ r ≤ 24576 ⌝ }
 {
     for i in at..ROOM {
         if text[i] == c {
@@ -80,4 +80,12 @@ pub(crate) fn number_in(text: &Text, at: usize, base: u32) -> Number {
 
 pub(crate) fn decimal(text: &Text, at: usize) -> Number {
     number_in(text, at, 10)
+}
+
+// The bits of a number, in two's complement.
+pub(crate) fn bits(number: Number) -> u32 {
+    if number.minus {
+        return std::num::wrapping_sub_u32(0, number.value);
+    }
+    number.value
 }

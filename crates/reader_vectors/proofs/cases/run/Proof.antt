@@ -8,7 +8,7 @@ abbrev Inv-loop : tie.InvT-loop
 Inv-loop file₀ text i₀ file i = Unit
 
 abbrev μ-loop : tie.MeasureT-loop
-μ-loop file₀ text i₀ file i = 16384 - i
+μ-loop file₀ text i₀ file i = 24576 - i
 
 loop-holds : tie.Need-loop-holds Inv-loop μ-loop
 loop-holds c = search needs

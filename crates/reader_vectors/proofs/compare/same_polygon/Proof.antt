@@ -5,10 +5,10 @@ use Rattle.reader_vectors.proofs.compare.same_polygon.Statement.{statem
 use Rattle.reader_vectors.proofs.compare.same_polygon.Tie as tie
 
 abbrev Inv-loop : tie.InvT-loop
-Inv-loop n numbers vertices i₀ i = Unit
+Inv-loop n numbers vertices normals i₀ i = Unit
 
 abbrev μ-loop : tie.MeasureT-loop
-μ-loop n numbers vertices i₀ i = 64 - i
+μ-loop n numbers vertices normals i₀ i = 64 - i
 
 returns : tie.Need-returns Inv-loop μ-loop
 returns c = search needs
@@ -52,6 +52,24 @@ is-point-requires c κs = search needs
 returns-4 : tie.Need-returns-4 Inv-loop μ-loop
 returns-4 c = search needs
 
+mul-is-normal : tie.Need-mul-is-normal Inv-loop μ-loop
+mul-is-normal c = search needs
+
+array-copy-out-is-normal : tie.Need-array-copy-out-is-normal Inv-loop μ-loop
+array-copy-out-is-normal c = search needs
+
+mul-is-normal-2 : tie.Need-mul-is-normal-2 Inv-loop μ-loop
+mul-is-normal-2 c = search needs
+
+add-is-normal : tie.Need-add-is-normal Inv-loop μ-loop
+add-is-normal c = search needs
+
+is-normal-requires : tie.Need-is-normal-requires Inv-loop μ-loop
+is-normal-requires c κs = search needs
+
+returns-5 : tie.Need-returns-5 Inv-loop μ-loop
+returns-5 c = search needs
+
 add-i : tie.Need-add-i Inv-loop μ-loop
 add-i c = search needs
 
@@ -61,8 +79,8 @@ loop-less c = search needs
 loop-again : tie.Need-loop-again Inv-loop μ-loop
 loop-again c = search needs
 
-returns-5 : tie.Need-returns-5 Inv-loop μ-loop
-returns-5 c = search needs
+returns-6 : tie.Need-returns-6 Inv-loop μ-loop
+returns-6 c = search needs
 
 pub same-polygon-spec : {M : Type 1} → statement M
 same-polygon-spec =
@@ -84,7 +102,13 @@ same-polygon-spec =
     add-is-point
     is-point-requires
     returns-4
+    mul-is-normal
+    array-copy-out-is-normal
+    mul-is-normal-2
+    add-is-normal
+    is-normal-requires
+    returns-5
     add-i
     loop-less
     loop-again
-    returns-5)
+    returns-6)

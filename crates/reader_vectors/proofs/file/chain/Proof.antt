@@ -5,10 +5,10 @@ use Rattle.reader_vectors.proofs.file.chain.Statement.{statement}
 use Rattle.reader_vectors.proofs.file.chain.Tie as tie
 
 abbrev Inv-loop : tie.InvT-loop
-Inv-loop file₀ n count stride record₀ i₀ file «record» i = Unit
+Inv-loop file₀ second n count stride record₀ i₀ file «record» i = Unit
 
 abbrev μ-loop : tie.MeasureT-loop
-μ-loop file₀ n count stride record₀ i₀ file «record» i = n - i
+μ-loop file₀ second n count stride record₀ i₀ file «record» i = n - i
 
 set-header-requires : tie.Need-set-header-requires Inv-loop μ-loop
 set-header-requires c κs = search needs

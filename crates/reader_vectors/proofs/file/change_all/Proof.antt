@@ -5,10 +5,10 @@ use Rattle.reader_vectors.proofs.file.change_all.Statement.{statement}
 use Rattle.reader_vectors.proofs.file.change_all.Tie as tie
 
 abbrev Inv-loop : tie.InvT-loop
-Inv-loop file₀ text at i₀ file i = Unit
+Inv-loop file₀ second text at i₀ file i = Unit
 
 abbrev μ-loop : tie.MeasureT-loop
-μ-loop file₀ text at i₀ file i = 16384 - i
+μ-loop file₀ second text at i₀ file i = 24576 - i
 
 loop-holds : tie.Need-loop-holds Inv-loop μ-loop
 loop-holds c = search needs

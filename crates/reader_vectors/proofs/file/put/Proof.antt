@@ -8,7 +8,7 @@ abbrev Inv-loop : tie.InvT-loop
 Inv-loop file₀ at size value left₀ rest₀ i₀ file left rest i = Unit
 
 abbrev μ-loop : tie.MeasureT-loop
-μ-loop file₀ at size value left₀ rest₀ i₀ file left rest i = 4136 - i
+μ-loop file₀ at size value left₀ rest₀ i₀ file left rest i = 5686 - i
 
 loop-holds : tie.Need-loop-holds Inv-loop μ-loop
 loop-holds c = search needs

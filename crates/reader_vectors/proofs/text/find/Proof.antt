@@ -8,7 +8,7 @@ abbrev Inv-loop : tie.InvT-loop
 Inv-loop text at c i₀ i = Unit
 
 abbrev μ-loop : tie.MeasureT-loop
-μ-loop text at c i₀ i = 16384 - i
+μ-loop text at c i₀ i = 24576 - i
 
 loop-holds : tie.Need-loop-holds Inv-loop μ-loop
 loop-holds c = search needs

@@ -8,7 +8,7 @@ abbrev Inv-loop : tie.InvT-loop
 Inv-loop text at base value₀ minus₀ found₀ i₀ value minus found i = Unit
 
 abbrev μ-loop : tie.MeasureT-loop
-μ-loop text at base value₀ minus₀ found₀ i₀ value minus found i = 16384 - i
+μ-loop text at base value₀ minus₀ found₀ i₀ value minus found i = 24576 - i
 
 loop-holds : tie.Need-loop-holds Inv-loop μ-loop
 loop-holds c = search needs
