@@ -15,8 +15,8 @@
  *
  * Editions. A call that takes a rim file takes both editions; a file whose first two bytes are both 255 is of edition 2.
  *   edition 1   8 + 16 * R bytes for R records; the weight of a candidate is its area weight
- *   edition 2   10 + 22 * R bytes: a record ends in the normal of the surface outside its rim edge; the weight of a candidate is its area weight and, for
- *               each of its rim edges that has a normal, the bend factor times the bend between the candidate and that surface
+ *   edition 2   10 + 22 * R bytes: a record ends in the normal of the surface at its rim edge; the weight of a candidate is its own weight: area, and
+ *               at each rim edge with a surface outside the bend factor times the bend between the two
  */
 #ifndef PATCH_BOX_H
 #define PATCH_BOX_H

@@ -20,7 +20,7 @@ usage: ./rim make [--area N] [--bend N] [--decimal-comma] [-o FILE] POINTS
 POINTS is text with a line for each point of the rim, in order around the gap; the last point joins
 the first. A line is x y z in millimetres, or x y for a level point, which has the height of the point
 before it. Numbers are separated by blanks or tabs, by commas, or by semicolons; # starts a comment.
-After a point, normal nx ny nz is the normal of the surface outside the edge to the next point (for
+After a point, normal nx ny nz tells how the surface stands outside the edge to the next point (for
 the last point, to the first), which the patch is to leave smoothly: three whole numbers from -1000 to
 1000, best of length 1000, or, where one has a decimal mark, a direction of any length. It looks to
 the side from which the rim runs counterclockwise. 0 0 0, or no normal, is no surface. With a normal

@@ -13,7 +13,7 @@ pub struct Vertex {
     /// The number of its record.
     pub record: u16,
     pub point: [i64; 3],
-    /// Of the surface outside the edge from this vertex to the next; zeros where there is none.
+    /// Of the surface at the edge to the next vertex; zeros where there is none.
     pub normal: [i64; 3],
 }
 

@@ -17,7 +17,7 @@ pub struct Triangle {
 #[derive(Clone, Debug, PartialEq, Eq)]
 pub struct Patch {
     pub vertices: Vec<[i64; 3]>,
-    /// Of the surface outside the edge from each vertex to the next; zeros where there is none.
+    /// Of the surface at the edge to the next vertex, for each; zeros where there is none.
     pub normals: Vec<[i64; 3]>,
     pub triangles: Vec<Triangle>,
     pub total: u64,

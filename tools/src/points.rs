@@ -1,6 +1,6 @@
 //! A list of points as people have it: a line `x y z` in millimetres for each, or `x y` for a level
 //! point, which takes the height of the point before it. After either, `normal nx ny nz` is the normal
-//! of the surface outside the edge from this point to the next. The word keeps apart a normal and
+//! of the existing surface at the edge to the next point. The word keeps apart a normal and
 //! coordinates with decimal commas, which would be as many numbers.
 
 use crate::rim_file::{grid_number, Point, LIMIT, NORMAL_AXES, NORMAL_LIMIT};

@@ -76,7 +76,7 @@ pub struct Point {
     pub x: f32,
     pub y: f32,
     pub height: Option<f32>,
-    /// Of the surface outside the edge from this point to the next, where that is given.
+    /// Of the surface at the edge to the next point, where that is given.
     pub normal: Option<[i16; 3]>,
 }
 

@@ -25,7 +25,7 @@ vectorOf k = record { x = k .x; y = k .y; z = k .z }
 unfoldable pub edgeNormal : ℕ → ℕ → ℕ → Normal → Normal → Normal
 edgeNormal n x y ofX ofY = cond (eqb y (x + 1)) ofX (cond (both (eqb x 0) (eqb (y + 1) n)) ofY noNormal)
 
--- the normal of the surface outside the edge of vertices x < y, none where no surface adjoins it (rule 2.14)
+-- the normal of the surface that adjoins the edge of vertices x < y, none where there is none (rule 2.14)
 abbrev pub outsideNormal : Polygon → ℕ → ℕ → Normal
 outsideNormal p x y = edgeNormal (p .n) x y (normalAt (p .normals) x) (normalAt (p .normals) y)
 
