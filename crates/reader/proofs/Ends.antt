@@ -17,7 +17,7 @@ use Rattle.reader.specs.Due.{HasRecords, DueAt}
 use Rattle.reader.proofs.Lengths.{Whole}
 use Rattle.reader.proofs.Answers.{code-step, end-step, past-limit, Passed, passed}
 use Rattle.reader.proofs.Walking.{positive}
-use Rattle.reader.proofs.Positions.{due-given, Reached, due-reached, shorter, given-due, Passing, passing}
+use Rattle.reader.proofs.Positions.{due-given, Reached, due-reached, shorter, given-due, passing}
 
 -- position i is reached, and no number is given before it
 record Clear (s : List ℕ) (i : ℕ) : Type 0 where
@@ -107,11 +107,11 @@ module _ (s : List ℕ) (n : ℕ) (end : Ends s n) where
       omega (arith, due-given s i k d .some, end .quiet i (before-end i (r .has) (r .goes-on)))
 
   -- each record before the end has a vertex, and a normal in range
-  passed-by : (whole : Whole s) (i : ℕ) (h : i < n) → Passing s whole i (record { has = shorter i (omega arith) (end .has); goes-on = end .has .in-file i h .numbered })
-  passed-by whole i h = passing s whole i (record { has = shorter i (omega arith) (end .has); goes-on = end .has .in-file i h .numbered }) (end .quiet i h)
+  reached-before : (i : ℕ) → i < n → Reached s i
+  reached-before i h = record { has = shorter i (omega arith) (end .has); goes-on = end .has .in-file i h .numbered }
 
   pub no-number : Whole s → (i : ℕ) → i < n → numberOf (vertexAt s i) ≡ 0
-  no-number whole i h = passed-by whole i h .no-number
+  no-number whole i h = passing s whole i (reached-before i h) (end .quiet i h) .no-number
 
   pub in-range : Whole s → (i : ℕ) → i < n → normalInRange (normalAt s i) ≡ true
-  in-range whole i h = passed-by whole i h .in-range
+  in-range whole i h = passing s whole i (reached-before i h) (end .quiet i h) .in-range

@@ -3,7 +3,7 @@ use mathlib.Core.Path.{_≡_, refl, sym, subst}
 use mathlib.Core.Bool.{Bool, true, false}
 use mathlib.Core.List.{List, [], _∷_, List·Memᴰ, List·Memᴰ·head, List·Memᴰ·tail, List·Memᴰ·cases-cons, List·Memᴰ·not-nil}
 use mathlib.Core.Logic.{⊎-elim}
-use Prim.Native.Nat.{ℕ, suc, _+_}
+use Prim.Native.Nat.{ℕ, suc}
 use lib.IntN.{ℤ}
 use Rattle.lists.proofs.Choice.{yes, no, true-not-false, not-true-false}
 use Rattle.grid.specs.Point.{OnGrid, coordinateOnGrid}
@@ -11,11 +11,11 @@ use Rattle.grid.proofs.Points.{on-grid, on-grid-test}
 use Rattle.polygon.specs.Normal.{normal, noNormal, normalInRange}
 use Rattle.polygon.specs.declared.normal.Normal.{Normal}
 use Rattle.polygon.proofs.Normals.{normal-in-range, normal-in-range-test}
-use Rattle.reader.specs.File.{i16At, isEdition2, offset}
-use Rattle.reader.specs.Record.{normalIn}
+use Rattle.reader.specs.File.{isEdition2, offset}
+use Rattle.reader.specs.Record.{heldNormal, normalIn}
 use Rattle.reader.specs.Chain.{link, normalAt}
 use Rattle.reader.specs.Order.{Place, position}
-use Rattle.reader.specs.Due.{normalNumbersOf, normalNumbersAt, HasRecords, heldNormal, HasNormal, held, none, DueAt, normal-out-of-range}
+use Rattle.reader.specs.Due.{normalNumbersOf, normalNumbersAt, HasRecords, HasNormal, held, none, DueAt, normal-out-of-range}
 
 -- a number that is out of range
 pub record Outside (cs : List ℤ) : Type 0 where
@@ -51,7 +51,7 @@ module _ (s : List ℕ) (at : ℕ) where
   numbers-1 : isEdition2 s ≡ false → normalNumbersOf s at ≡ []
   numbers-1 e = no _ _ e
 
-  numbers-2 : isEdition2 s ≡ true → normalNumbersOf s at ≡ i16At s (at + 16) ∷ i16At s (at + 18) ∷ i16At s (at + 20) ∷ []
+  numbers-2 : isEdition2 s ≡ true → normalNumbersOf s at ≡ heldNormal s at .x ∷ heldNormal s at .y ∷ heldNormal s at .z ∷ []
   numbers-2 e = yes _ _ e
 
   -- ---- by its numbers: it is in range exactly where each is
@@ -76,7 +76,7 @@ module _ (s : List ℕ) (at : ℕ) where
       by false e = absurd (true-not-false none-in-range (subst (λ (n : Normal). normalInRange n ≡ false) (normal-1 e) h))
       by true e =
           subst Outside (sym (numbers-2 e))
-          (one-outside (i16At s (at + 16)) (i16At s (at + 18)) (i16At s (at + 20)) (subst (λ (n : Normal). normalInRange n ≡ false) (normal-2 e) h))
+          (one-outside (heldNormal s at .x) (heldNormal s at .y) (heldNormal s at .z) (subst (λ (n : Normal). normalInRange n ≡ false) (normal-2 e) h))
 
 -- ---- number 18 at a position
 module _ (s : List ℕ) (i : ℕ) where

@@ -47,6 +47,15 @@ met-found s (suc j) k e =
     (λ r. let m = met-found s j k r in record { at = m .at; before = omega (arith, m .before); same = m .same })
     (either-cases (eqb (chain.link s j) k) (metBefore s j k) e)
 
+-- ---- no number of a record, and none of its normal
+neither : (j : ℕ) {k : ℕ} → firstDue j k ≡ 0 → (j ≡ 0) × (k ≡ 0)
+neither zero e = (refl, e)
+neither (suc j) e = absurd (omega (arith, e))
+
+quiet : (b : Bool) → _≡_ {A = ℕ} (cond b 0 18) 0 → b ≡ true
+quiet true e = refl
+quiet false e = absurd (omega (arith, e))
+
 module _ (s : List ℕ) (i : ℕ) where
   -- ---- a number that is due at the position: the one that is given is at most that
   -- the first of the record's number and of its normal's
@@ -186,14 +195,6 @@ module _ (s : List ℕ) (whole : Whole s) (i : ℕ) (r : Reached s i) where
     pub no-number : numberOf (vertexAt s i) ≡ 0
     pub in-range : normalInRange (normalAt s i) ≡ true
 
-  none-first : (j : ℕ) {k : ℕ} → firstDue j k ≡ 0 → (j ≡ 0) × (k ≡ 0)
-  none-first zero e = (refl, e)
-  none-first (suc j) e = absurd (omega (arith, e))
-
-  quiet : (b : Bool) → _≡_ {A = ℕ} (cond b 0 18) 0 → b ≡ true
-  quiet true e = refl
-  quiet false e = absurd (omega (arith, e))
-
   pub passing : positionCode s i ≡ 0 → Passing
   unfolding positionCode
   passing e = by (ltb (recordCount s) (chain.link s i)) (metBefore s i (chain.link s i)) (leb maxVertices i) refl refl refl
@@ -202,9 +203,11 @@ module _ (s : List ℕ) (whole : Whole s) (i : ℕ) (r : Reached s i) where
       by true y z p q t = absurd (omega (arith, sym (yes 3 _ p) ∙ e))
       by false true z p q t = absurd (omega (arith, sym (no 3 _ p ∙ yes 4 _ q) ∙ e))
       by false false true p q t = absurd (omega (arith, sym (no 3 _ p ∙ no 4 _ q ∙ yes 5 _ t) ∙ e))
-      by false false false p q t = record {
-        next = next-has (ltb-false (recordCount s) (chain.link s i) p) q;
-        within = leb-false maxVertices i t;
-        no-number = none-first (numberOf (vertexAt s i)) (sym (no 3 _ p ∙ no 4 _ q ∙ no 5 _ t) ∙ e) .0;
-        in-range = quiet (normalInRange (normalAt s i)) (none-first (numberOf (vertexAt s i)) (sym (no 3 _ p ∙ no 4 _ q ∙ no 5 _ t) ∙ e) .1);
-      }
+      by false false false p q t =
+          let n = neither (numberOf (vertexAt s i)) (sym (no 3 _ p ∙ no 4 _ q ∙ no 5 _ t) ∙ e) in
+          record {
+            next = next-has (ltb-false (recordCount s) (chain.link s i) p) q;
+            within = leb-false maxVertices i t;
+            no-number = n .0;
+            in-range = quiet (normalInRange (normalAt s i)) (n .1);
+          }

@@ -26,7 +26,7 @@ number-unless : (k : ℕ) (p : GridPoint) → numberOf (vertexUnless k p) ≡ k
 number-unless zero p = refl
 number-unless (suc k) p = refl
 
--- the number by the tests of the kind, of the height before, of the last four bytes, and of three floats or two
+-- the number by the tests of the kind, of the height before, of the bytes that a level point does not use, and of three floats or two
 abbrev pub tests : (one two kn tail : Bool) (three-floats two-floats : List Float) → ℕ
 tests one two kn tail three-floats two-floats = cond one (numbersCode three-floats) (cond two (cond kn (cond tail (numbersCode two-floats) 8) 7) 6)
 

@@ -10,10 +10,11 @@ use lib.ListN.{length}
 use Rattle.grid.specs.Number.{finite, inRange, roundEighths}
 use Rattle.grid.specs.Point.{point, OnGrid}
 use Rattle.grid.specs.declared.GridPoint.{GridPoint}
-use Rattle.polygon.specs.Normal.{normal, noNormal, NormalInRange}
+use Rattle.polygon.specs.Normal.{noNormal, NormalInRange}
 use Rattle.polygon.specs.declared.normal.Normal.{Normal}
 use Rattle.terms.specs.Limits.{minVertices, maxVertices, maxAreaFactor}
-use Rattle.reader.specs.File.{i16At, isEdition2, headerSize, headerStart, recordSize, areaFactor, recordCount, lengthWrong, offset, kind, firstNumber, secondNumber, thirdNumber, tailZero}
+use Rattle.reader.specs.File.{isEdition2, headerSize, headerStart, recordSize, areaFactor, recordCount, lengthWrong, offset, kind, firstNumber, secondNumber, thirdNumber, tailZero}
+use Rattle.reader.specs.Record.{heldNormal}
 use Rattle.reader.specs.Chain.{link}
 use Rattle.reader.specs.Order.{Place, header, position, rim}
 
@@ -30,7 +31,7 @@ pub record HasRecords (s : List ℕ) (m : ℕ) : Type 0 where
   pub in-file : (i : ℕ) → i < m → InFile s (link s i)
   pub different : (i j : ℕ) → i < j → j < m → link s i ≡ link s j → ⊥
 
--- the kind of the record at position i, and whether its last four bytes are zero (rules 1.3, 1.7)
+-- the kind of the record at position i, and whether the four bytes after its first two floats are zero (rules 1.3, 1.7)
 abbrev pub kindAt : List ℕ → ℕ → ℕ
 kindAt s i = kind s (offset s (link s i))
 
@@ -48,7 +49,7 @@ floatsAt s i = floatsOf s (offset s (link s i))
 
 -- the numbers of the normal of the record at position i (rule 1.13): three in edition 2, none in edition 1
 abbrev pub normalNumbersOf : List ℕ → ℕ → List ℤ
-normalNumbersOf s at = cond (isEdition2 s) (i16At s (at + 16) ∷ i16At s (at + 18) ∷ i16At s (at + 20) ∷ []) []
+normalNumbersOf s at = cond (isEdition2 s) (heldNormal s at .x ∷ heldNormal s at .y ∷ heldNormal s at .z ∷ []) []
 
 abbrev pub normalNumbersAt : List ℕ → ℕ → List ℤ
 normalNumbersAt s i = normalNumbersOf s (offset s (link s i))
@@ -82,9 +83,6 @@ pub data HasVertex (s : List ℕ) : ℕ → GridPoint → Type 0 where
       HasVertex s i (point (xAt s i) (yAt s i) (heightAt s j))
 
 -- the record at position i gives the normal q (rules 1.13, 4.18): in edition 2 the one that it holds, if that is in range, and in edition 1 none
-abbrev pub heldNormal : List ℕ → ℕ → Normal
-heldNormal s at = normal (i16At s (at + 16)) (i16At s (at + 18)) (i16At s (at + 20))
-
 pub data HasNormal (s : List ℕ) : ℕ → Normal → Type 0 where
   held : (i : ℕ) → isEdition2 s ≡ true → NormalInRange (heldNormal s (offset s (link s i))) → HasNormal s i (heldNormal s (offset s (link s i)))
   none : (i : ℕ) → isEdition2 s ≡ false → HasNormal s i noNormal

@@ -101,6 +101,6 @@ secondNumber s i = ofBits binary32 (u32At s (i + 8))
 abbrev pub thirdNumber : List ℕ → ℕ → Float
 thirdNumber s i = ofBits binary32 (u32At s (i + 12))
 
--- the last four bytes of the record that starts at i are zero, as a level point asks (rule 1.7)
+-- the four bytes after the first two floats are zero, as a level point asks (rule 1.7)
 abbrev pub tailZero : List ℕ → ℕ → Bool
 tailZero s i = eqb (u32At s (i + 12)) 0

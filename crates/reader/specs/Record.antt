@@ -30,7 +30,7 @@ abbrev pub heightOf : Height → ℤ
 heightOf Unknown = pos 0
 heightOf (Known h) = h
 
--- what the record that starts at i decodes to (rules 1.6, 1.7): a point, a level point, or 6, 7, or 8 for its last four bytes
+-- what the record that starts at i decodes to (rules 1.6, 1.7): a point, a level point, or 6, 7, or 8 for bytes that are not zero
 unfoldable pub recordAt : List ℕ → ℕ → Bool → Record
 recordAt s i heightKnown =
     cond (eqb (kind s i) 1)
@@ -41,9 +41,12 @@ recordAt s i heightKnown =
     (record-variants.Refused 7))
     (record-variants.Refused 6))
 
--- the normal of the record that starts at i (rule 1.13); a record of edition 1 has none
+-- the normal of the record that starts at i (rule 1.13): three numbers in edition 2; a record of edition 1 has none
+abbrev pub heldNormal : List ℕ → ℕ → Normal
+heldNormal s i = normal (i16At s (i + 16)) (i16At s (i + 18)) (i16At s (i + 20))
+
 unfoldable pub normalIn : List ℕ → ℕ → Normal
-normalIn s i = cond (isEdition2 s) (normal (i16At s (i + 16)) (i16At s (i + 18)) (i16At s (i + 20))) noNormal
+normalIn s i = cond (isEdition2 s) (heldNormal s i) noNormal
 
 -- all floats of a record pass a test
 abbrev pub everyNumber : (Float → Bool) → List Float → Bool
