@@ -1,13 +1,16 @@
--- Two files of edition 2, worked out: a normal out of range is refused in the chain, and not looked at in a spare record (rule 4.18). Assumes nothing.
+-- Files worked out: a normal out of range is refused in the chain, and not looked at in a spare record (rule 4.18); of two files of one length each has its
+-- own edition (rule 1.12). Assumes nothing.
 use mathlib.Core.Path.{_≡_, refl}
+use mathlib.Core.Bool.{Bool}
 use mathlib.Core.List.{List, [], _∷_, _++_}
 use Prim.Native.Nat.{ℕ}
 use lib.Ieee.{ofBits}
-use lib.ListN.{replicate}
+use lib.ListN.{length, replicate}
 use Rattle.lists.specs.Lists.{upFrom, someFrom}
 use Rattle.grid.specs.Number.{finite, numerator, denominator, negative, inRange, roundEighths}
 use Rattle.polygon.specs.Polygon.{repeatedVertex}
-use Rattle.reader.specs.File.{layoutOf, lengthWrong}
+use Rattle.lists.proofs.Choice.{true-not-false}
+use Rattle.reader.specs.File.{isEdition2, layoutOf, lengthWrong}
 use Rattle.reader.specs.Record.{recordAt, numbersCode, vertexOf, normalIn}
 use Rattle.reader.specs.Chain.{link, metBefore, heightBefore, positionCode, codeFrom, endFrom}
 use Rattle.reader.specs.Reading.{numberDue}
@@ -45,3 +48,27 @@ spare-normal-taken = refl
 pub chain-normal-refused : numberDue (file too-long no-surface) ≡ 18
 unfolding ofBits upFrom someFrom finite numerator denominator negative inRange roundEighths repeatedVertex layoutOf lengthWrong recordAt numbersCode vertexOf normalIn link metBefore heightBefore positionCode codeFrom endFrom numberDue
 chain-normal-refused = refl
+
+-- ---- 120 bytes are seven records of edition 1, or five of edition 2
+abbrev seven : List ℕ
+seven = (1 ∷ 0 ∷ 7 ∷ 0 ∷ 1 ∷ 0 ∷ 1 ∷ 0 ∷ []) ++ point-then 2 zero-mm zero-mm ++ point-then 3 one-mm zero-mm ++ point-then 0 zero-mm one-mm ++ replicate 64 0
+
+abbrev five : List ℕ
+five =
+    (255 ∷ 255 ∷ 1 ∷ 0 ∷ 5 ∷ 0 ∷ 1 ∷ 0 ∷ 1 ∷ 0 ∷ [])
+    ++ point-then 2 zero-mm zero-mm ++ no-surface
+    ++ point-then 3 one-mm zero-mm ++ no-surface
+    ++ point-then 0 zero-mm one-mm ++ no-surface
+    ++ replicate 44 0
+
+pub seven-taken : numberDue seven ≡ 0
+unfolding ofBits upFrom someFrom finite numerator denominator negative inRange roundEighths repeatedVertex layoutOf lengthWrong recordAt numbersCode vertexOf normalIn link metBefore heightBefore positionCode codeFrom endFrom numberDue
+seven-taken = refl
+
+pub five-taken : numberDue five ≡ 0
+unfolding ofBits upFrom someFrom finite numerator denominator negative inRange roundEighths repeatedVertex layoutOf lengthWrong recordAt numbersCode vertexOf normalIn link metBefore heightBefore positionCode codeFrom endFrom numberDue
+five-taken = refl
+
+-- so no program tells the edition by the length
+pub edition-by-length-wrong : (by-length : ℕ → Bool) → ((s : List ℕ) → by-length (length s) ≡ isEdition2 s) → ⊥
+edition-by-length-wrong by-length h = true-not-false (h five) (h seven)
