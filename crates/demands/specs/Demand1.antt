@@ -28,7 +28,7 @@ pub data TooShort (needed : Places) (t : Tables) : Type 0 where
   rows : length (t .rows) < needed .rows → TooShort needed t
   work : length (t .work) < needed .candidates → TooShort needed t
 
--- number k is due at a place of the file (rules 4.1 to 4.13); 12 and 13 on the rim as a whole
+-- number k is due at a place of the file (rules 4.1 to 4.13 and 4.18); 12 and 13 on the rim as a whole
 pub data CallDue (file : List ℕ) (t : Tables) : Place → ℕ → Type 0 where
   by-reader : {p : Place} {k : ℕ} → DueAt file p k → CallDue file t p k
   twelve : Cospherical (polygonIn file) → CallDue file t rim 12
