@@ -1,16 +1,19 @@
 -- The edges of a candidate of a polygon: which normals they have, and that its own weight stays below the limit. Assumes nothing.
-use mathlib.Core.Path.{_≡_, sym, subst}
+use mathlib.Core.Path.{_≡_}
+use mathlib.Core.Bool.{true}
 use mathlib.Core.List.{List, []}
 use Prim.Native.Nat.{ℕ, _+_, _*_, _≤_, _<_}
-use native.Mathlib.Nat.{le-trans}
 use native.Mathlib.Omega.{arith}
-use lib.Dec.{lit≤}
 use lib.ListN.{length, getD}
+use Rattle.lists.specs.Lists.{both}
+use Rattle.lists.proofs.Choice.{both-left, both-right}
 use Rattle.lists.proofs.Maps.{map-at}
 use Rattle.polygon.specs.declared.Polygon.{Polygon}
 use Rattle.polygon.specs.Polygon.{Valid}
-use Rattle.polygon.specs.Normal.{normalAt}
+use Rattle.polygon.specs.Normal.{isNone, normalAt}
+use Rattle.geometry.specs.declared.Vector.{Vector}
 use Rattle.geometry.specs.Bounds.{maxLength, maxBend}
+use Rattle.geometry.specs.Faces.{lengthOf, areaWeightOf}
 use Rattle.geometry.proofs.Faces.{length-bound, area-weight-bound}
 use Rattle.terms.specs.Limits.{maxAreaFactor, maxBendFactor, maxWeight}
 use Rattle.terms.specs.Entries.{entryAt, vertexA, vertexB, vertexC}
@@ -19,8 +22,8 @@ use Rattle.dihedrals.specs.Lists.{Corners}
 use Rattle.dihedrals.proofs.Faces.{face-within}
 use Rattle.weights.specs.declared.outside.EdgeNormals.{EdgeNormals}
 use Rattle.weights.specs.Weights.{areaWeight, outsideNormal, outsideWeight, ownWeight, weightsOf}
-use Rattle.weights.specs.Edges.{edgeNormals, EdgesInRange}
-use Rattle.weights.proofs.Surfaces.{edge-in-range, outside-bound}
+use Rattle.weights.specs.Edges.{edgeNormals, EdgesInRange, allNone, ownWeightOf}
+use Rattle.weights.proofs.Surfaces.{edge-in-range, outside-none, outside-bound}
 
 -- the edges of vertices a, b, c
 abbrev pub edgesAt : Polygon → ℕ → ℕ → ℕ → EdgeNormals
@@ -39,6 +42,17 @@ edges-in-range {p} {t} v c =
       of-bc = edge-in-range (p .n) (vertexB t) (vertexC t) b k;
       of-ac = edge-in-range (p .n) (vertexA t) (vertexC t) a k;
     }
+
+-- where no edge has a surface outside, the own weight is the area weight
+pub none-outside : (area bend : ℕ) (normal : Vector) (e : EdgeNormals) → allNone e ≡ true → ownWeightOf area bend normal e ≡ areaWeightOf area (lengthOf normal)
+none-outside area bend normal e h =
+    let rest = both-right (isNone (e .ab)) (both (isNone (e .bc)) (isNone (e .ac))) h in
+    omega (
+      arith,
+      outside-none bend normal (e .ab) (both-left (isNone (e .ab)) (both (isNone (e .bc)) (isNone (e .ac))) h),
+      outside-none bend normal (e .bc) (both-left (isNone (e .bc)) (isNone (e .ac)) rest),
+      outside-none bend normal (e .ac) (both-right (isNone (e .bc)) (isNone (e .ac)) rest),
+    )
 
 -- no own weight is above what a direct job may have
 pub own-weight-bound : {p : Polygon} {t : List ℕ} → Valid p → Corners p t → ownWeight p t ≤ maxWeight

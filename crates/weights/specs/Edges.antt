@@ -1,7 +1,9 @@
 -- The three edges of a candidate, as the functions hand them on. What functions say to each other; nobody has to believe it.
+use mathlib.Core.Bool.{Bool}
 use Prim.Native.Nat.{ℕ, _+_}
+use Rattle.lists.specs.Lists.{both}
 use Rattle.polygon.specs.declared.normal.Normal.{Normal}
-use Rattle.polygon.specs.Normal.{NormalInRange}
+use Rattle.polygon.specs.Normal.{isNone, NormalInRange}
 use Rattle.geometry.specs.declared.Vector.{Vector}
 use Rattle.geometry.specs.Faces.{lengthOf, areaWeightOf}
 use Rattle.weights.specs.declared.outside.EdgeNormals.{EdgeNormals}
@@ -15,6 +17,9 @@ pub record EdgesInRange (e : EdgeNormals) : Type 0 where
   pub of-ab : NormalInRange (e .ab)
   pub of-bc : NormalInRange (e .bc)
   pub of-ac : NormalInRange (e .ac)
+
+abbrev pub allNone : EdgeNormals → Bool
+allNone e = both (isNone (e .ab)) (both (isNone (e .bc)) (isNone (e .ac)))
 
 -- the own weight of a triangle with these edges
 abbrev pub ownWeightOf : ℕ → ℕ → Vector → EdgeNormals → ℕ

@@ -8,7 +8,7 @@ ghost use Rattle.terms.specs.Limits.{maxVertices, maxBendFactor};
 ghost use Rattle.polygon.specs.Normal.{NormalInRange};
 ghost use Rattle.dihedrals.specs.Lists.{Measured};
 ghost use Rattle.weights.specs.Weights.{vectorOf, edgeNormal, outsideWeightOf};
-ghost use Rattle.weights.specs.Edges.{edgeNormals};
+ghost use Rattle.weights.specs.Edges.{edgeNormals, allNone};
 
 fn vector(normal: Normal) -> Vector
     ensures { λ r. ⌜ r ≡ vectorOf normal ⌝ }
@@ -24,6 +24,24 @@ pub(crate) struct EdgeNormals {
     pub ab: Normal,
     pub bc: Normal,
     pub ac: Normal,
+}
+
+impl EdgeNormals {
+    // Has no edge a surface outside?
+    pub(crate) fn all_none(self) -> bool
+        ensures { λ r. ⌜ r ≡ allNone self ⌝ }
+    {
+        let ab = self.ab;
+        let bc = self.bc;
+        let ac = self.ac;
+        if !ab.is_none() {
+            return false;
+        }
+        if !bc.is_none() {
+            return false;
+        }
+        ac.is_none()
+    }
 }
 
 // The normal outside the edge of vertices x < y, which have the normals of_x and of_y.

@@ -1,5 +1,5 @@
 -- `weights::write_weights` meets its contract, by what is left to write. Assumes nothing.
-use mathlib.Core.Path.{_≡_, sym, _∙_, ap, subst}
+use mathlib.Core.Path.{_≡_, refl, sym, _∙_, ap, subst}
 use mathlib.Core.List.{List, [], _∷_, map}
 use Prim.Native.Nat.{ℕ, _+_, _-_, _<_}
 use native.Mathlib.Nat.{add-zero}
@@ -10,17 +10,16 @@ use lib.Seq.{getD-take, getD-drop}
 use Rattle.grid.specs.declared.GridPoint.{GridPoint}
 use Rattle.polygon.specs.declared.Polygon.{Polygon}
 use Rattle.polygon.specs.declared.normal.Normal.{Normal}
-use Rattle.polygon.specs.Normal.{normalAt}
+use Rattle.polygon.specs.Polygon.{vertexAt}
 use Rattle.geometry.specs.declared.Vector.{Vector}
-use Rattle.geometry.specs.Faces.{lengthOf}
+use Rattle.geometry.specs.Faces.{normalOf, lengthOf}
 use Rattle.terms.specs.Entries.{entryAt}
 use Rattle.lists.proofs.Writing.{Writing, start, turn, place, push, all, rest-step, rest-end}
-use Rattle.dihedrals.specs.Dihedrals.{faceNormal, lengthsOf}
-use Rattle.dihedrals.specs.Lists.{Measured}
+use Rattle.dihedrals.specs.Dihedrals.{faceNormal}
 use Rattle.dihedrals.proofs.Faces.{Read, a<limit, b<limit, c<limit, on-grid, normal-is, length-at, face-measured}
 use Rattle.weights.specs.declared.outside.EdgeNormals.{EdgeNormals}
 use Rattle.weights.specs.Weights.{ownWeight, weightsOf}
-use Rattle.weights.specs.Edges.{edgeNormals, EdgesInRange, ownWeightOf}
+use Rattle.weights.specs.Edges.{EdgesInRange, ownWeightOf}
 use Rattle.weights.proofs.Edges.{edgesAt, edgesOf, edges-in-range}
 use Rattle.weights.proofs.write_weights.Statement.{statement}
 use Rattle.weights.proofs.write_weights.Tie as tie
@@ -111,88 +110,89 @@ module _ (g : tie.After-slice-known2 Inv-loop μ-loop) where
 slice-read-m : tie.Need-slice-read-m Inv-loop μ-loop
 slice-read-m c = inside c
 
-mul-normal : tie.Need-mul-normal Inv-loop μ-loop
-mul-normal c = let h = a<limit (corners c) in omega arith
-
-array-copy-out-normal : tie.Need-array-copy-out-normal Inv-loop μ-loop
-array-copy-out-normal c = a<limit (corners c)
-
-mul-normal-2 : tie.Need-mul-normal-2 Inv-loop μ-loop
-mul-normal-2 c = let h = b<limit (corners (c .before)) in omega arith
-
-array-copy-out-normal-2 : tie.Need-array-copy-out-normal-2 Inv-loop μ-loop
-array-copy-out-normal-2 c = b<limit (corners (c .before))
-
-mul-normal-3 : tie.Need-mul-normal-3 Inv-loop μ-loop
-mul-normal-3 c = let h = c<limit (corners (c .before .before)) in omega arith
-
-array-copy-out-normal-3 : tie.Need-array-copy-out-normal-3 Inv-loop μ-loop
-array-copy-out-normal-3 c = c<limit (corners (c .before .before))
-
-normal-requires : tie.Need-normal-requires Inv-loop μ-loop
-normal-requires c κs = on-grid (corners (c .before .before .before))
-
 mul-edge-normals : tie.Need-mul-edge-normals Inv-loop μ-loop
-mul-edge-normals c = let h = a<limit (corners (c .before .before .before .before)) in omega arith
+mul-edge-normals c = let h = a<limit (corners c) in omega arith
 
 array-copy-out-edge-normals : tie.Need-array-copy-out-edge-normals Inv-loop μ-loop
-array-copy-out-edge-normals c = a<limit (corners (c .before .before .before .before))
+array-copy-out-edge-normals c = a<limit (corners c)
 
 mul-edge-normals-2 : tie.Need-mul-edge-normals-2 Inv-loop μ-loop
-mul-edge-normals-2 c = let h = b<limit (corners (c .before .before .before .before .before)) in omega arith
+mul-edge-normals-2 c = let h = b<limit (corners (c .before)) in omega arith
 
 array-copy-out-edge-normals-2 : tie.Need-array-copy-out-edge-normals-2 Inv-loop μ-loop
-array-copy-out-edge-normals-2 c = b<limit (corners (c .before .before .before .before .before))
+array-copy-out-edge-normals-2 c = b<limit (corners (c .before))
 
 mul-edge-normals-3 : tie.Need-mul-edge-normals-3 Inv-loop μ-loop
-mul-edge-normals-3 c = let h = c<limit (corners (c .before .before .before .before .before .before)) in omega arith
+mul-edge-normals-3 c = let h = c<limit (corners (c .before .before)) in omega arith
 
 array-copy-out-edge-normals-3 : tie.Need-array-copy-out-edge-normals-3 Inv-loop μ-loop
-array-copy-out-edge-normals-3 c = c<limit (corners (c .before .before .before .before .before .before))
+array-copy-out-edge-normals-3 c = c<limit (corners (c .before .before))
 
 edge-normals-requires : tie.Need-edge-normals-requires Inv-loop μ-loop
-edge-normals-requires c κs = let r = corners (c .before .before .before .before .before .before .before) in (a<limit r, b<limit r, c<limit r)
+edge-normals-requires c κs = let r = corners (c .before .before .before) in (a<limit r, b<limit r, c<limit r)
 
 -- the candidate's normal, and those outside its edges
 module _ (e : tie.After-edge-normals Inv-loop μ-loop) where
   abbrev read : tie.After-slice-known2 Inv-loop μ-loop
-  read = e .before .before .before .before .before .before .before .before
+  read = e .before .before .before .before
 
-  face-is : e .before .before .before .before .normal .result ≡ faceNormal (polygon read) (candidate read)
-  face-is = normal-is (corners read) (e .before .before .before .before .normal .ensures)
+  abbrev normal : Vector
+  normal = normalOf (vertexAt (polygon read .vertices) (read .before .before .before .wide .result)) (vertexAt (polygon read .vertices) (read .before .before .wide2 .result)) (vertexAt (polygon read .vertices) (read .before .wide3 .result))
 
-  measured : Measured (e .before .before .before .before .normal .result) (getD (table read) (index read) 0)
-  measured = face-measured (begin read .pre .0) (index read) (below read) face-is (length-is read)
+  face-is : normal ≡ faceNormal (polygon read) (candidate read)
+  face-is = normal-is (corners read) refl
 
   edges-are : e .edge-normals .result ≡ edgesOf (polygon read) (candidate read)
   edges-are = e .edge-normals .ensures ∙ (λ i. edgesAt (polygon read) (corners read .a-is i) (corners read .b-is i) (corners read .c-is i))
 
+mul-own-weight : tie.Need-mul-own-weight Inv-loop μ-loop
+mul-own-weight c = let h = a<limit (corners (read c)) in omega arith
+
+array-copy-out-own-weight : tie.Need-array-copy-out-own-weight Inv-loop μ-loop
+array-copy-out-own-weight c = a<limit (corners (read c))
+
+mul-own-weight-2 : tie.Need-mul-own-weight-2 Inv-loop μ-loop
+mul-own-weight-2 c = let h = b<limit (corners (read (c .before))) in omega arith
+
+array-copy-out-own-weight-2 : tie.Need-array-copy-out-own-weight-2 Inv-loop μ-loop
+array-copy-out-own-weight-2 c = b<limit (corners (read (c .before)))
+
+mul-own-weight-3 : tie.Need-mul-own-weight-3 Inv-loop μ-loop
+mul-own-weight-3 c = let h = c<limit (corners (read (c .before .before))) in omega arith
+
+array-copy-out-own-weight-3 : tie.Need-array-copy-out-own-weight-3 Inv-loop μ-loop
+array-copy-out-own-weight-3 c = c<limit (corners (read (c .before .before)))
+
 own-weight-requires : tie.Need-own-weight-requires Inv-loop μ-loop
 own-weight-requires c κs =
-    let s = begin (read c) in
-    (omega (arith, s .pre .0 .valid .area-factor), s .pre .0 .valid .bend-factor, measured c, subst (λ (e : EdgeNormals). EdgesInRange e) (sym (edges-are c)) (edges-in-range (s .pre .0 .valid) (s .pre .0 .corners (index (read c)) (below (read c)))))
+    let e = c .before .before .before in
+    let g = read e in
+    let s = begin g in
+    let q = on-grid (corners g) in
+    (omega (arith, s .pre .0 .valid .area-factor), s .pre .0 .valid .bend-factor, q .0, q .1, q .2, face-measured (s .pre .0) (index g) (below g) (face-is e) (length-is g), subst (λ (x : EdgeNormals). EdgesInRange x) (sym (edges-are e)) (edges-in-range (s .pre .0 .valid) (s .pre .0 .corners (index g) (below g))))
 
 -- the weight that is written next
 next : (o : tie.After-own-weight Inv-loop μ-loop) →
-    let g = read (o .before) in
+    let g = read (o .before .before .before .before) in
     Writing (weightsOf (polygon g) (list g)) (o .own-weight .result ∷ map (ownWeight (polygon g)) (drop (index g + 1) (list g))) (begin g .args .weights .now) 0 (table g) (index g)
 next o =
-    let g = read (o .before) in
+    let e = o .before .before .before .before in
+    let g = read e in
     let p = polygon g in
-    let w = o .own-weight .ensures ∙ (λ i. ownWeightOf (p .«area_factor») (p .«bend_factor») (face-is (o .before) i) (edges-are (o .before) i)) in
+    let w = o .own-weight .ensures ∙ (λ i. ownWeightOf (p .«area_factor») (p .«bend_factor») (face-is e i) (edges-are e i)) in
     turn (rest-step (ownWeight p) (list g) (index g) [] (below g) ∙ ap (λ (k : ℕ). k ∷ map (ownWeight p) (drop (index g + 1) (list g))) (sym w)) (g .before .before .before .before .before .before .loop .inv)
 
 mul-weights : tie.Need-mul-weights Inv-loop μ-loop
-mul-weights c = let g = read (c .before) in omega (arith, inside g, begin g .good)
+mul-weights c = let g = read (c .before .before .before .before) in omega (arith, inside g, begin g .good)
 
 slice-write-weights : tie.Need-slice-write-weights Inv-loop μ-loop
 slice-write-weights c = place (next c)
 
 add-i : tie.Need-add-i Inv-loop μ-loop
-add-i c = let g = read (c .before) in omega (arith, inside g, begin g .good)
+add-i c = let g = read (c .before .before .before .before) in omega (arith, inside g, begin g .good)
 
 loop-less : tie.Need-loop-less Inv-loop μ-loop
-loop-less c = omega (arith, below (read (c .before)))
+loop-less c = omega (arith, below (read (c .before .before .before .before)))
 
 loop-again : tie.Need-loop-again Inv-loop μ-loop
 loop-again c = push (next c)
@@ -220,13 +220,6 @@ write-weights-spec =
     wide-requires-3
     mul-m
     slice-read-m
-    mul-normal
-    array-copy-out-normal
-    mul-normal-2
-    array-copy-out-normal-2
-    mul-normal-3
-    array-copy-out-normal-3
-    normal-requires
     mul-edge-normals
     array-copy-out-edge-normals
     mul-edge-normals-2
@@ -234,6 +227,12 @@ write-weights-spec =
     mul-edge-normals-3
     array-copy-out-edge-normals-3
     edge-normals-requires
+    mul-own-weight
+    array-copy-out-own-weight
+    mul-own-weight-2
+    array-copy-out-own-weight-2
+    mul-own-weight-3
+    array-copy-out-own-weight-3
     own-weight-requires
     mul-weights
     slice-write-weights
