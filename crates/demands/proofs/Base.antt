@@ -8,20 +8,21 @@ use native.Mathlib.Omega.{arith}
 use lib.Dec.{ltb, eqb}
 use lib.ListN.{length}
 use Rattle.lists.specs.Lists.{both, either}
-use Rattle.lists.proofs.Choice.{true-not-false}
 use Rattle.polygon.specs.declared.Polygon.{Polygon}
 use Rattle.polygon.specs.declared.normal.Normal.{Normal}
 use Rattle.polygon.specs.Polygon.{firstDue}
 use Rattle.polygon.specs.Normal.{noNormal, normalAt}
 use Rattle.terms.specs.Entries.{vertexA, vertexB, vertexC}
 use Rattle.reader.specs.declared.Status.the-variants.{Complete}
-use Rattle.reader.specs.File.{u16At, isEdition2, headerStart, recordSize, lengthWrong}
-use Rattle.reader.specs.Due.{HasNormal, held, none}
+use Rattle.reader.specs.File.{u16At, isEdition2, headerStart, recordSize, offset, lengthWrong}
+use Rattle.reader.specs.Due.{InFile, HasNormal, held, none}
+use Rattle.reader.specs.Chain.{link}
 use Rattle.reader.specs.Editions.{SameRim}
 use Rattle.reader.specs.Reading.{answer, polygonOf, readingOf}
 use Rattle.reader.specs.Reading as reader
 use Rattle.reader.proofs.Layouts.{start-1, size-1}
-use Rattle.reader.proofs.Accepted.{read-normals}
+use Rattle.reader.proofs.Accepted.{read-normals, read-records}
+use Rattle.reader.proofs.Normals.{normal-1, normal-2}
 use Rattle.reader.proofs.Editions.{number-same, polygon-same}
 use Rattle.faces.proofs.Members.{triples-member}
 use Rattle.delaunay.specs.Candidates.{isCandidate, candidatesOf}
@@ -29,7 +30,7 @@ use Rattle.dihedrals.specs.Dihedrals.{faceNormal}
 use Rattle.weights.specs.Weights.{edgeNormal, outsideWeightOf, outsideWeight, areaWeight, ownWeight}
 use Rattle.weights.proofs.Surfaces.{outside-none}
 use Rattle.pipeline.specs.Patching.{Tables, weightsIn, patchedWith, patchBy, polygonNumber, fileNumber, patchFile}
-use Rattle.demands.specs.Base.{NoSurface, areaWeights, baseBy, baseFile, Edition1}
+use Rattle.demands.specs.Base.{NoSurface, ZeroNormals, areaWeights, baseBy, baseFile, Edition1}
 
 map-members : {A B : Type 0} (f g : A → B) (l : List A) → ((x : A) → List·Memᴰ x l → f x ≡ g x) → map f l ≡ map g l
 map-members f g [] h = refl
@@ -63,35 +64,35 @@ module _ (p : Polygon) (bare : NoSurface p) where
   areas-alone = map-members (ownWeight p) (areaWeight p) (candidatesOf p) own-is-area
 
 -- ---- files
-module _ (file : List ℕ) (t : Tables) where
-  by-number : (k : ℕ) → (k ≡ 0 → NoSurface (polygonOf file)) → patchBy k (polygonOf file) t ≡ baseBy k (polygonOf file) t
-  by-number zero h = ap (λ (w : List ℕ). patchedWith w (polygonOf file) t) (areas-alone (polygonOf file) (h refl))
-  by-number (suc k) h = refl
+read-first : (j k : ℕ) → firstDue j k ≡ 0 → j ≡ 0
+read-first zero k e = refl
+read-first (suc j) k e = e
 
-  -- a file of whichever edition whose rim has no surface outside
-  pub no-surface-answer : NoSurface (polygonOf file) → patchFile file t ≡ baseFile file t
-  unfolding patchFile
-  no-surface-answer bare = by-number (fileNumber file t) (λ e. bare)
-
-  read-first : (j k : ℕ) → firstDue j k ≡ 0 → j ≡ 0
-  read-first zero k e = refl
-  read-first (suc j) k e = e
-
-  module _ (one : isEdition2 file ≡ false) where
+module _ (file : List ℕ) where
+  -- a file of which every normal that its chain could have is zero
+  module _ (zeros : ZeroNormals file) where
     bare-read : reader.numberDue file ≡ 0 → NoSurface (polygonOf file)
     bare-read e =
         let complete : readingOf file .status ≡ Complete = ap (λ (k : ℕ). answer k (polygonOf file) .status) e in
         let same : readingOf file .polygon ≡ polygonOf file = ap (λ (k : ℕ). answer k (polygonOf file) .polygon) e in
-        subst (λ (p : Polygon). NoSurface p) same (record { none = λ i h. zero-normal (read-normals file complete i h) })
+        subst (λ (p : Polygon). NoSurface p) same (record { none = λ i h. zero-normal i (read-records file complete i h) (read-normals file complete i h) })
       where
-        zero-normal : {i : ℕ} {k : Normal} → HasNormal file i k → k ≡ noNormal
-        zero-normal (held i two r) = absurd (true-not-false two one)
-        zero-normal (none i e) = refl
+        zero-normal : {q : Normal} (i : ℕ) → InFile file (link file i) → HasNormal file i q → q ≡ noNormal
+        zero-normal _ r (held i two in-range) = sym (normal-2 file (offset file (link file i)) two) ∙ zeros .zero (link file i) (r .numbered) (r .counted)
+        zero-normal _ r (none i one) = refl
 
-    -- every file of edition 1 has the answer of areas and rows alone
-    pub edition-1-answer : patchFile file t ≡ baseFile file t
+    by-number : (t : Tables) (k : ℕ) → (k ≡ 0 → NoSurface (polygonOf file)) → patchBy k (polygonOf file) t ≡ baseBy k (polygonOf file) t
+    by-number t zero h = ap (λ (w : List ℕ). patchedWith w (polygonOf file) t) (areas-alone (polygonOf file) (h refl))
+    by-number t (suc k) h = refl
+
+    -- it has the answer of areas and rows alone
+    pub zero-normals-answer : (t : Tables) → patchFile file t ≡ baseFile file t
     unfolding patchFile
-    edition-1-answer = by-number (fileNumber file t) (λ e. bare-read (read-first (reader.numberDue file) (polygonNumber (polygonOf file) t) e))
+    zero-normals-answer t = by-number t (fileNumber file t) (λ e. bare-read (read-first (reader.numberDue file) (polygonNumber (polygonOf file) t) e))
+
+  -- every file of edition 1 is such a file
+  pub edition-1-answer : isEdition2 file ≡ false → (t : Tables) → patchFile file t ≡ baseFile file t
+  edition-1-answer one = zero-normals-answer (record { zero = λ k h l. normal-1 file (offset file k) one })
 
 -- and its header and records stand where they did
 pub edition-1-layout : (file : List ℕ) → isEdition2 file ≡ false → Edition1 file
@@ -112,4 +113,4 @@ edition-1-layout file one =
 pub edition-2-answer : {one two : List ℕ} → isEdition2 one ≡ false → SameRim two one → (t : Tables) → patchFile two t ≡ baseFile one t
 unfolding patchFile
 edition-2-answer {one} {two} e r t =
-    (λ i. patchBy (firstDue (number-same r i) (polygonNumber (polygon-same r i) t)) (polygon-same r i) t) ∙ edition-1-answer one t e
+    (λ i. patchBy (firstDue (number-same r i) (polygonNumber (polygon-same r i) t)) (polygon-same r i) t) ∙ edition-1-answer one e t

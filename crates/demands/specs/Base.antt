@@ -2,21 +2,26 @@
 use mathlib.Core.Path.{_≡_}
 use mathlib.Core.Bool.{Bool, not}
 use mathlib.Core.List.{List, map}
-use Prim.Native.Nat.{ℕ, zero, suc, _+_, _-_, _*_, _<_}
+use Prim.Native.Nat.{ℕ, zero, suc, _+_, _-_, _*_, _≤_, _<_}
 use lib.Dec.{ltb, eqb}
 use lib.ListN.{length}
 use Rattle.lists.specs.Lists.{either}
 use Rattle.polygon.specs.declared.Polygon.{Polygon}
 use Rattle.polygon.specs.Normal.{noNormal, normalAt}
 use Rattle.reader.specs.File.{u16At, firstRecord, recordCount, areaFactor, bendFactor, offset, lengthWrong}
+use Rattle.reader.specs.Record.{normalIn}
 use Rattle.reader.specs.Reading.{polygonOf}
 use Rattle.delaunay.specs.Candidates.{candidatesOf}
 use Rattle.weights.specs.Weights.{areaWeight}
 use Rattle.pipeline.specs.Patching.{Tables, Patching, refused, patchedWith, fileNumber}
 
--- no edge of the rim has a surface outside (rules 1.13, 1.14)
+-- no edge of the rim has a surface outside (rules 1.13, 1.14, 2.16)
 pub record NoSurface (p : Polygon) : Type 0 where
   pub none : (i : ℕ) → i < p .n → normalAt (p .normals) i ≡ noNormal
+
+-- all records of a file have three zeros for their normal (rule 1.13), as those of edition 1 have
+pub record ZeroNormals (file : List ℕ) : Type 0 where
+  pub zero : (k : ℕ) → 0 < k → k ≤ recordCount file → normalIn file (offset file k) ≡ noNormal
 
 -- the weights then: the area weights (rules 2.8, 2.16)
 abbrev pub areaWeights : Polygon → List ℕ

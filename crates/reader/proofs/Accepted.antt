@@ -15,7 +15,7 @@ use Rattle.polygon.proofs.Validity.{repeated-none}
 use Rattle.reader.specs.File.{headerStart, offset}
 use Rattle.reader.specs.Record.{known, heightOf}
 use Rattle.reader.specs.Chain.{link, heightBefore, vertexAt, numberOf, pointOf, normalAt, vertexCount, verticesOf, normalsOf}
-use Rattle.reader.specs.Due.{HasVertex, HasNormal}
+use Rattle.reader.specs.Due.{InFile, HasVertex, HasNormal}
 use Rattle.reader.specs.Reading.{numberDue, polygonOf, answer, readingOf}
 use Rattle.reader.specs.declared.Height.{Height}
 use Rattle.reader.specs.declared.Vertex.{Vertex}
@@ -94,3 +94,7 @@ module _ (s : List ℕ) (complete : readingOf s .status ≡ Complete) where
   pub read-normals : (i : ℕ) → i < readingOf s .polygon .n → HasNormal s i (polygon-normals.normalAt (readingOf s .polygon .normals) i)
   read-normals = subst (λ p. (i : ℕ) → i < p .n → HasNormal s i (polygon-normals.normalAt (p .normals) i)) (sym complete-polygon)
       (λ i h. subst (λ q. HasNormal s i q) (sym (table-at (λ j. normalAt s j) noNormal (vertexCount s) i h)) (has-normal s i (normal-fine s (complete-read s complete) i h)))
+
+  -- and these records are among those of the file
+  pub read-records : (i : ℕ) → i < readingOf s .polygon .n → InFile s (link s i)
+  read-records = subst (λ p. (i : ℕ) → i < p .n → InFile s (link s i)) (sym complete-polygon) (read-end s (complete-read s complete) .has .in-file)
