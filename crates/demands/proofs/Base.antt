@@ -8,10 +8,11 @@ use native.Mathlib.Omega.{arith}
 use lib.Dec.{ltb, eqb}
 use lib.ListN.{length}
 use Rattle.lists.specs.Lists.{both, either}
+use Rattle.lists.proofs.Choice.{both-true}
 use Rattle.polygon.specs.declared.Polygon.{Polygon}
 use Rattle.polygon.specs.declared.normal.Normal.{Normal}
 use Rattle.polygon.specs.Polygon.{firstDue}
-use Rattle.polygon.specs.Normal.{noNormal, normalAt}
+use Rattle.polygon.specs.Normal.{noNormal, isNone}
 use Rattle.terms.specs.Entries.{vertexA, vertexB, vertexC}
 use Rattle.reader.specs.declared.Status.the-variants.{Complete}
 use Rattle.reader.specs.File.{u16At, isEdition2, headerStart, recordSize, offset, lengthWrong}
@@ -27,8 +28,8 @@ use Rattle.reader.proofs.Editions.{number-same, polygon-same}
 use Rattle.faces.proofs.Members.{triples-member}
 use Rattle.delaunay.specs.Candidates.{isCandidate, candidatesOf}
 use Rattle.dihedrals.specs.Dihedrals.{faceNormal}
-use Rattle.weights.specs.Weights.{edgeNormal, outsideWeightOf, outsideWeight, areaWeight, ownWeight}
-use Rattle.weights.proofs.Surfaces.{outside-none}
+use Rattle.weights.specs.Weights.{edgeNormal, outsideNormal, areaWeight, ownWeight}
+use Rattle.weights.proofs.Edges.{edgesOf, none-outside}
 use Rattle.pipeline.specs.Patching.{Tables, weightsIn, patchedWith, patchBy, polygonNumber, fileNumber, patchFile}
 use Rattle.demands.specs.Base.{NoSurface, ZeroNormals, areaWeights, baseBy, baseFile, Edition1}
 
@@ -47,10 +48,8 @@ edge-none n x y = by (eqb y (x + 1)) (both (eqb x 0) (eqb (y + 1) n))
 
 -- ---- a polygon without a surface outside
 module _ (p : Polygon) (bare : NoSurface p) where
-  no-bend : (t : List ℕ) (x y : ℕ) → x < p .n → y < p .n → outsideWeight p t x y ≡ 0
-  no-bend t x y h k =
-      ap (outsideWeightOf (p .«bend_factor») (faceNormal p t)) ((λ i. edgeNormal (p .n) x y (bare .none x h i) (bare .none y k i)) ∙ edge-none (p .n) x y)
-      ∙ outside-none (p .«bend_factor») (faceNormal p t) noNormal refl
+  edge-bare : (x y : ℕ) → x < p .n → y < p .n → isNone (outsideNormal p x y) ≡ true
+  edge-bare x y h k = ap isNone ((λ i. edgeNormal (p .n) x y (bare .none x h i) (bare .none y k i)) ∙ edge-none (p .n) x y)
 
   own-is-area : (t : List ℕ) → List·Memᴰ t (candidatesOf p) → ownWeight p t ≡ areaWeight p t
   own-is-area t m =
@@ -58,7 +57,8 @@ module _ (p : Polygon) (bare : NoSurface p) where
       let a : vertexA t < p .n = omega (arith, ap vertexA (r .is), r .a<b, r .b<c, r .c<n) in
       let b : vertexB t < p .n = omega (arith, ap vertexB (r .is), r .b<c, r .c<n) in
       let c : vertexC t < p .n = omega (arith, ap vertexC (r .is), r .c<n) in
-      omega (arith, no-bend t (vertexA t) (vertexB t) a b, no-bend t (vertexB t) (vertexC t) b c, no-bend t (vertexA t) (vertexC t) a c)
+      none-outside (p .«area_factor») (p .«bend_factor») (faceNormal p t) (edgesOf p t)
+      (both-true (edge-bare (vertexA t) (vertexB t) a b) (both-true (edge-bare (vertexB t) (vertexC t) b c) (edge-bare (vertexA t) (vertexC t) a c)))
 
   pub areas-alone : weightsIn p ≡ areaWeights p
   areas-alone = map-members (ownWeight p) (areaWeight p) (candidatesOf p) own-is-area

@@ -14,8 +14,7 @@ use Rattle.lists.proofs.Choice.{yes, no}
 use Rattle.grid.specs.Point.{point}
 use Rattle.grid.specs.Number.{finite, numerator, denominator, negative, inRange, roundEighths}
 use Rattle.polygon.specs.declared.Polygon.{Polygon}
-use Rattle.polygon.specs.Polygon.{origin, codeOf, repeatedVertex, firstDue}
-use Rattle.polygon.specs.Polygon as polygon
+use Rattle.polygon.specs.Polygon.{origin, codeOf, repeatedVertex, firstDue, verticesCodeFrom}
 use Rattle.polygon.specs.declared.normal.Normal.{Normal}
 use Rattle.polygon.specs.Normal.{normal, noNormal}
 use Rattle.reader.specs.File.{layoutOf, lengthWrong}
@@ -83,11 +82,11 @@ polygon-N = refl
 
 -- the number due on the polygon, its weights, and the best tiling
 code-P : codeOf (rimWith none) ≡ 0
-unfolding codeOf repeatedVertex polygon.codeFrom someFrom
+unfolding codeOf repeatedVertex verticesCodeFrom someFrom
 code-P = refl
 
 code-N : codeOf (rimWith slopes) ≡ 0
-unfolding codeOf repeatedVertex polygon.codeFrom someFrom
+unfolding codeOf repeatedVertex verticesCodeFrom someFrom
 code-N = refl
 
 weights-P : weightsOf (rimWith none) triplesP ≡ 80 ∷ 64 ∷ 80 ∷ 93 ∷ []

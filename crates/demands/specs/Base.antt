@@ -1,6 +1,6 @@
 -- The answer where no surface adjoins the rim: areas and rows alone, as for files without normals. Definitions only.
 use mathlib.Core.Path.{_≡_}
-use mathlib.Core.Bool.{Bool, not}
+use mathlib.Core.Bool.{not}
 use mathlib.Core.List.{List, map}
 use Prim.Native.Nat.{ℕ, zero, suc, _+_, _-_, _*_, _≤_, _<_}
 use lib.Dec.{ltb, eqb}
@@ -32,7 +32,7 @@ abbrev pub baseBy : ℕ → Polygon → Tables → Patching
 baseBy zero p t = patchedWith (areaWeights p) p t
 baseBy (suc k) p t = refused (suc k) t
 
--- the answer to a file, its normals not looked at (rule 2.16)
+-- the answer to a file by areas and rows alone (rule 2.16)
 abbrev pub baseFile : List ℕ → Tables → Patching
 baseFile file t = baseBy (fileNumber file t) (polygonOf file) t
 

@@ -11,7 +11,7 @@ use Rattle.grid.proofs.Points.{point-on-grid, point-on-grid-test}
 use Rattle.lists.proofs.Choice.{below-or-same}
 use Rattle.polygon.specs.declared.normal.Normal.{Normal}
 use Rattle.polygon.specs.Normal.{normalAt, normalInRange, normalCode, NormalInRange}
-use Rattle.polygon.specs.Polygon.{vertexAt, vertexCode, firstDue, codeFrom, verticesCode}
+use Rattle.polygon.specs.Polygon.{vertexAt, vertexCode, firstDue, verticesCodeFrom, verticesCode}
 use Rattle.polygon.proofs.Normals.{normal-in-range, normal-in-range-test}
 
 -- ---- the first of two numbers
@@ -27,43 +27,43 @@ due-on k e = ap (λ (j : ℕ). firstDue j k) e
 
 module _ (vertices : List GridPoint) (normals : List Normal) where
   -- ---- as a loop finds it
-  step : (i n : ℕ) → i < n → codeFrom vertices normals i (n - i) ≡ firstDue (vertexCode vertices normals i) (codeFrom vertices normals (i + 1) (n - (i + 1)))
-  unfolding codeFrom
+  step : (i n : ℕ) → i < n → verticesCodeFrom vertices normals i (n - i) ≡ firstDue (vertexCode vertices normals i) (verticesCodeFrom vertices normals (i + 1) (n - (i + 1)))
+  unfolding verticesCodeFrom
   step i n l =
       let more : n - i ≡ suc (n - (i + 1)) = omega arith in
       let next : suc i ≡ i + 1 = omega arith in
-      ap (codeFrom vertices normals i) more ∙ ap (λ (j : ℕ). firstDue (vertexCode vertices normals i) (codeFrom vertices normals j (n - (i + 1)))) next
+      ap (verticesCodeFrom vertices normals i) more ∙ ap (λ (j : ℕ). firstDue (vertexCode vertices normals i) (verticesCodeFrom vertices normals j (n - (i + 1)))) next
 
-  pub code-start : (n : ℕ) → codeFrom vertices normals 0 (n - 0) ≡ verticesCode vertices normals n
-  code-start n = let all : n - 0 ≡ n = omega arith in ap (codeFrom vertices normals 0) all
+  pub code-start : (n : ℕ) → verticesCodeFrom vertices normals 0 (n - 0) ≡ verticesCode vertices normals n
+  code-start n = let all : n - 0 ≡ n = omega arith in ap (verticesCodeFrom vertices normals 0) all
 
-  pub code-here : (i n k : ℕ) → i < n → vertexCode vertices normals i ≡ suc k → codeFrom vertices normals i (n - i) ≡ suc k
-  code-here i n k l e = step i n l ∙ ap (λ (c : ℕ). firstDue c (codeFrom vertices normals (i + 1) (n - (i + 1)))) e
+  pub code-here : (i n k : ℕ) → i < n → vertexCode vertices normals i ≡ suc k → verticesCodeFrom vertices normals i (n - i) ≡ suc k
+  code-here i n k l e = step i n l ∙ ap (λ (c : ℕ). firstDue c (verticesCodeFrom vertices normals (i + 1) (n - (i + 1)))) e
 
-  pub code-on : (i n : ℕ) → i < n → vertexCode vertices normals i ≡ 0 → codeFrom vertices normals i (n - i) ≡ codeFrom vertices normals (i + 1) (n - (i + 1))
-  code-on i n l e = step i n l ∙ due-on (codeFrom vertices normals (i + 1) (n - (i + 1))) e
+  pub code-on : (i n : ℕ) → i < n → vertexCode vertices normals i ≡ 0 → verticesCodeFrom vertices normals i (n - i) ≡ verticesCodeFrom vertices normals (i + 1) (n - (i + 1))
+  code-on i n l e = step i n l ∙ due-on (verticesCodeFrom vertices normals (i + 1) (n - (i + 1))) e
 
-  pub code-end : (i n : ℕ) → n ≤ i → codeFrom vertices normals i (n - i) ≡ 0
-  unfolding codeFrom
-  code-end i n h = let none : n - i ≡ 0 = omega arith in ap (codeFrom vertices normals i) none
+  pub code-end : (i n : ℕ) → n ≤ i → verticesCodeFrom vertices normals i (n - i) ≡ 0
+  unfolding verticesCodeFrom
+  code-end i n h = let none : n - i ≡ 0 = omega arith in ap (verticesCodeFrom vertices normals i) none
 
   -- ---- none is due exactly where none is on each vertex
-  clear-each : (i k : ℕ) → codeFrom vertices normals i k ≡ 0 → (j : ℕ) → i ≤ j → j < i + k → vertexCode vertices normals j ≡ 0
-  unfolding codeFrom
+  clear-each : (i k : ℕ) → verticesCodeFrom vertices normals i k ≡ 0 → (j : ℕ) → i ≤ j → j < i + k → vertexCode vertices normals j ≡ 0
+  unfolding verticesCodeFrom
   clear-each i zero h j l m = absurd (omega arith)
   clear-each i (suc k) h j l m = by (vertexCode vertices normals i) refl h (λ d q. clear-each (suc i) k d j q (omega arith)) (below-or-same i j l)
     where
-      by : (c : ℕ) → vertexCode vertices normals i ≡ c → firstDue c (codeFrom vertices normals (suc i) k) ≡ 0 →
-          (codeFrom vertices normals (suc i) k ≡ 0 → i < j → vertexCode vertices normals j ≡ 0) → (i < j) ⊎ (i ≡ j) → vertexCode vertices normals j ≡ 0
+      by : (c : ℕ) → vertexCode vertices normals i ≡ c → firstDue c (verticesCodeFrom vertices normals (suc i) k) ≡ 0 →
+          (verticesCodeFrom vertices normals (suc i) k ≡ 0 → i < j → vertexCode vertices normals j ≡ 0) → (i < j) ⊎ (i ≡ j) → vertexCode vertices normals j ≡ 0
       by zero e d later (inl q) = later d q
       by zero e d later (inr q) = ap (vertexCode vertices normals) (sym q) ∙ e
       by (suc c) e d later o = absurd (omega arith)
 
-  each-clear : (i k : ℕ) → ((j : ℕ) → i ≤ j → j < i + k → vertexCode vertices normals j ≡ 0) → codeFrom vertices normals i k ≡ 0
-  unfolding codeFrom
+  each-clear : (i k : ℕ) → ((j : ℕ) → i ≤ j → j < i + k → vertexCode vertices normals j ≡ 0) → verticesCodeFrom vertices normals i k ≡ 0
+  unfolding verticesCodeFrom
   each-clear i zero h = refl
   each-clear i (suc k) h =
-      due-on (codeFrom vertices normals (suc i) k) (h i (omega arith) (omega arith))
+      due-on (verticesCodeFrom vertices normals (suc i) k) (h i (omega arith) (omega arith))
       ∙ each-clear (suc i) k (λ j l m. h j (omega arith) (omega arith))
 
   -- ---- on one vertex: its point is on the grid and its normal in range

@@ -12,7 +12,7 @@ use Rattle.lists.proofs.Choice.{no}
 use Rattle.lists.proofs.Ranges.{some-none, some-here, some-nowhere, some-found}
 use Rattle.polygon.specs.declared.Polygon.{Polygon}
 use Rattle.terms.specs.Limits.{minVertices, maxVertices, maxAreaFactor, maxBendFactor}
-use Rattle.polygon.specs.Polygon.{vertexAt, samePoint, repeatedVertex, firstDue, codeFrom, verticesCode, codeOf, Valid}
+use Rattle.polygon.specs.Polygon.{vertexAt, samePoint, repeatedVertex, firstDue, verticesCode, codeOf, Valid}
 use Rattle.polygon.proofs.Points.{point-equal, point-same}
 use Rattle.polygon.proofs.Codes.{due-on, on-grid-at, in-range-at, all-clear}
 

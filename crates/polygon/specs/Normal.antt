@@ -24,7 +24,8 @@ isNone n = both (equal (n .x) (pos 0)) (both (equal (n .y) (pos 0)) (equal (n .z
 abbrev pub normalAt : List Normal → ℕ → Normal
 normalAt normals i = getD normals i noNormal
 
--- each number is from -1000 to 1000, the range of the grid (rules 1.11, 4.18), as a fact and as a test
+-- each number is from -1000 to 1000, the range of the grid (rules 1.11, 4.18), as a fact and as a test (that they agree: `normal-in-range` and
+-- `normal-in-range-test` of proofs/Normals.antt)
 pub record NormalInRange (n : Normal) : Type 0 where
   pub x : OnGrid (n .x)
   pub y : OnGrid (n .y)

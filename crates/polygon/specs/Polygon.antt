@@ -45,17 +45,17 @@ firstDue zero k = k
 firstDue (suc j) k = suc j
 
 -- the first number due on vertices i, i + 1 and so on, k of them (rule 4.34)
-unfoldable pub codeFrom : List GridPoint → List Normal → ℕ → ℕ → ℕ
-codeFrom vertices normals i zero = 0
-codeFrom vertices normals i (suc k) = firstDue (vertexCode vertices normals i) (codeFrom vertices normals (suc i) k)
+unfoldable pub verticesCodeFrom : List GridPoint → List Normal → ℕ → ℕ → ℕ
+verticesCodeFrom vertices normals i zero = 0
+verticesCodeFrom vertices normals i (suc k) = firstDue (vertexCode vertices normals i) (verticesCodeFrom vertices normals (suc i) k)
 
 -- the first number due on the first n vertices (rule 4.34)
 abbrev pub verticesCode : List GridPoint → List Normal → ℕ → ℕ
-verticesCode vertices normals n = codeFrom vertices normals 0 n
+verticesCode vertices normals n = verticesCodeFrom vertices normals 0 n
 
 -- the first number due on a polygon, 0 for none (rule 4.34)
 unfoldable pub codeOf : Polygon → ℕ
-unfolding repeatedVertex codeFrom
+unfolding repeatedVertex verticesCodeFrom
 codeOf p =
     cond (ltb maxAreaFactor (p .«area_factor»)) 2
     (cond (ltb maxBendFactor (p .«bend_factor»)) 2

@@ -4,14 +4,14 @@ use Prim.Native.Nat.{_≤_, _-_}
 use native.Mathlib.Omega.{arith}
 use borrow.Author.Needs.{needs}
 use borrow.Author.Tests.{not-true, not-false}
-use Rattle.polygon.specs.Polygon.{codeFrom, verticesCode}
+use Rattle.polygon.specs.Polygon.{verticesCodeFrom, verticesCode}
 use Rattle.polygon.proofs.Codes.{code-start, code-here, code-on, code-end, nine, eighteen, none-due}
 use Rattle.polygon.proofs.vertices_code.Statement.{statement}
 use Rattle.polygon.proofs.vertices_code.Tie as tie
 
 -- what is left to look at decides as the whole does
 abbrev Inv-loop : tie.InvT-loop
-Inv-loop n vertices normals i₀ i = (i ≤ n) × (codeFrom vertices normals i (n - i) ≡ verticesCode vertices normals n)
+Inv-loop n vertices normals i₀ i = (i ≤ n) × (verticesCodeFrom vertices normals i (n - i) ≡ verticesCode vertices normals n)
 
 abbrev μ-loop : tie.MeasureT-loop
 μ-loop n vertices normals i₀ i = n - i

@@ -5,7 +5,7 @@ use Prim.Native.Nat.{ℕ, _+_, _-_, _<_}
 use native.Mathlib.Nat.{add-zero}
 use native.Mathlib.Omega.{arith}
 use borrow.Author.Needs.{needs}
-use lib.ListN.{length, take, drop, getD, length-map}
+use lib.ListN.{length, drop, getD, length-map}
 use lib.Seq.{getD-take, getD-drop}
 use Rattle.grid.specs.declared.GridPoint.{GridPoint}
 use Rattle.polygon.specs.declared.Polygon.{Polygon}
