@@ -7,16 +7,16 @@ use native.Mathlib.Omega.{arith}
 use native.Mathlib.Nat.{mul-le-mul-right, mul-le-mul-left}
 use lib.ListN.{length}
 use Rattle.lists.proofs.Choice.{yes, no, not-true-false, not-false-true}
-use Rattle.reader.specs.File.{u16At, isEdition2, markerSize, headerSize, recordSize1, recordSize2, layoutOf, headerStart, recordSize, recordCount, offset}
+use Rattle.reader.specs.File.{u16At, isEdition2, markerSize, headerSize, recordSize1, recordSize2, layout1, layout2, layoutOf, headerStart, recordSize, recordCount, offset}
 use Rattle.reader.specs.declared.Layout.{Layout}
 
 module _ (s : List ℕ) where
   -- the two editions
-  pub edition1 : isEdition2 s ≡ false → layoutOf s ≡ record { header = 0; «record_size» = recordSize1 }
+  pub edition1 : isEdition2 s ≡ false → layoutOf s ≡ layout1
   unfolding layoutOf
   edition1 e = no _ _ e
 
-  pub edition2 : isEdition2 s ≡ true → layoutOf s ≡ record { header = markerSize; «record_size» = recordSize2 }
+  pub edition2 : isEdition2 s ≡ true → layoutOf s ≡ layout2
   unfolding layoutOf
   edition2 e = yes _ _ e
 
@@ -62,7 +62,7 @@ module _ (s : List ℕ) {l : Layout} (e : l ≡ layoutOf s) where
   pub header-as : l .header ≡ headerStart s
   header-as = ap (λ (m : Layout). m .header) e
 
-  size-as : l .«record_size» ≡ recordSize s
+  pub size-as : l .«record_size» ≡ recordSize s
   size-as = ap (λ (m : Layout). m .«record_size») e
 
   -- the number that stands j bytes into the header

@@ -43,9 +43,15 @@ recordSize1 = 16
 abbrev pub recordSize2 : ℕ
 recordSize2 = 22
 
--- where the header starts, and how many bytes a record has (rule 1.12)
+-- where the header starts, and how many bytes a record has, in each edition and in a file (rule 1.12)
+abbrev pub layout1 : Layout
+layout1 = record { header = 0; «record_size» = recordSize1 }
+
+abbrev pub layout2 : Layout
+layout2 = record { header = markerSize; «record_size» = recordSize2 }
+
 unfoldable pub layoutOf : List ℕ → Layout
-layoutOf s = cond (isEdition2 s) (record { header = markerSize; «record_size» = recordSize2 }) (record { header = 0; «record_size» = recordSize1 })
+layoutOf s = cond (isEdition2 s) layout2 layout1
 
 abbrev pub headerStart : List ℕ → ℕ
 headerStart s = layoutOf s .header

@@ -1,6 +1,7 @@
 // The rim reader: from the bytes of a rim file to its polygon, or the first number due of 1 to 11 and 18.
 mod bytes;
-mod edition;
+pub mod edition;
+pub mod normal;
 mod records;
 mod walk;
 
@@ -16,7 +17,7 @@ const MAX_RECORDS: usize = 256;
 const MARKS: usize = MAX_RECORDS + 1;
 
 // Where the header's four numbers start, and how many bytes a record has (rule 1.12).
-struct Layout {
+pub struct Layout {
     pub header: usize,
     pub record_size: usize,
 }

@@ -1,23 +1,20 @@
-// One record: decoded and put on the grid, and its normal.
+// One record: decoded and put on the grid.
 ghost use mathlib.Core.Path.{_≡_};
 ghost use Prim.Native.Nat.{_+_, _≤_};
 ghost use lib.IntN.{pos};
 ghost use lib.Ieee.{binary32, ofBits};
 ghost use lib.ListN.{length};
 ghost use Rattle.grid.specs.Point.{OnGrid};
-ghost use Rattle.reader.specs.File.{u32At, layoutOf, recordSize};
-ghost use Rattle.reader.specs.Record.{known, heightOf, recordAt, vertexOf, normalIn};
+ghost use Rattle.reader.specs.File.{u32At};
+ghost use Rattle.reader.specs.Record.{known, heightOf, recordAt, vertexOf};
 ghost use Rattle.reader.specs.Steps.{isFinite, isValue, valueOf, placed};
 use crate::Coordinates;
 use crate::Height;
-use crate::Layout;
 use crate::Record;
 use crate::Vertex;
 use crate::bytes;
-use crate::edition;
 use grid::GridNumber;
 use grid::GridPoint;
-use polygon::normal::Normal;
 
 fn float_at(s: &[u8], at: usize) -> f32
     requires { ⌜ at + 4 ≤ length (now s) ⌝ }
@@ -157,20 +154,5 @@ pub fn vertex_at(s: &[u8], at: usize, height: Height) -> Vertex
         Record::Point(c) => grid_point(c),
         Record::Level(x, y) => level_point(x, y, height_of(height)),
         Record::Refused(code) => Vertex::Refused(code),
-    }
-}
-
-// The normal of the record that starts at a position of the file. A record of edition 1 has none.
-pub fn normal_at(s: &[u8], layout: Layout, at: usize) -> Normal
-    requires { ⌜ (layout ≡ layoutOf (now s)) × (at + recordSize (now s) ≤ length (now s)) ⌝ }
-    ensures { λ r. ⌜ r ≡ normalIn (now (s .entry)) at ⌝ }
-{
-    if layout.record_size == edition::RECORD_SIZE_1 {
-        return Normal::none();
-    }
-    Normal {
-        x: bytes::i16_at(s, at + 16),
-        y: bytes::i16_at(s, at + 18),
-        z: bytes::i16_at(s, at + 20),
     }
 }

@@ -10,6 +10,7 @@ use crate::Progress;
 use crate::Vertex;
 use crate::bytes;
 use crate::edition;
+use crate::normal;
 use crate::records;
 use grid::GridPoint;
 use polygon::normal::Normal;
@@ -61,7 +62,7 @@ fn step(file: &[u8], layout: Layout, walk: Progress) -> Progress
     let n = walk.n;
     let mut met = walk.met;
     let height = walk.height;
-    let count = bytes::u16_at(file, layout.header + 2) as usize;
+    let count = edition::record_count(file, layout);
     if count < link {
         return stop(walk, codes::LINK);
     }
@@ -71,11 +72,11 @@ fn step(file: &[u8], layout: Layout, walk: Progress) -> Progress
     if n == terms::MAX_VERTICES {
         return stop(walk, codes::TOO_MANY_VERTICES);
     }
-    let at = layout.header + edition::HEADER_SIZE + layout.record_size * (link - 1);
+    let at = edition::record_start(layout, link);
     match records::vertex_at(file, at, height) {
         Vertex::Refused(code) => stop(walk, code),
         Vertex::At(vertex) => {
-            let normal = records::normal_at(file, layout, at);
+            let normal = normal::normal_at(file, layout, at);
             if !normal.in_range() {
                 return stop(walk, codes::NORMAL);
             }

@@ -8,11 +8,17 @@ use Rattle.reader.proofs.edition.layout.Tie as tie
 is-edition-2-requires : tie.Need-is-edition-2-requires
 is-edition-2-requires c κs = search needs
 
+layout-2-requires : tie.Need-layout-2-requires
+layout-2-requires c κs = search needs
+
 returns : tie.Need-returns
-returns c = sym (edition2 _ (sym (c .before .is-edition-2 .ensures) ∙ c .if1 .taken))
+returns c = c .layout-2 .ensures ∙ sym (edition2 _ (sym (c .before .before .is-edition-2 .ensures) ∙ c .before .if1 .taken))
+
+layout-1-requires : tie.Need-layout-1-requires
+layout-1-requires c κs = search needs
 
 returns-2 : tie.Need-returns-2
-returns-2 c = sym (edition1 _ (sym (c .before .is-edition-2 .ensures) ∙ c .if1 .left))
+returns-2 c = c .layout-1 .ensures ∙ sym (edition1 _ (sym (c .before .before .is-edition-2 .ensures) ∙ c .before .if1 .left))
 
 pub layout-spec : {M : Type 1} → statement M
-layout-spec = tie.close (tie.spec is-edition-2-requires returns returns-2)
+layout-spec = tie.close (tie.spec is-edition-2-requires layout-2-requires returns layout-1-requires returns-2)

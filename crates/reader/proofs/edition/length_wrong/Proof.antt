@@ -6,7 +6,7 @@ use native.Mathlib.Omega.{arith}
 use lib.Dec.{eqb}
 use lib.ListN.{length}
 use denote.Ref.{now}
-use Rattle.reader.proofs.Layouts.{bounds, header-as, number-as, records-size, length-as}
+use Rattle.reader.proofs.Layouts.{bounds, header-as, records-size, length-as}
 use Rattle.reader.proofs.Lengths.{too-short, too-many, by-records}
 use borrow.Author.Needs.{needs}
 use Rattle.reader.proofs.edition.length_wrong.Statement.{statement}
@@ -18,37 +18,31 @@ add-records c = record { fits = omega (arith, header-as _ (c .before .before .pr
 returns : tie.Need-returns
 returns c = sym (too-short _ (omega (arith, header-as _ (c .before .before .before .pre), c .if1 .taken)))
 
-add-u16-at : tie.Need-add-u16-at
-add-u16-at c = search needs
-
-u16-at-requires : tie.Need-u16-at-requires
-u16-at-requires c κs = search needs
-
-cast-count : tie.Need-cast-count
-cast-count c = search needs
+record-count-requires : tie.Need-record-count-requires
+record-count-requires c κs = let e = c .before .before .before .pre in (e, omega (arith, header-as _ e, c .if1 .left))
 
 returns-2 : tie.Need-returns-2
 returns-2 c =
-    let e = c .before .before .before .before .before .before .pre in
-    sym (too-many _ (omega (arith, header-as _ e, c .before .before .before .if1 .left)) (omega (arith, c .before .u16-at .ensures .0 ∙ number-as _ e 2, c .if2 .taken)))
+    let e = c .before .before .before .before .before .pre in
+    sym (too-many _ (omega (arith, header-as _ e, c .before .before .if1 .left)) (omega (arith, c .before .record-count .ensures .0, c .if2 .taken)))
 
 mul-result : tie.Need-mul-result
 mul-result c =
-    let e = c .before .before .before .before .before .before .before .pre in
-    record { fits = omega (arith, records-size _ e (c .before .before .u16-at .result), c .before .if2 .left) }
+    let e = c .before .before .before .before .before .before .pre in
+    record { fits = omega (arith, records-size _ e (c .before .before .record-count .result), c .before .if2 .left) }
 
 add-result : tie.Need-add-result
 add-result c =
-    let e = c .before .before .before .before .before .before .before .pre in
-    record { fits = omega (arith, header-as _ e, bounds (now (c .before .before .before .before .before .before .before .args .s)) .header, records-size _ e (c .before .before .u16-at .result), c .before .if2 .left) }
+    let e = c .before .before .before .before .before .before .pre in
+    record { fits = omega (arith, header-as _ e, bounds (now (c .before .before .before .before .before .before .args .s)) .header, records-size _ e (c .before .before .record-count .result), c .before .if2 .left) }
 
 returns-3 : tie.Need-returns-3
 returns-3 c =
-    let start = c .before .before .before .before .before .before .before in
+    let start = c .before .before .before .before .before .before in
     let s = now (start .args .s) in
-    let count = c .before .before .u16-at .ensures .0 ∙ number-as s (start .pre) 2 in
+    let count = c .before .before .record-count .ensures .0 in
     ap (λ (k : ℕ). not (eqb (length s) k)) (length-as s (start .pre) count)
-    ∙ sym (by-records s (omega (arith, header-as s (start .pre), c .before .before .before .before .if1 .left)) (omega (arith, count, c .before .if2 .left)))
+    ∙ sym (by-records s (omega (arith, header-as s (start .pre), c .before .before .before .if1 .left)) (omega (arith, count, c .before .if2 .left)))
 
 pub length-wrong-spec : {M : Type 1} → statement M
 length-wrong-spec =
@@ -56,9 +50,7 @@ length-wrong-spec =
     (tie.spec
     add-records
     returns
-    add-u16-at
-    u16-at-requires
-    cast-count
+    record-count-requires
     returns-2
     mul-result
     add-result

@@ -2,42 +2,30 @@
 use borrow.Author.Needs.{needs}
 use native.Mathlib.Omega.{arith}
 use mathlib.Core.Path.{sym, _∙_}
-use Prim.Native.Nat.{_-_}
 use denote.Ref.{now}
 use Rattle.lists.proofs.Choice.{fails-via, holds-via}
-use Rattle.reader.proofs.Layouts.{bounds, header-as, number-as, records-size, start-as}
+use Rattle.reader.proofs.Layouts.{bounds, header-as, size-as, start-as}
 use Rattle.reader.proofs.Lengths.{whole, record-held}
 use Rattle.reader.proofs.Walking.{positive, below-limit, stopped-by, link-due, repeated-due, too-many-due, record-stops, normal-stops, record-passes}
 use Rattle.reader.proofs.walk.step.Statement.{statement}
 use Rattle.reader.proofs.walk.step.Tie as tie
 
-add-u16-at : tie.Need-add-u16-at
-add-u16-at c =
-    let s = c .before .before .before in
-    record { fits = omega (arith, header-as _ (s .pre .0), bounds (now (s .args .file)) .header) }
-
-u16-at-requires : tie.Need-u16-at-requires
-u16-at-requires c κs =
-    let s = c .before .before .before in
-    let w = whole _ (s .pre .1) in
-    omega (arith, header-as _ (s .pre .0), w .header)
-
-cast-count : tie.Need-cast-count
-cast-count c = search needs
+record-count-requires : tie.Need-record-count-requires
+record-count-requires c κs = let s = c .before .before in (s .pre .0, whole _ (s .pre .1) .header)
 
 stop-requires : tie.Need-stop-requires
 stop-requires c κs = search needs
 
 returns : tie.Need-returns
 returns c =
-    let s = c .before .before .before .before .before .before in
-    stopped-by (s .pre .2) 3 (omega arith) (link-due (s .pre .2) (omega (arith, c .before .before .u16-at .ensures .0 ∙ number-as _ (s .pre .0) 2, c .before .if1 .taken))) (c .stop .ensures)
+    let s = c .before .before .before .before .before in
+    stopped-by (s .pre .2) 3 (omega arith) (link-due (s .pre .2) (omega (arith, c .before .before .record-count .ensures .0, c .before .if1 .taken))) (c .stop .ensures)
 
 array-read-if2 : tie.Need-array-read-if2
 array-read-if2 c =
-    let s = c .before .before .before .before .before in
+    let s = c .before .before .before .before in
     let w = whole _ (s .pre .1) in
-    omega (arith, w .few, c .before .u16-at .ensures .0 ∙ number-as _ (s .pre .0) 2, c .if1 .left)
+    omega (arith, w .few, c .before .record-count .ensures .0, c .if1 .left)
 
 stop-requires-2 : tie.Need-stop-requires-2
 stop-requires-2 c κs = search needs
@@ -45,9 +33,9 @@ stop-requires-2 c κs = search needs
 returns-2 : tie.Need-returns-2
 returns-2 c =
     let past = c .before .before in
-    let s = past .before .before .before .before .before in
+    let s = past .before .before .before .before in
     stopped-by (s .pre .2) 4 (omega arith)
-    (repeated-due (s .pre .2) (omega (arith, past .before .u16-at .ensures .0 ∙ number-as _ (s .pre .0) 2, past .if1 .left)) (whole _ (s .pre .1) .few) (c .before .if2 .taken))
+    (repeated-due (s .pre .2) (omega (arith, past .before .record-count .ensures .0, past .if1 .left)) (whole _ (s .pre .1) .few) (c .before .if2 .taken))
     (c .stop2 .ensures)
 
 stop-requires-3 : tie.Need-stop-requires-3
@@ -56,38 +44,23 @@ stop-requires-3 c κs = search needs
 returns-3 : tie.Need-returns-3
 returns-3 c =
     let past = c .before .before .before in
-    let s = past .before .before .before .before .before in
+    let s = past .before .before .before .before in
     stopped-by (s .pre .2) 5 (omega arith)
-    (too-many-due (s .pre .2) (omega (arith, past .before .u16-at .ensures .0 ∙ number-as _ (s .pre .0) 2, past .if1 .left)) (whole _ (s .pre .1) .few) (c .before .before .if2 .left) (c .before .if3 .taken))
+    (too-many-due (s .pre .2) (omega (arith, past .before .record-count .ensures .0, past .if1 .left)) (whole _ (s .pre .1) .few) (c .before .before .if2 .left) (c .before .if3 .taken))
     (c .stop3 .ensures)
 
-add-at : tie.Need-add-at
-add-at c =
-    let s = c .before .before .before .before .before .before .before .before in
-    record { fits = omega (arith, header-as _ (s .pre .0), bounds (now (s .args .file)) .header) }
-
-sub-at : tie.Need-sub-at
-sub-at c = search needs
-
-mul-at : tie.Need-mul-at
-mul-at c =
-    let past = c .before .before .before .before in
-    let s = past .before .before .before .before .before in
-    let w = whole _ (s .pre .1) in
-    record { fits = omega (arith, records-size _ (s .pre .0) (s .args .walk .link - 1), w .few, past .before .u16-at .ensures .0 ∙ number-as _ (s .pre .0) 2, past .if1 .left) }
-
-add-at-2 : tie.Need-add-at-2
-add-at-2 c =
-    let past = c .before .before .before .before in
-    let s = past .before .before .before .before .before in
-    let w = whole _ (s .pre .1) in
-    record { fits = omega (arith, header-as _ (s .pre .0), bounds (now (s .args .file)) .header, records-size _ (s .pre .0) (s .args .walk .link - 1), w .few, past .before .u16-at .ensures .0 ∙ number-as _ (s .pre .0) 2, past .if1 .left) }
+record-start-requires : tie.Need-record-start-requires
+record-start-requires c κs =
+    let past = c .before .before in
+    let s = past .before .before .before .before in
+    let b = bounds (now (s .args .file)) in
+    (omega (arith, header-as _ (s .pre .0), b .header), omega (arith, size-as _ (s .pre .0), b .most), positive _ (s .pre .3), omega (arith, whole _ (s .pre .1) .few, past .before .record-count .ensures .0, past .if1 .left))
 
 vertex-at-requires : tie.Need-vertex-at-requires
 vertex-at-requires c κs =
-    let past = c .before .before .before .before in
-    let s = past .before .before .before .before .before in
-    (omega (arith, bounds (now (s .args .file)) .least, record-held _ (s .pre .0) (whole _ (s .pre .1)) (s .args .walk .link) (positive _ (s .pre .3)) (omega (arith, past .before .u16-at .ensures .0 ∙ number-as _ (s .pre .0) 2, past .if1 .left))), s .pre .2 .on-grid)
+    let past = c .before .before .before in
+    let s = past .before .before .before .before in
+    (omega (arith, c .record-start .ensures, bounds (now (s .args .file)) .least, record-held _ (s .pre .0) (whole _ (s .pre .1)) (s .args .walk .link) (positive _ (s .pre .3)) (omega (arith, past .before .record-count .ensures .0, past .if1 .left))), s .pre .2 .on-grid)
 
 enum-known-code : tie.Need-enum-known-code
 enum-known-code c = search needs
@@ -100,9 +73,10 @@ enum-known-vertex c = search needs
 
 normal-at-requires : tie.Need-normal-at-requires
 normal-at-requires c κs =
-    let past = c .before .before .before .before .before .before .before .before in
-    let s = past .before .before .before .before .before in
-    (s .pre .0, record-held _ (s .pre .0) (whole _ (s .pre .1)) (s .args .walk .link) (positive _ (s .pre .3)) (omega (arith, past .before .u16-at .ensures .0 ∙ number-as _ (s .pre .0) 2, past .if1 .left)))
+    let start = c .before .before .before .before in
+    let past = start .before .before .before in
+    let s = past .before .before .before .before in
+    (s .pre .0, omega (arith, start .record-start .ensures, record-held _ (s .pre .0) (whole _ (s .pre .1)) (s .args .walk .link) (positive _ (s .pre .3)) (omega (arith, past .before .record-count .ensures .0, past .if1 .left))))
 
 in-range-requires : tie.Need-in-range-requires
 in-range-requires c κs = search needs
@@ -113,58 +87,56 @@ stop-requires-5 c κs = search needs
 returns-4 : tie.Need-returns-4
 returns-4 c =
     let read = c .before .before .before .before .before .before .before in
-    let new = read .before .before .before in
+    let new = read .before .before in
     let past = new .before .before in
-    let s = past .before .before .before .before .before in
-    normal-stops (s .pre .2) (omega (arith, past .before .u16-at .ensures .0 ∙ number-as _ (s .pre .0) 2, past .if1 .left)) (whole _ (s .pre .1) .few) (new .before .if2 .left)
-    (below-limit (s .pre .2 .within) (new .if3 .left)) _ (start-as _ (s .pre .0) (s .args .walk .link)) _ (sym (read .vertex-at .ensures) ∙ c .before .before .before .before .before .vertex .given .1)
+    let s = past .before .before .before .before in
+    normal-stops (s .pre .2) (omega (arith, past .before .record-count .ensures .0, past .if1 .left)) (whole _ (s .pre .1) .few) (new .before .if2 .left)
+    (below-limit (s .pre .2 .within) (new .if3 .left)) _ (read .before .record-start .ensures ∙ start-as _ (s .pre .0) (s .args .walk .link)) _ (sym (read .vertex-at .ensures) ∙ c .before .before .before .before .before .vertex .given .1)
     _ (c .before .before .before .normal-at .ensures) (fails-via (c .before .before .in-range .ensures) (c .before .if4 .taken)) (c .stop5 .ensures)
 
 array-write-met : tie.Need-array-write-met
 array-write-met c =
-    let past = c .before .before .before .before .before .before .before .before .before .before .before in
-    let s = past .before .before .before .before .before in
+    let past = c .before .before .before .before .before .before .before .before .before .before in
+    let s = past .before .before .before .before in
     let w = whole _ (s .pre .1) in
-    omega (arith, w .few, past .before .u16-at .ensures .0 ∙ number-as _ (s .pre .0) 2, past .if1 .left)
+    omega (arith, w .few, past .before .record-count .ensures .0, past .if1 .left)
 
-add-t29 : tie.Need-add-t29
-add-t29 c = search needs
+add-t25 : tie.Need-add-t25
+add-t25 c = search needs
 
-u16-at-requires-2 : tie.Need-u16-at-requires-2
-u16-at-requires-2 c κs =
-    let past = c .before .before .before .before .before .before .before .before .before .before .before .before in
-    let s = past .before .before .before .before .before in
-    omega (arith, bounds (now (s .args .file)) .least, record-held _ (s .pre .0) (whole _ (s .pre .1)) (s .args .walk .link) (positive _ (s .pre .3)) (omega (arith, past .before .u16-at .ensures .0 ∙ number-as _ (s .pre .0) 2, past .if1 .left)))
+u16-at-requires : tie.Need-u16-at-requires
+u16-at-requires c κs =
+    let past = c .before .before .before .before .before .before .before .before .before .before .before in
+    let s = past .before .before .before .before in
+    omega (arith, c .before .before .before .before .before .before .before .before .record-start .ensures, bounds (now (s .args .file)) .least, record-held _ (s .pre .0) (whole _ (s .pre .1)) (s .args .walk .link) (positive _ (s .pre .3)) (omega (arith, past .before .record-count .ensures .0, past .if1 .left)))
 
-cast-t31 : tie.Need-cast-t31
-cast-t31 c = search needs
+cast-t27 : tie.Need-cast-t27
+cast-t27 c = search needs
 
 returns-5 : tie.Need-returns-5
 returns-5 c =
     let read = c .before .before .before .before in
-    let new = read .before .before .before in
+    let new = read .before .before in
     let past = new .before .before in
-    let s = past .before .before .before .before .before in
-    record-stops (s .pre .2) (omega (arith, past .before .u16-at .ensures .0 ∙ number-as _ (s .pre .0) 2, past .if1 .left)) (whole _ (s .pre .1) .few) (new .before .if2 .left)
-    (below-limit (s .pre .2 .within) (new .if3 .left)) _ (start-as _ (s .pre .0) (s .args .walk .link)) _ (sym (read .vertex-at .ensures) ∙ c .before .before .code .given .1) (c .stop4 .ensures)
+    let s = past .before .before .before .before in
+    record-stops (s .pre .2) (omega (arith, past .before .record-count .ensures .0, past .if1 .left)) (whole _ (s .pre .1) .few) (new .before .if2 .left)
+    (below-limit (s .pre .2 .within) (new .if3 .left)) _ (read .before .record-start .ensures ∙ start-as _ (s .pre .0) (s .args .walk .link)) _ (sym (read .vertex-at .ensures) ∙ c .before .before .code .given .1) (c .stop4 .ensures)
 
 returns-6 : tie.Need-returns-6
 returns-6 c =
     let read = c .before .before .before .before .before .before .before .before in
-    let new = read .before .before .before in
+    let new = read .before .before in
     let past = new .before .before in
-    let s = past .before .before .before .before .before in
-    record-passes (s .pre .2) (omega (arith, past .before .u16-at .ensures .0 ∙ number-as _ (s .pre .0) 2, past .if1 .left)) (whole _ (s .pre .1) .few) (new .before .if2 .left)
-    (below-limit (s .pre .2 .within) (new .if3 .left)) _ (start-as _ (s .pre .0) (s .args .walk .link)) _ (sym (read .vertex-at .ensures) ∙ c .before .before .before .before .before .before .vertex .given .1)
-    _ (c .before .before .before .before .normal-at .ensures) _ (holds-via (c .before .before .before .in-range .ensures) (c .before .before .if4 .left)) (c .u16-at2 .ensures .0)
+    let s = past .before .before .before .before in
+    record-passes (s .pre .2) (omega (arith, past .before .record-count .ensures .0, past .if1 .left)) (whole _ (s .pre .1) .few) (new .before .if2 .left)
+    (below-limit (s .pre .2 .within) (new .if3 .left)) _ (read .before .record-start .ensures ∙ start-as _ (s .pre .0) (s .args .walk .link)) _ (sym (read .vertex-at .ensures) ∙ c .before .before .before .before .before .before .vertex .given .1)
+    _ (c .before .before .before .before .normal-at .ensures) _ (holds-via (c .before .before .before .in-range .ensures) (c .before .before .if4 .left)) (c .u16-at .ensures .0)
 
 pub step-spec : {M : Type 1} → statement M
 step-spec =
     tie.close
     (tie.spec
-    add-u16-at
-    u16-at-requires
-    cast-count
+    record-count-requires
     stop-requires
     returns
     array-read-if2
@@ -172,10 +144,7 @@ step-spec =
     returns-2
     stop-requires-3
     returns-3
-    add-at
-    sub-at
-    mul-at
-    add-at-2
+    record-start-requires
     vertex-at-requires
     enum-known-code
     stop-requires-4
@@ -185,8 +154,8 @@ step-spec =
     stop-requires-5
     returns-4
     array-write-met
-    add-t29
-    u16-at-requires-2
-    cast-t31
+    add-t25
+    u16-at-requires
+    cast-t27
     returns-5
     returns-6)

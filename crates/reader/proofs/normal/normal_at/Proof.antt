@@ -1,4 +1,4 @@
--- `reader::records::normal_at` meets its contract. Assumes nothing.
+-- `reader::normal::normal_at` meets its contract. Assumes nothing.
 use borrow.Author.Needs.{needs}
 use native.Mathlib.Omega.{arith}
 use mathlib.Core.Path.{sym, _∙_}
@@ -7,8 +7,8 @@ use mir.Facts.{toZ-ofZ}
 use Rattle.polygon.specs.Normal.{normal}
 use Rattle.reader.proofs.Layouts.{size-edition1, size-edition2, size-2}
 use Rattle.reader.proofs.Normals.{normal-1, normal-2}
-use Rattle.reader.proofs.records.normal_at.Statement.{statement}
-use Rattle.reader.proofs.records.normal_at.Tie as tie
+use Rattle.reader.proofs.normal.normal_at.Statement.{statement}
+use Rattle.reader.proofs.normal.normal_at.Tie as tie
 
 none-requires : tie.Need-none-requires
 none-requires c κs = search needs
