@@ -1,4 +1,4 @@
-// The numbers of rules 4.1 to 4.18, by who causes them.
+// The numbers of rules 4.1 to 4.19, by who causes them.
 
 // The writer of the file.
 pub const LENGTH: u32 = 1;
@@ -39,3 +39,6 @@ pub const CANDIDATE: u32 = 15;
 pub const ROW: u32 = 16;
 
 pub const WEIGHT: u32 = 17;
+
+// The writer of a file to convert.
+pub const NORMAL_LOST: u32 = 19;

@@ -1,0 +1,4 @@
+pub mod Storing
+pub mod Records
+pub mod Targets
+pub mod Answers

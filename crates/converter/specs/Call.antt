@@ -1,0 +1,71 @@
+-- What a call of the converter answers, and what it leaves in every place of the output table. Definitions only.
+use mathlib.Core.Bool.{Bool, cond}
+use mathlib.Core.List.{List}
+use Prim.Native.Nat.{ℕ, zero, suc}
+use lib.Dec.{ltb}
+use lib.ListN.{length, take}
+use Rattle.lists.specs.Lists.{filled}
+use Rattle.polygon.specs.Polygon.{firstDue}
+use Rattle.reader.specs.Reading as reader
+use Rattle.converter.specs.Converted.{converted, otherEdition, normalLost}
+use Rattle.converter.specs.declared.Conversion.{Conversion}
+use Rattle.converter.specs.declared.Conversion.the-variants.{Converted, Refused}
+
+-- the number, the edition of the converted file and its length, in each case of an answer (rule 5.2)
+abbrev pub numberOf : Conversion → ℕ
+numberOf (Converted edition size) = 0
+numberOf (Refused number) = number
+
+abbrev pub editionOf : Conversion → ℕ
+editionOf (Converted edition size) = edition
+editionOf (Refused number) = 0
+
+abbrev pub lengthOf : Conversion → ℕ
+lengthOf (Converted edition size) = size
+lengthOf (Refused number) = 0
+
+-- the three together (rule 5.2)
+pub record Values : Type 0 where
+  pub number : ℕ
+  pub edition : ℕ
+  pub length : ℕ
+
+abbrev pub values : ℕ → ℕ → ℕ → Values
+values k e n = record { number = k; edition = e; length = n }
+
+abbrev pub valuesOf : Conversion → Values
+valuesOf r = values (numberOf r) (editionOf r) (lengthOf r)
+
+-- 13 where the output table is too short, before 19 where a normal would be lost (rule 4.35)
+abbrev pub conversionCode : Bool → Bool → ℕ
+conversionCode short lost = cond short 13 (cond lost 19 0)
+
+-- the first number due (rule 4.35): 1 to 11 and 18 in the reader's order, then 13 and 19
+abbrev pub numberDue : List ℕ → List ℕ → ℕ
+numberDue file out = firstDue (reader.numberDue file) (conversionCode (ltb (length out) (length (converted file))) (normalLost file))
+
+-- what the values are: those of the converted file where no number is due, else the number and two zeros (rule 5.2)
+abbrev pub dueValues : ℕ → List ℕ → Values
+dueValues zero file = values 0 (otherEdition file) (length (converted file))
+dueValues (suc k) file = values (suc k) 0 0
+
+-- an answer, and what the output table holds after the call
+pub record Converting : Type 0 where
+  pub answer : Conversion
+  pub left : List ℕ
+
+abbrev pub converting : Conversion → List ℕ → Converting
+converting r left = record { answer = r; left = left }
+
+-- the converted file in the first places, every further place as it was (rule 3.9); a number changes no place (rule 4.30)
+abbrev pub convertBy : ℕ → List ℕ → List ℕ → Converting
+convertBy zero file out = converting (Converted (otherEdition file) (length (converted file))) (filled (converted file) out)
+convertBy (suc k) file out = converting (Refused (suc k)) out
+
+-- the call, by the first number due (rule 5.7)
+unfoldable pub convertCall : List ℕ → List ℕ → Converting
+convertCall file out = convertBy (numberDue file out) file out
+
+-- the converted file as the call hands it over: the first places, as many as the answer says
+abbrev pub handedOver : Converting → List ℕ
+handedOver c = take (lengthOf (c .answer)) (c .left)

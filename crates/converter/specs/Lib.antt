@@ -1,0 +1,4 @@
+pub mod Converted
+pub mod Call
+pub mod Due
+pub mod Steps

@@ -1,0 +1,121 @@
+// The converter: a rim file carried to the other edition, byte for byte.
+mod normals;
+mod writing;
+
+ghost use mathlib.Core.Path.{_≡_};
+ghost use mathlib.Core.Bool.{false};
+ghost use lib.Dec.{ltb};
+ghost use lib.ListN.{length};
+ghost use Rattle.reader.specs.File.{lengthWrong};
+ghost use Rattle.converter.specs.Converted.{converted, normalLost};
+ghost use Rattle.converter.specs.Call.{numberOf, editionOf, lengthOf, valuesOf, conversionCode, numberDue, dueValues, converting, convertBy, convertCall};
+ghost use Rattle.converter.specs.Steps.{targetOf};
+use reader::Layout;
+use reader::Status;
+use reader::edition;
+
+// The converted file's edition and length, or the number of a refusal.
+pub enum Conversion {
+    Converted { edition: u32, length: usize },
+    Refused(u32),
+}
+
+impl Conversion {
+    // The number of a refusal, else 0.
+    pub fn number(self) -> u32
+        ensures { λ r. ⌜ r ≡ numberOf self ⌝ }
+    {
+        match self {
+            Conversion::Converted {
+                edition: _,
+                length: _,
+            } => 0,
+            Conversion::Refused(number) => number,
+        }
+    }
+
+    // The edition of the converted file, 0 in a refusal.
+    pub fn edition(self) -> u32
+        ensures { λ r. ⌜ r ≡ editionOf self ⌝ }
+    {
+        match self {
+            Conversion::Converted { edition, length: _ } => edition,
+            Conversion::Refused(_) => 0,
+        }
+    }
+
+    // How many bytes were written.
+    pub fn length(self) -> usize
+        ensures { λ r. ⌜ r ≡ lengthOf self ⌝ }
+    {
+        match self {
+            Conversion::Converted { edition: _, length } => length,
+            Conversion::Refused(_) => 0,
+        }
+    }
+}
+
+// The edition that a file is carried to, and where that has its numbers.
+struct Target {
+    pub edition: u32,
+    pub layout: Layout,
+}
+
+fn target_of(source: Layout) -> Target
+    ensures { λ r. ⌜ r ≡ targetOf source ⌝ }
+{
+    if source.record_size == edition::RECORD_SIZE_1 {
+        let layout = edition::layout_2();
+        return Target { edition: 2, layout };
+    }
+    let layout = edition::layout_1();
+    Target { edition: 1, layout }
+}
+
+// The first number due of 13 and 19.
+fn conversion_code(short: bool, lost: bool) -> u32
+    ensures { λ r. ⌜ r ≡ conversionCode short lost ⌝ }
+{
+    if short {
+        return codes::TABLE_TOO_SHORT;
+    }
+    if lost {
+        return codes::NORMAL_LOST;
+    }
+    0
+}
+
+// Carries a file on which the reader found no number.
+fn carry(file: &[u8], out: &mut [u8]) -> Conversion
+    requires { ⌜ lengthWrong (now file) ≡ false ⌝ }
+    ensures { λ r. ⌜ converting r (now (out .exit)) ≡ convertBy (conversionCode (ltb (length (now (out .entry))) (length (converted (now (file .entry))))) (normalLost (now (file .entry)))) (now (file .entry)) (now (out .entry)) ⌝ }
+{
+    let source = edition::layout(file);
+    let target = target_of(source);
+    let layout = target.layout;
+    let count = edition::record_count(file, source);
+    let length = edition::record_start(layout, count + 1);
+    let lost = normals::has_normal(file, source, count);
+    let code = conversion_code(out.len() < length, lost);
+    if code != 0 {
+        return Conversion::Refused(code);
+    }
+    writing::write_file(file, source, layout, count, out);
+    Conversion::Converted {
+        edition: target.edition,
+        length,
+    }
+}
+
+// The file in the other edition, in the first places of the output table. Numbers 1 to 11 and 18, then 13, then 19.
+pub fn convert(file: &[u8], out: &mut [u8]) -> Conversion
+    ensures { λ r. ⌜ converting r (now (out .exit)) ≡ convertCall (now (file .entry)) (now (out .entry)) ⌝ }
+    ensures { λ r. ⌜ valuesOf r ≡ dueValues (numberDue (now (file .entry)) (now (out .entry))) (now (file .entry)) ⌝ }
+{
+    let reading = reader::read_polygon(file);
+    let status = reading.status;
+    match status {
+        Status::Refused(number) => Conversion::Refused(number),
+        Status::Complete => carry(file, out),
+    }
+}
