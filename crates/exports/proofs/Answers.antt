@@ -10,8 +10,11 @@ use Rattle.finder.specs.Finding as finder
 use Rattle.triangulator.specs.declared.Outcome.{Outcome}
 use Rattle.triangulator.specs.Call.{Result, result}
 use Rattle.pipeline.specs.Patching.{Tables, Patching, patching}
+use Rattle.converter.specs.declared.Conversion.{Conversion}
+use Rattle.converter.specs.Call.{Converting, converting}
+use Rattle.exports.specs.declared.ConvertAnswer.{ConvertAnswer}
 use Rattle.exports.specs.declared.PatchAnswer.{PatchAnswer}
-use Rattle.exports.specs.Answers.{patchAnswerOf, rimPatch, rimPatchOf, jobPatch, jobPatchOf, readAnswerOf, rimLists, rimListsOf}
+use Rattle.exports.specs.Answers.{patchAnswerOf, rimPatch, rimPatchOf, jobPatch, jobPatchOf, readAnswerOf, rimLists, rimListsOf, convertAnswerOf, fileConversion, fileConversionOf}
 
 module _ {o : Outcome} {a : PatchAnswer} (e : a ≡ patchAnswerOf o) where
   pub rim-patched : {left : Tables} → {p : Patching} → patching o left ≡ p → rimPatch a left ≡ rimPatchOf p
@@ -30,3 +33,6 @@ module _ {a : Found} {number count row-count : ℕ} (e : number ≡ finder.numbe
       rimLists (record { number = number; candidates = count; rows = row-count }) candidates weights rows ≡ rimListsOf l
   rim-found {candidates} {rows} {weights} h =
       (λ i. rimLists (record { number = e i; candidates = f i; rows = g i }) candidates weights rows) ∙ ap (λ (l : Finding). rimListsOf l) h
+
+pub file-converted : {r : Conversion} {a : ConvertAnswer} {left : List ℕ} {c : Converting} → a ≡ convertAnswerOf r → converting r left ≡ c → fileConversion a left ≡ fileConversionOf c
+file-converted {left = left} e h = ap (λ (x : ConvertAnswer). fileConversion x left) e ∙ ap fileConversionOf h

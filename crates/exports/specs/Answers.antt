@@ -12,6 +12,10 @@ use Rattle.finder.specs.Finding as finder
 use Rattle.triangulator.specs.declared.Outcome.{Outcome}
 use Rattle.triangulator.specs.Call.{Result, numberOf, trianglesOf, totalOf}
 use Rattle.pipeline.specs.Patching.{Tables, Patching}
+use Rattle.converter.specs.declared.Conversion.{Conversion}
+use Rattle.converter.specs.Call.{Converting, editionOf, lengthOf}
+use Rattle.converter.specs.Call as converter
+use Rattle.exports.specs.declared.ConvertAnswer.{ConvertAnswer}
 use Rattle.exports.specs.declared.PatchAnswer.{PatchAnswer}
 use Rattle.exports.specs.declared.ReadAnswer.{ReadAnswer}
 use Rattle.finder.specs.declared.Sizes.{Sizes}
@@ -79,3 +83,17 @@ rimListsOf f =
 abbrev pub sizesAnswerOf : Sizes → SizesAnswer
 sizesAnswerOf s =
     record { number = sizes.numberOf s; triangles = placesIn s .triangles; candidates = placesIn s .candidates; weights = placesIn s .candidates; rows = placesIn s .rows; work = placesIn s .candidates }
+
+-- the number, the edition and the length of a conversion (rule 5.2), and with it the output table after the call (rule 5.7)
+abbrev pub convertAnswerOf : Conversion → ConvertAnswer
+convertAnswerOf c = record { number = converter.numberOf c; edition = editionOf c; length = lengthOf c }
+
+pub record FileConversion : Type 0 where
+  pub answer : ConvertAnswer
+  pub left : List ℕ
+
+abbrev pub fileConversion : ConvertAnswer → List ℕ → FileConversion
+fileConversion answer left = record { answer = answer; left = left }
+
+abbrev pub fileConversionOf : Converting → FileConversion
+fileConversionOf c = fileConversion (convertAnswerOf (c .answer)) (c .left)

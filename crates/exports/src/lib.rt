@@ -1,16 +1,18 @@
 // The calls that hosts in C and Rust link. An enum cannot cross this boundary, so an answer is a struct of numbers: the number due, 0 where none is,
 // and the counts and the total, which are 0 in a refusal.
+use converter::Conversion;
 use finder::Found;
 use finder::Sizes;
 use reader::Status;
 use triangulator::Outcome;
 ghost use mathlib.Core.Path.{_≡_};
 ghost use Rattle.reader.specs.Reading.{readingOf};
+ghost use Rattle.converter.specs.Call.{convertCall};
 ghost use Rattle.finder.specs.Finding.{finding};
 ghost use Rattle.triangulator.specs.Call.{triangulated};
 ghost use Rattle.pipeline.specs.Patching.{tables, patchFile};
 ghost use Rattle.pipeline.specs.Sizes.{sizesFile};
-ghost use Rattle.exports.specs.Answers.{patchAnswerOf, rimPatch, rimPatchOf, jobPatch, jobPatchOf, readAnswerOf, findFile, rimLists, rimListsOf, sizesAnswerOf};
+ghost use Rattle.exports.specs.Answers.{patchAnswerOf, rimPatch, rimPatchOf, jobPatch, jobPatchOf, readAnswerOf, findFile, rimLists, rimListsOf, sizesAnswerOf, convertAnswerOf, fileConversion, fileConversionOf};
 
 // A patch where the number is 0 and there are triangles, 'none' where both are 0.
 #[repr(C)]
@@ -42,6 +44,14 @@ pub struct SizesAnswer {
     pub weights: usize,
     pub rows: usize,
     pub work: usize,
+}
+
+// The edition and the length of the converted file.
+#[repr(C)]
+pub struct ConvertAnswer {
+    pub number: u32,
+    pub edition: u32,
+    pub length: usize,
 }
 
 fn patch_answer(outcome: Outcome) -> PatchAnswer
@@ -174,4 +184,26 @@ pub extern "C" fn patch_box_sizes(file: &[u8]) -> SizesAnswer
 {
     let sizes = pipeline::table_sizes(file);
     sizes_answer(sizes)
+}
+
+fn convert_answer(conversion: Conversion) -> ConvertAnswer
+    ensures { λ r. ⌜ r ≡ convertAnswerOf conversion ⌝ }
+{
+    let number = conversion.number();
+    let edition = conversion.edition();
+    let length = conversion.length();
+    ConvertAnswer {
+        number,
+        edition,
+        length,
+    }
+}
+
+// The converter: a rim file in the other edition.
+#[no_mangle]
+pub extern "C" fn patch_box_convert(file: &[u8], out: &mut [u8]) -> ConvertAnswer
+    ensures { λ r. ⌜ fileConversion r (now (out .exit)) ≡ fileConversionOf (convertCall (now (file .entry)) (now (out .entry))) ⌝ }
+{
+    let conversion = converter::convert(file, out);
+    convert_answer(conversion)
 }
