@@ -1,5 +1,6 @@
 /* A host in C: closes the rim of a rim file of either edition and prints what the bench program prints. Its tables are as long as the rim needs.
- * Status 0 where the rim is accepted, 1 where it is refused, 2 with one line on standard error where it could not run. */
+ * With --convert it writes the file in the other edition instead.
+ * Status 0 where the file is accepted, 1 where it is refused, 2 with one line on standard error where it could not run. */
 #include "patch_box.h"
 
 #include <errno.h>
@@ -67,7 +68,7 @@ static void print_patch(const struct tables *t, patch_box_patch_answer answer)
 }
 
 /* Closes the rim and prints the answer; gives its number. */
-static uint32_t close_rim(const uint8_t *file, size_t length, struct tables *t)
+static uint32_t close_with(struct tables *t, const uint8_t *file, size_t length)
 {
     patch_box_patch_answer answer =
         patch_box_rim(file, length, t->triangles, t->sizes.triangles, t->candidates, t->sizes.candidates, t->weights, t->sizes.weights, t->rows,
@@ -76,6 +77,30 @@ static uint32_t close_rim(const uint8_t *file, size_t length, struct tables *t)
         printf("none\n");
     else if (answer.number == PATCH_BOX_ACCEPTED)
         print_patch(t, answer);
+    return answer.number;
+}
+
+/* The same with tables of its own; 0 where there is no memory for them. */
+static int close_rim(const uint8_t *file, size_t length, uint32_t *number)
+{
+    struct tables t;
+    t.sizes = patch_box_sizes(file, length);
+    *number = t.sizes.number;
+    if (*number != PATCH_BOX_ACCEPTED)
+        return 1;
+    int enough = allocate(&t);
+    if (enough)
+        *number = close_with(&t, file, length);
+    release(&t);
+    return enough;
+}
+
+/* Writes the file in the other edition; gives the number. An error of standard output is seen at the end. */
+static uint32_t convert(const uint8_t *file, size_t length)
+{
+    static uint8_t out[PATCH_BOX_MAX_FILE];
+    patch_box_convert_answer answer = patch_box_convert(file, length, out, sizeof out);
+    fwrite(out, 1, answer.length, stdout);
     return answer.number;
 }
 
@@ -96,24 +121,20 @@ int main(int count, char **arguments)
 {
     static uint8_t file[PATCH_BOX_MAX_FILE + 1];
     size_t length;
-    struct tables t;
-    if (count != 2)
-        return fail("one rim file is expected", "example RIM-FILE");
-    if (!read_file(arguments[1], file, sizeof file, &length))
-        return fail(arguments[1], strerror(errno));
-    t.sizes = patch_box_sizes(file, length);
-    uint32_t number = t.sizes.number;
-    if (number == PATCH_BOX_ACCEPTED) {
-        int enough = allocate(&t);
-        if (enough)
-            number = close_rim(file, length, &t);
-        release(&t);
-        if (!enough)
-            return fail("no memory", strerror(ENOMEM));
-    }
+    uint32_t number;
+    int converts = count > 1 && strcmp(arguments[1], "--convert") == 0;
+    if (count != 2 + converts)
+        return fail("one rim file is expected", "example [--convert] RIM-FILE");
+    const char *name = arguments[1 + converts];
+    if (!read_file(name, file, sizeof file, &length))
+        return fail(name, strerror(errno));
+    if (converts)
+        number = convert(file, length);
+    else if (!close_rim(file, length, &number))
+        return fail("no memory", strerror(ENOMEM));
     if (number != PATCH_BOX_ACCEPTED)
         printf("refused %lu\n", (unsigned long)number);
-    if (fflush(stdout) != 0)
+    if (ferror(stdout) || fflush(stdout) != 0)
         return fail("the answer cannot be written", strerror(errno));
     return number == PATCH_BOX_ACCEPTED ? 0 : 1;
 }

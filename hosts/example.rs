@@ -1,10 +1,12 @@
 //! A host in Rust: closes the rim of a rim file of either edition and prints what the bench program
-//! prints. Its tables are as long as the rim needs. Status 0 where the rim is accepted, 1 where it is
-//! refused, 2 with one line on standard error where it could not run.
+//! prints. Its tables are as long as the rim needs. With --convert it writes the file in the other
+//! edition instead. Status 0 where the file is accepted, 1 where it is refused, 2 with one line on
+//! standard error where it could not run.
 
 #![forbid(unsafe_code)]
 
 use patch_box::{Number, Outcome, OwnedTables};
+use std::ffi::{OsStr, OsString};
 use std::fmt::Write as _;
 use std::io::{Read, Write as _};
 use std::process::ExitCode;
@@ -39,25 +41,46 @@ fn close(file: &[u8]) -> Result<String, Number> {
     })
 }
 
+/// The file in the other edition.
+fn convert(file: &[u8]) -> Result<Vec<u8>, Number> {
+    let mut bytes = vec![0; patch_box::MAX_FILE];
+    let converted = patch_box::convert(file, &mut bytes)?;
+    bytes.truncate(converted.length);
+    Ok(bytes)
+}
+
 /// One byte more than the longest rim file is enough to see that it is too long.
-fn read_file(name: &std::ffi::OsStr) -> std::io::Result<Vec<u8>> {
+fn read_file(name: &OsStr) -> std::io::Result<Vec<u8>> {
     let mut bytes = Vec::new();
     std::fs::File::open(name)?.take(patch_box::MAX_FILE as u64 + 1).read_to_end(&mut bytes)?;
     Ok(bytes)
 }
 
+/// Whether the file is to be converted, and its name.
+fn arguments() -> Option<(bool, OsString)> {
+    let mut arguments = std::env::args_os().skip(1).peekable();
+    let converts = arguments.next_if(|first| first == "--convert").is_some();
+    let name = arguments.next()?;
+    arguments.next().is_none().then_some((converts, name))
+}
+
+/// Standard output keeps what follows the last line break until it is flushed.
+fn write_out(bytes: &[u8]) -> std::io::Result<()> {
+    let mut out = std::io::stdout();
+    out.write_all(bytes)?;
+    out.flush()
+}
+
 fn run() -> Result<ExitCode, String> {
-    let mut arguments = std::env::args_os().skip(1);
-    let (Some(name), None) = (arguments.next(), arguments.next()) else {
-        return Err(String::from("one rim file is expected: example RIM-FILE"));
-    };
+    let (converts, name) =
+        arguments().ok_or("one rim file is expected: example [--convert] RIM-FILE")?;
     let file = read_file(&name).map_err(|error| format!("{}: {error}", name.display()))?;
-    let (text, status) = match close(&file) {
-        Ok(text) => (text, ExitCode::SUCCESS),
-        Err(number) => (format!("refused {}\n", number.code()), ExitCode::FAILURE),
+    let answer = if converts { convert(&file) } else { close(&file).map(String::into_bytes) };
+    let (bytes, status) = match answer {
+        Ok(bytes) => (bytes, ExitCode::SUCCESS),
+        Err(number) => (format!("refused {}\n", number.code()).into_bytes(), ExitCode::FAILURE),
     };
-    let written = std::io::stdout().write_all(text.as_bytes());
-    written.map_err(|error| format!("the answer cannot be written: {error}"))?;
+    write_out(&bytes).map_err(|error| format!("the answer cannot be written: {error}"))?;
     Ok(status)
 }
 

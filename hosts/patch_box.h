@@ -17,6 +17,7 @@
  *   edition 1   8 + 16 * R bytes for R records; the weight of a candidate is its area weight
  *   edition 2   10 + 22 * R bytes: a record ends in the normal of the surface at its rim edge; the weight of a candidate is its own weight: area, and
  *               at each rim edge with a surface outside the bend factor times the bend between the two
+ * patch_box_convert converts a file of either edition to the other.
  */
 #ifndef PATCH_BOX_H
 #define PATCH_BOX_H
@@ -57,7 +58,8 @@ enum {
     PATCH_BOX_CANDIDATE = 15,          /* the candidates of a direct job are not vertices a < b < c < n in rising order */
     PATCH_BOX_ROW = 16,                /* the rows of a direct job are not hanging pairs in rising order */
     PATCH_BOX_WEIGHT = 17,             /* a weight of a direct job is more than 2,000,000,000 */
-    PATCH_BOX_NORMAL = 18              /* a number of a normal is not from -1000 to 1000 */
+    PATCH_BOX_NORMAL = 18,             /* a number of a normal is not from -1000 to 1000 */
+    PATCH_BOX_NORMAL_LOST = 19         /* a normal would be lost: a record of the file to convert has one that is not zero */
 };
 
 /* Vertices a < b < c. Candidates stand in rising order, and a candidate's number is its place, from 0. */
@@ -97,6 +99,13 @@ typedef struct {
     size_t work;
 } patch_box_sizes_answer;
 
+/* The converted file. */
+typedef struct {
+    uint32_t number;
+    uint32_t edition; /* 2 for a file of edition 1, 1 for one of edition 2 */
+    size_t length;    /* its bytes: how many first places of the output table are filled */
+} patch_box_convert_answer;
+
 /* The sizes of a rim file's tables: a number of 1 to 12 or 18, or what patch_box_rim needs at least. */
 patch_box_sizes_answer patch_box_sizes(const uint8_t *file, size_t file_len);
 
@@ -128,6 +137,13 @@ patch_box_find_answer patch_box_find(const uint8_t *file, size_t file_len,
                                      uint32_t *weights, size_t weights_len,
                                      patch_box_row *rows, size_t rows_len);
 
+/* Conversion between editions. A number of 1 to 11, 13, 18 or 19, or the file in the other edition, in the first places of the output table: a file of
+ * edition 1 with zero normals, or one of edition 2 without its normals, which must all be zero. Every record stays at its place, spare ones too, and its
+ * other bytes are copied. What patch_box_read refuses is refused with its number; 13 comes before 19, and the normal of a spare record gives 19 too.
+ * The file and the output table must not overlap. PATCH_BOX_MAX_FILE places suffice for every converted file. */
+patch_box_convert_answer patch_box_convert(const uint8_t *file, size_t file_len,
+                                           uint8_t *out, size_t out_len);
+
 /* The library has each struct in this very layout: an array of a negative length does not compile. */
 typedef char patch_box_assert_candidate[sizeof(patch_box_candidate) == 3 ? 1 : -1];
 typedef char patch_box_assert_row[sizeof(patch_box_row) == 12 ? 1 : -1];
@@ -135,6 +151,7 @@ typedef char patch_box_assert_patch_answer[sizeof(patch_box_patch_answer) == 24 
 typedef char patch_box_assert_read_answer[sizeof(patch_box_read_answer) == 16 ? 1 : -1];
 typedef char patch_box_assert_find_answer[sizeof(patch_box_find_answer) == 24 ? 1 : -1];
 typedef char patch_box_assert_sizes_answer[sizeof(patch_box_sizes_answer) == 48 ? 1 : -1];
+typedef char patch_box_assert_convert_answer[sizeof(patch_box_convert_answer) == 16 && offsetof(patch_box_convert_answer, length) == 8 ? 1 : -1];
 
 #ifdef __cplusplus
 }

@@ -94,6 +94,13 @@ pub struct Found {
     pub rows: usize,
 }
 
+/// A converted file: its edition, and how many first places of the output table it fills.
+#[derive(Clone, Copy, Debug, PartialEq, Eq)]
+pub struct Converted {
+    pub edition: u32,
+    pub length: usize,
+}
+
 /// Defines the enum of the numbers, from the number and its line.
 macro_rules! numbers {
     ($($name:ident = $number:literal, $line:literal;)*) => {
@@ -137,10 +144,11 @@ numbers! {
     Row = 16, "the rows of a direct job are not hanging pairs in rising order";
     Weight = 17, "a weight of a direct job is more than 2,000,000,000";
     Normal = 18, "a number of a normal is not from -1000 to 1000";
+    NormalLost = 19, "a normal would be lost: a record of the file to convert has one that is not zero";
 }
 
 impl Number {
-    /// The number itself, 1 to 18.
+    /// The number itself, 1 to 19.
     pub fn code(self) -> u32 {
         self as u32
     }
@@ -251,6 +259,22 @@ pub fn find(
     Ok(Found { candidates: answer.candidates, rows: answer.rows })
 }
 
+/// Conversion between editions: the file in the other one, in the first places of the table. One of
+/// edition 1 gets zero normals. A number of 1 to 11, 13, 18 or 19 where it is refused. [`MAX_FILE`]
+/// places suffice for every converted file.
+pub fn convert(file: &[u8], out: &mut [u8]) -> Result<Converted, Number> {
+    // SAFETY: each pointer is a slice's own, with that slice's length; mutable slices are disjoint.
+    let answer = unsafe {
+        archive::patch_box_convert(file.as_ptr(), file.len(), out.as_mut_ptr(), out.len())
+    };
+    let archive::Convert { number, edition, length } = answer;
+    accepted(number, [edition as usize, length])?;
+    if !matches!(edition, 1 | 2) || length > out.len() {
+        panic!("the archive and patch_box.rs differ: edition {edition}, length {length}");
+    }
+    Ok(Converted { edition, length })
+}
+
 /// The number of an answer as an error. A refusal has no counts.
 fn accepted<const N: usize>(number: u32, counts: [usize; N]) -> Result<(), Number> {
     match Number::of_code(number) {
@@ -344,6 +368,13 @@ mod archive {
         pub work: usize,
     }
 
+    #[repr(C)]
+    pub struct Convert {
+        pub number: u32,
+        pub edition: u32,
+        pub length: usize,
+    }
+
     extern "C" {
         pub fn patch_box_sizes(file: *const u8, file_len: usize) -> Sizes;
 
@@ -388,5 +419,12 @@ mod archive {
             rows: *mut Row,
             rows_len: usize,
         ) -> Find;
+
+        pub fn patch_box_convert(
+            file: *const u8,
+            file_len: usize,
+            out: *mut u8,
+            out_len: usize,
+        ) -> Convert;
     }
 }

@@ -2,7 +2,7 @@
 
 #![forbid(unsafe_code)]
 
-use patch_box::{Number, Outcome, OwnedTables, MAX_FILE};
+use patch_box::{Converted, Number, Outcome, OwnedTables, MAX_FILE};
 
 /// Rim file P (rule 6.1), of edition 2 where it has normals.
 fn p(normals: Option<[[i16; 3]; 4]>) -> Vec<u8> {
@@ -71,4 +71,55 @@ fn numbers_of_edition_2() {
     assert_eq!(patch_box::read(&longest), Ok(4));
     longest.push(0);
     assert_eq!(patch_box::read(&longest), Err(Number::Length));
+}
+
+/// What a table of so many sevens holds after the conversion, and the answer.
+fn converted(file: &[u8], places: usize) -> (Vec<u8>, Result<Converted, Number>) {
+    let mut out = vec![7; places];
+    let answer = patch_box::convert(file, &mut out);
+    (out, answer)
+}
+
+#[test]
+fn conversion_of_p() {
+    let [one, two] = [p(None), p(Some([[0; 3]; 4]))];
+    assert_eq!([one.len(), two.len()], [72, 98]);
+    for (file, other, edition) in [(&one, &two, 2), (&two, &one, 1)] {
+        let length = other.len();
+        for places in 0..length {
+            let short = (vec![7; places], Err(Number::TableTooShort));
+            assert_eq!(converted(file, places), short, "{places} places");
+        }
+        for more in [0, 1, 100] {
+            let filled = [&other[..], &vec![7; more]].concat();
+            assert_eq!(converted(file, length + more), (filled, Ok(Converted { edition, length })));
+        }
+    }
+}
+
+#[test]
+fn normals_that_would_be_lost() {
+    for k in 0..4 {
+        let with = |number: i16| {
+            let mut normals = [[0; 3]; 4];
+            normals[k][2] = number;
+            p(Some(normals))
+        };
+        assert_eq!(converted(&with(-1), 72), (vec![7; 72], Err(Number::NormalLost)));
+        assert_eq!(converted(&with(-1), 71), (vec![7; 71], Err(Number::TableTooShort)));
+        assert_eq!(converted(&with(1001), 72), (vec![7; 72], Err(Number::Normal)));
+    }
+}
+
+/// 256 records, the spare ones of any content: MAX_FILE places are just enough.
+#[test]
+fn conversion_of_the_longest_file() {
+    let mut one = p(None);
+    one[2..4].copy_from_slice(&256u16.to_le_bytes());
+    one.resize(8 + 16 * 256, 0xff);
+    let (two, answer) = converted(&one, MAX_FILE);
+    assert_eq!(answer, Ok(Converted { edition: 2, length: MAX_FILE }));
+    assert_eq!(two[MAX_FILE - 22..], [[0xff; 16].as_slice(), &[0; 6]].concat());
+    let back = (one.clone(), Ok(Converted { edition: 1, length: one.len() }));
+    assert_eq!(converted(&two, one.len()), back);
 }

@@ -31,7 +31,7 @@ fn shouted(name: &str) -> String {
 #[test]
 fn numbers() {
     let codes: Vec<u32> = Number::ALL.iter().map(|number| number.code()).collect();
-    assert_eq!(codes, (1..=18).collect::<Vec<u32>>());
+    assert_eq!(codes, (1..=19).collect::<Vec<u32>>());
     for number in Number::ALL {
         let name = shouted(&format!("{number:?}"));
         assert_eq!(constant(&name), (number.code() as usize, number.reason()));
@@ -39,7 +39,7 @@ fn numbers() {
         assert_eq!(Number::of_code(number.code()), Some(*number));
         assert_eq!(number.to_string(), format!("refused {}: {}", number.code(), number.reason()));
     }
-    assert_eq!([0, 19, u32::MAX].map(Number::of_code), [None; 3]);
+    assert_eq!([0, 20, u32::MAX].map(Number::of_code), [None; 3]);
 }
 
 #[test]
@@ -72,6 +72,7 @@ fn empty_tables_are_lent() {
     };
     assert_eq!(patch_box::rim(&[], none), Err(Number::Length));
     assert_eq!(patch_box::find(&[], &mut [], &mut [], &mut []), Err(Number::Length));
+    assert_eq!(patch_box::convert(&[], &mut []), Err(Number::Length));
     assert_eq!(patch_box::job(3, &[], &[], &[], &mut [], &mut []), Err(Number::TableTooShort));
     assert_eq!(patch_box::job(3, &[], &[], &[], &mut [0], &mut []), Ok(patch_box::Outcome::None));
 }

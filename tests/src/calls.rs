@@ -6,6 +6,9 @@ pub type Triangle = [u8; 3];
 /// A row (outer, inner, weight).
 pub type Row = [u32; 3];
 
+/// Bytes of the longest rim file (rule 1.4), and so places for every converted one.
+pub const MOST_BYTES: usize = 10 + 22 * 256;
+
 /// Rule 5.2: number 0 with triangles is a patch, without triangles it is 'none'.
 #[derive(Clone, Copy, Debug, PartialEq, Eq)]
 pub struct PatchAnswer {
@@ -27,6 +30,14 @@ pub struct FindAnswer {
     pub rows: usize,
 }
 
+/// The edition of the converted file and its bytes.
+#[derive(Clone, Copy, Debug, PartialEq, Eq)]
+pub struct ConvertAnswer {
+    pub number: u32,
+    pub edition: u32,
+    pub length: usize,
+}
+
 impl PatchAnswer {
     pub const NONE: PatchAnswer = PatchAnswer { number: 0, triangles: 0, total: 0 };
 
@@ -35,9 +46,22 @@ impl PatchAnswer {
     }
 }
 
+impl ConvertAnswer {
+    pub fn refused(number: u32) -> ConvertAnswer {
+        ConvertAnswer { number, edition: 0, length: 0 }
+    }
+}
+
 /// A value that no call writes, different from place to place.
 pub trait Guard: Copy + PartialEq + std::fmt::Debug {
     fn guard(place: usize) -> Self;
+}
+
+/// A converted file may hold any byte, but these are neither those of its mark nor of a zero normal.
+impl Guard for u8 {
+    fn guard(place: usize) -> u8 {
+        1 + (place % 251) as u8
+    }
 }
 
 impl Guard for u16 {
@@ -101,12 +125,14 @@ impl<T: Guard> Lent<T> {
         &self.held[Self::MARGIN..Self::MARGIN + self.places]
     }
 
-    /// The first place that differs, counted from the table's first (negative: before it).
-    pub fn difference(&self, other: &Lent<T>) -> Option<(isize, T, T)> {
+    /// The first place that differs, counted from the table's first (negative: before it), in
+    /// words.
+    pub fn difference(&self, other: &Lent<T>) -> Option<String> {
         assert_eq!(self.held.len(), other.held.len());
         let mut pairs = self.held.iter().zip(&other.held);
         let at = pairs.position(|(x, y)| x != y)?;
-        Some((at as isize - Self::MARGIN as isize, self.held[at], other.held[at]))
+        let place = at as isize - Self::MARGIN as isize;
+        Some(format!("place {place}: {:?} and {:?}", self.held[at], other.held[at]))
     }
 }
 
@@ -165,8 +191,7 @@ impl Tables {
     /// What differs first, in words.
     pub fn difference(&self, other: &Tables) -> Option<String> {
         fn said<T: Guard>(name: &str, one: &Lent<T>, two: &Lent<T>) -> Option<String> {
-            let (at, x, y) = one.difference(two)?;
-            Some(format!("{name} place {at}: {x:?} and {y:?}"))
+            Some(format!("{name} {}", one.difference(two)?))
         }
         said("triangles", &self.triangles, &other.triangles)
             .or_else(|| said("candidates", &self.candidates, &other.candidates))
@@ -203,4 +228,7 @@ pub trait Calls {
 
     /// The places that the tables of a file need, or the number due of 1 to 12 and 18.
     fn sizes(&self, file: &[u8]) -> Result<Places, u32>;
+
+    /// Conversion between editions: the file in the other one, in the first places of a table.
+    fn convert(&self, file: &[u8], out: &mut Lent<u8>) -> ConvertAnswer;
 }

@@ -1,6 +1,9 @@
 //! One call made by two, with the answers and every place of every table compared.
 
-use crate::calls::{Calls, FindAnswer, Job, PatchAnswer, Places, ReadAnswer, Tables};
+use crate::calls::{
+    Calls, ConvertAnswer, FindAnswer, Job, Lent, PatchAnswer, Places, ReadAnswer, Tables,
+    MOST_BYTES,
+};
 use crate::library::each;
 
 /// Bytes in hexadecimal.
@@ -11,12 +14,12 @@ pub fn hexadecimal(bytes: &[u8]) -> String {
 fn same<A: PartialEq + std::fmt::Debug>(
     calls: [&dyn Calls; 2],
     answers: [A; 2],
-    tables: [&Tables; 2],
+    difference: Option<String>,
     case: &dyn Fn() -> String,
 ) {
     let names = [calls[0].name(), calls[1].name()];
     assert!(answers[0] == answers[1], "{names:?} differ: {answers:?} on {}", case());
-    if let Some(difference) = tables[0].difference(tables[1]) {
+    if let Some(difference) = difference {
         panic!("{names:?} differ: {difference} on {}", case());
     }
 }
@@ -31,7 +34,7 @@ pub fn compare_rim(
     let case = || format!("file {}", hexadecimal(file));
     let mut left = [tables.clone(), tables.clone()];
     let answers = [expected.patch_rim(file, &mut left[0]), tested.patch_rim(file, &mut left[1])];
-    same([expected, tested], answers, [&left[0], &left[1]], &case);
+    same([expected, tested], answers, left[0].difference(&left[1]), &case);
     answers[0]
 }
 
@@ -46,7 +49,7 @@ pub fn compare_finder(
     let mut left = [tables.clone(), tables.clone()];
     let answers =
         [expected.find_candidates(file, &mut left[0]), tested.find_candidates(file, &mut left[1])];
-    same([expected, tested], answers, [&left[0], &left[1]], &case);
+    same([expected, tested], answers, left[0].difference(&left[1]), &case);
     answers[0]
 }
 
@@ -56,6 +59,22 @@ pub fn compare_reader(expected: &dyn Calls, tested: &dyn Calls, file: &[u8]) -> 
     let names = [expected.name(), tested.name()];
     assert!(answers[0] == answers[1], "{names:?}: {answers:?} on file {}", hexadecimal(file));
     answers[0].number
+}
+
+/// The conversion of a file, with a table of so many places; a refusal changes none of them.
+pub fn compare_conversion(
+    expected: &dyn Calls,
+    tested: &dyn Calls,
+    file: &[u8],
+    places: usize,
+) -> ConvertAnswer {
+    let case = || format!("{places} places and file {}", hexadecimal(file));
+    let before = Lent::guarded(places);
+    let mut left = [before.clone(), before.clone()];
+    let answers = [expected.convert(file, &mut left[0]), tested.convert(file, &mut left[1])];
+    same([expected, tested], answers, left[0].difference(&left[1]), &case);
+    assert!(answers[0].number == 0 || left[0] == before, "a refusal writes on {}", case());
+    answers[0]
 }
 
 /// A direct job, with so many places in the triangle and work tables.
@@ -69,7 +88,7 @@ pub fn compare_job(
     let before = Tables::of_job(job, places[0], places[1]);
     let mut left = [before.clone(), before];
     let answers = [expected.patch_job(job.n, &mut left[0]), tested.patch_job(job.n, &mut left[1])];
-    same([expected, tested], answers, [&left[0], &left[1]], &case);
+    same([expected, tested], answers, left[0].difference(&left[1]), &case);
     answers[0]
 }
 
@@ -87,5 +106,20 @@ pub fn expect_number(file: &[u8], number: u32, case: &dyn std::fmt::Debug) {
         assert_eq!(left.difference(&before), None, "{name}, {case:?}");
         assert_eq!(calls.read_rim(file), ReadAnswer { number, vertices: 0 }, "{name}, {case:?}");
         assert_eq!(calls.sizes(file), Err(number), "{name}, {case:?}");
+    }
+    for places in [0, MOST_BYTES] {
+        expect_no_conversion(file, places, number, case);
+    }
+}
+
+/// Each refuses to convert a file, with this number, and leaves a table of so many places as it was.
+pub fn expect_no_conversion(file: &[u8], places: usize, number: u32, case: &dyn std::fmt::Debug) {
+    let before = Lent::guarded(places);
+    for calls in each() {
+        let mut left = before.clone();
+        let answer = calls.convert(file, &mut left);
+        let name = calls.name();
+        assert_eq!(answer, ConvertAnswer::refused(number), "{name}, {places} places, {case:?}");
+        assert_eq!(left.difference(&before), None, "{name}, {places} places, {case:?}");
     }
 }

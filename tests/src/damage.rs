@@ -1,7 +1,15 @@
 //! Damage to a rim file, and the number due for it (rules 4.1 to 4.11 and 4.18).
 
 use crate::normals;
-use crate::rims::{Edition, Record, RimFile};
+use crate::random::Random;
+use crate::rims::{Edition, Record, RimFile, Shape};
+
+/// A file of six records in chain order, with a normal on every edge in edition 2.
+pub fn undamaged(edition: Edition, seed: u64) -> RimFile {
+    let mut random = Random::new(seed);
+    let points = Shape::NoisyCircle.points(6, 500, &mut random);
+    RimFile::plain(&points, 2, 1).in_edition(edition, points.len(), &mut random)
+}
 
 /// One thing wrong with a file. Chain positions count from 0; the records of the undamaged file
 /// stand in chain order, so position p is record p + 1.

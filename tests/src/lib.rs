@@ -15,5 +15,6 @@ pub mod jobs;
 pub mod law;
 pub mod library;
 pub mod normals;
+pub mod programs;
 pub mod random;
 pub mod rims;

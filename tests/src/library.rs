@@ -6,7 +6,9 @@ use crate::law::BY_SETS;
 
 #[cfg(feature = "library")]
 mod linked {
-    use crate::calls::{Calls, FindAnswer, PatchAnswer, Places, ReadAnswer, Tables};
+    use crate::calls::{
+        Calls, ConvertAnswer, FindAnswer, Lent, PatchAnswer, Places, ReadAnswer, Tables,
+    };
     use patch_box::{Number, Outcome};
 
     pub struct Library;
@@ -69,6 +71,15 @@ mod linked {
             let sizes = patch_box::sizes(file).map_err(Number::code)?;
             let patch_box::Sizes { triangles, candidates, weights, rows, work } = sizes;
             Ok(Places { triangles, candidates, weights, rows, work })
+        }
+
+        fn convert(&self, file: &[u8], out: &mut Lent<u8>) -> ConvertAnswer {
+            match patch_box::convert(file, out.table()) {
+                Err(number) => ConvertAnswer::refused(number.code()),
+                Ok(patch_box::Converted { edition, length }) => {
+                    ConvertAnswer { number: 0, edition, length }
+                }
+            }
         }
     }
 }

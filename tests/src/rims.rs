@@ -108,48 +108,81 @@ impl RimFile {
     /// grid.
     pub fn varied(points: &[Point], factors: [u16; 2], random: &mut Random) -> RimFile {
         let mut file = RimFile::plain(points, factors[0], factors[1]);
-        let spare = random.below(4);
-        let mut order: Vec<u16> = (1..=(points.len() + spare) as u16).collect();
-        random.shuffle(&mut order);
-        let number = |k: usize| if k < points.len() { order[k] } else { 0 };
-        let mut records: Vec<Record> = order.iter().map(|_| Record::anything(random)).collect();
         let mut height = None;
-        for (k, record) in file.records.iter().enumerate() {
-            let [_, _, z] = points[k];
-            let level = height == Some(z) && random.once_in(2);
-            let mut bits = points[k].map(|g| near(g, random));
+        for (record, point) in file.records.iter_mut().zip(points) {
+            let level = height == Some(point[2]) && random.once_in(2);
+            record.bits = point.map(|g| near(g, random));
             if level {
-                bits[2] = 0;
+                record.kind = 2;
+                record.bits[2] = 0;
             }
-            height = Some(z);
-            let kind = if level { 2 } else { 1 };
-            records[number(k) as usize - 1] = Record { next: number(k + 1), kind, ..*record };
-            records[number(k) as usize - 1].bits = bits;
+            height = Some(point[2]);
         }
-        file.first = number(0);
-        file.declared = records.len() as u16;
-        file.records = records;
+        let spare = random.below(4);
+        let file = file.among_spare_records(spare, random);
         match random.one_of(&Edition::BOTH) {
             Edition::First => file,
             Edition::Second => file.with_normals(&normals::along(points, random)),
         }
     }
+
+    /// A file whose records are its chain, in order: in any order, between so many spare ones.
+    pub fn among_spare_records(mut self, spare: usize, random: &mut Random) -> RimFile {
+        let chain = self.records.len();
+        let mut order: Vec<u16> = (1..=(chain + spare) as u16).collect();
+        random.shuffle(&mut order);
+        let number = |k: usize| if k < chain { order[k] } else { 0 };
+        let mut records: Vec<Record> = order.iter().map(|_| Record::anything(random)).collect();
+        for (k, record) in self.records.iter().enumerate() {
+            records[number(k) as usize - 1] = Record { next: number(k + 1), ..*record };
+        }
+        self.first = number(0);
+        self.declared = records.len() as u16;
+        self.records = records;
+        self
+    }
+
+    /// The same header and records in the other edition, without any normal.
+    pub fn converted(mut self) -> RimFile {
+        self.edition = match self.edition {
+            Edition::First => Edition::Second,
+            Edition::Second => Edition::First,
+        };
+        self.records.iter_mut().for_each(|record| record.normal = normals::NONE);
+        self
+    }
 }
 
 impl Record {
     pub fn anything(random: &mut Random) -> Record {
-        let any = [random.next_u64(), random.next_u64(), random.next_u64()];
+        let mut any = |usual: usize| match random.below(2) {
+            0 => random.below(usual) as u16,
+            _ => random.next_u64() as u16,
+        };
         Record {
-            next: any[0] as u16,
-            kind: (any[0] >> 16) as u16,
-            bits: [(any[0] >> 32) as u32, any[1] as u32, (any[1] >> 32) as u32],
-            normal: [0, 16, 32].map(|shift| (any[2] >> shift) as i16),
+            next: any(12),
+            kind: any(4),
+            bits: [0; 3].map(|_| any_float(random)),
+            normal: [0; 3].map(|_| random.next_u64() as i16),
         }
     }
 }
 
+/// The bits of any float, of those that are rare among all bits too.
+fn any_float(random: &mut Random) -> u32 {
+    let any = random.next_u64() as u32;
+    match random.below(6) {
+        0 => any & 0x8000_0000,               // a zero
+        1 => any & 0x807f_ffff,               // a subnormal number
+        2 => any & 0x8000_0000 | 0x7f80_0000, // an infinity
+        3 => any | 0x7fc0_0000,               // a quiet NaN
+        4 => any & !0x40_0000 | 0x7f80_0001,  // a signalling NaN
+        _ => any,
+    }
+}
+
 /// The bits of a float whose grid number is g: on the grid, a half away where that is rounded to g
-/// (g even), or somewhere nearer.
+/// (g even), or somewhere nearer; minus zero and a subnormal number among those of 0.
 fn near(g: i64, random: &mut Random) -> u32 {
     let g = g as f64;
     let half = if random.once_in(2) { 0.5 } else { -0.5 };
@@ -157,6 +190,7 @@ fn near(g: i64, random: &mut Random) -> u32 {
     let eighths = match random.below(4) {
         0 if g % 2.0 == 0.0 && inside(g + half) => g + half,
         1 => g + (random.fraction() - 0.5) * 0.99,
+        2 if g == 0.0 => random.one_of(&[-0.0, 1e-40, -1e-40]),
         _ => g,
     };
     let value = if inside(eighths) { eighths / 8.0 } else { g / 8.0 };

@@ -2,8 +2,10 @@
 //! files, random bytes, flipped bits.
 
 use outside_tests::calls::{Places, Tables};
-use outside_tests::comparison::{compare_finder, compare_reader, compare_rim, expect_number};
-use outside_tests::damage::{self, Damage};
+use outside_tests::comparison::{
+    compare_conversion, compare_finder, compare_reader, compare_rim, expect_number,
+};
+use outside_tests::damage::{self, undamaged, Damage};
 use outside_tests::law::BY_SETS;
 use outside_tests::library::under_test;
 use outside_tests::normals;
@@ -15,10 +17,9 @@ fn tables() -> Tables {
     Tables::guarded(Places { triangles: 6, candidates: 30, weights: 30, rows: 60, work: 30 })
 }
 
-fn undamaged(edition: Edition, seed: u64) -> RimFile {
-    let mut random = Random::new(seed);
-    let points = Shape::NoisyCircle.points(6, 500, &mut random);
-    RimFile::plain(&points, 2, 1).in_edition(edition, points.len(), &mut random)
+/// The number of the conversion, with places enough for either edition.
+fn number_of_conversion(file: &[u8]) -> u32 {
+    compare_conversion(&BY_SETS, under_test(), file, 2 * file.len()).number
 }
 
 fn expect(file: &RimFile, number: u32, case: &dyn std::fmt::Debug) {
@@ -137,6 +138,7 @@ fn every_bit_flipped() {
                 flipped[bit / 8] ^= 1 << (bit % 8);
                 compare_rim(&BY_SETS, under_test(), &flipped, &tables());
                 compare_finder(&BY_SETS, under_test(), &flipped, &tables());
+                number_of_conversion(&flipped);
             }
         }
     }
@@ -159,6 +161,7 @@ fn several_bytes_changed() {
                 };
             }
             compare_rim(&BY_SETS, under_test(), &bytes, &tables());
+            number_of_conversion(&bytes);
         }
     }
 }
@@ -176,6 +179,8 @@ fn random_bytes() {
             };
             let number = compare_reader(&BY_SETS, under_test(), &bytes);
             numbers[number as usize] += 1;
+            let converted = number_of_conversion(&bytes);
+            assert!(converted == number || number == 0 && converted == 19, "{number} {converted}");
             if bytes.len() < 200 {
                 compare_rim(&BY_SETS, under_test(), &bytes, &tables());
             }

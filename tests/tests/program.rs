@@ -1,31 +1,15 @@
 //! The bench program (rules 5.3 and 5.4), where BENCH_PROGRAM names it: rim files on its standard
 //! input.
 
-use outside_tests::comparison::hexadecimal;
-use outside_tests::damage;
+use outside_tests::damage::{self, undamaged};
 use outside_tests::law::program::output;
+use outside_tests::programs::expect_written;
 use outside_tests::random::{seeds, Random};
 use outside_tests::rims::{lattice, Edition, RimFile, Shape, P};
-use std::io::Write;
 use std::path::Path;
-use std::process::{Command, Stdio};
-
-/// The program's output, or nothing where no program is named.
-fn printed(file: &[u8]) -> Option<String> {
-    let program = std::env::var_os("BENCH_PROGRAM")?;
-    let mut command = Command::new(program);
-    command.stdin(Stdio::piped()).stdout(Stdio::piped());
-    let mut child = command.spawn().expect("BENCH_PROGRAM can be run");
-    // The program may stop reading once it knows its answer.
-    let _ = child.stdin.take().expect("piped").write_all(file);
-    let output = child.wait_with_output().expect("the program ends");
-    Some(String::from_utf8(output.stdout).expect("plain text"))
-}
 
 fn compare(file: &[u8]) {
-    if let Some(text) = printed(file) {
-        assert_eq!(text, output(file), "file {}", hexadecimal(file));
-    }
+    expect_written("BENCH_PROGRAM", file, |file| output(file).into_bytes());
 }
 
 #[test]
@@ -75,17 +59,11 @@ fn rims_of_64() {
     }
 }
 
-fn six(edition: Edition) -> RimFile {
-    let mut random = Random::new(4);
-    let points = Shape::NoisyCircle.points(6, 500, &mut random);
-    RimFile::plain(&points, 1, 1).in_edition(edition, points.len(), &mut random)
-}
-
 #[test]
 fn damaged_files() {
     for edition in Edition::BOTH {
         for damage in damage::all(edition) {
-            let mut file = six(edition);
+            let mut file = undamaged(edition, 4);
             damage.apply(&mut file);
             assert_eq!(output(&file.bytes()), format!("refused {}\n", damage.number()));
             compare(&file.bytes());
@@ -98,7 +76,7 @@ fn damaged_files() {
 #[test]
 fn input_longer_than_any_file() {
     for edition in Edition::BOTH {
-        let mut file = six(edition);
+        let mut file = undamaged(edition, 4);
         let spare = file.records[0];
         for records in [6, 186, 187, 256] {
             file.records.resize(records, spare);

@@ -2,7 +2,7 @@
 
 #![cfg(feature = "library")]
 
-use outside_tests::calls::{Places, Tables};
+use outside_tests::calls::{Lent, Places, Tables, MOST_BYTES};
 use outside_tests::jobs::random_job;
 use outside_tests::library::under_test;
 use outside_tests::random::Random;
@@ -31,6 +31,9 @@ fn every_call() {
                 let _ = library.sizes(&file);
                 library.find_candidates(&file, &mut tables);
                 library.patch_rim(&file, &mut tables);
+                let mut other = Lent::guarded(MOST_BYTES);
+                let length = library.convert(&file, &mut other).length;
+                library.convert(&other.view()[..length], &mut Lent::guarded(MOST_BYTES));
             });
         }
     }

@@ -3,7 +3,7 @@
 use mathlib.Core.Path.{_≡_, refl, sym, ap, _∙_, subst}
 use mathlib.Core.Bool.{true}
 use mathlib.Core.List.{List}
-use mathlib.Core.Logic.{_⊎_, inl, inr}
+use mathlib.Core.Logic.{_⊎_}
 use Prim.Native.Nat.{ℕ, zero, suc}
 use native.Mathlib.Omega.{arith}
 use borrow.Author.Tests.{ltb-true, lt-ltb, eq-eqb}
@@ -15,11 +15,12 @@ use Rattle.polygon.specs.declared.Polygon.{Polygon}
 use Rattle.polygon.specs.Polygon.{codeOf, Valid, emptyPolygon, firstDue}
 use Rattle.polygon.proofs.Validity.{valid-code}
 use Rattle.reader.specs.declared.Status.the-variants.{Complete}
+use Rattle.reader.specs.File.{Bytes}
 use Rattle.reader.specs.Order.{Place, rim, Precedes, in-rim, First, NoneDue}
 use Rattle.reader.specs.Due.{DueAt}
 use Rattle.reader.specs.Reading.{polygonOf, answer, readingOf}
 use Rattle.reader.specs.Reading as reader
-use Rattle.reader.proofs.Order.{first-unique, none-first}
+use Rattle.reader.proofs.Order.{none-first, Verdict, first-due, none-due, verdict-either, verdict-first, verdict-given, verdict-zero, verdict-none}
 use Rattle.reader.proofs.FirstNumber.{number-first}
 use Rattle.reader.proofs.Demand1.{read-only-when, refused-empty}
 use Rattle.reader.proofs.Accepted.{read-valid}
@@ -34,7 +35,7 @@ use Rattle.triangulator.specs.Demands.{Taken, a-patch, a-none}
 use Rattle.triangulator.proofs.Demands.{settled-taken}
 use Rattle.pipeline.specs.Patching.{Tables, Patching, refused, rowsIn, jobIn, tablesShort, patched, patchBy, polygonNumber, fileNumber, patchFile}
 use Rattle.demands.specs.Demand2.{Cospherical}
-use Rattle.demands.specs.Demand1.{Bytes, polygonIn, TooShort, triangles, candidates, weights, rows, work, CallDue, by-reader, twelve, thirteen}
+use Rattle.demands.specs.Demand1.{polygonIn, TooShort, triangles, candidates, weights, rows, work, CallDue, by-reader, twelve, thirteen}
 use Rattle.demands.proofs.Demand2.{cospherical-true, true-cospherical}
 
 -- ---- 13, as a test and as a statement
@@ -72,9 +73,8 @@ nothing-13 (work h) = omega arith
 
 module _ (file : List ℕ) (bytes : Bytes file) (t : Tables) where
   -- what the call does: one of the two
-  data Verdict : Type 0 where
-    first-due : (k : ℕ) → First (CallDue file t) (suc k) → fileNumber file t ≡ suc k → Verdict
-    none-due : NoneDue (CallDue file t) → fileNumber file t ≡ 0 → Verdict
+  abbrev Decided : Type 0
+  Decided = Verdict (CallDue file t) (fileNumber file t)
 
   -- ---- the reader's numbers come first
   reader-first : (k : ℕ) → First (DueAt file) (suc k) → First (CallDue file t) (suc k)
@@ -105,7 +105,7 @@ module _ (file : List ℕ) (bytes : Bytes file) (t : Tables) where
     number-is : fileNumber file t ≡ polygonNumber (polygonIn file) t
     number-is = ap (λ (k : ℕ). firstDue k (polygonNumber (polygonOf file) t)) e ∙ ap (λ (p : Polygon). polygonNumber p t) (sym polygon-is)
 
-    no-code : Truth (cospherical (polygonIn file)) → Truth (tablesShort (polygonIn file) t) → Verdict
+    no-code : Truth (cospherical (polygonIn file)) → Truth (tablesShort (polygonIn file) t) → Decided
     unfolding numberDue
     no-code (holds a) b =
         first-due 11 (record { place = rim; is-due = twelve (cospherical-true (polygonIn file) a); none-before = before })
@@ -132,10 +132,10 @@ module _ (file : List ℕ) (bytes : Bytes file) (t : Tables) where
         nothing p k (twelve d) = true-not-false (true-cospherical (polygonIn file) d) a
         nothing p k (thirteen d) = true-not-false (true-short (polygonIn file) t d) b
 
-  verdict : Verdict
+  verdict : Decided
   verdict = by (reader.numberDue file) refl
     where
-      by : (k : ℕ) → reader.numberDue file ≡ k → Verdict
+      by : (k : ℕ) → reader.numberDue file ≡ k → Decided
       by zero e = no-code e (truth (cospherical (polygonIn file))) (truth (tablesShort (polygonIn file) t))
       by (suc k) e = first-due k (reader-first k (number-first file k e)) (ap (λ (j : ℕ). firstDue j (polygonNumber (polygonOf file) t)) e)
 
@@ -159,46 +159,35 @@ module _ (file : List ℕ) (bytes : Bytes file) (t : Tables) where
 
   -- one number is the first that is due, or none is due; `first-unique` of the reader says that it is one only
   pub first-or-none : ((k : ℕ) × First (CallDue file t) k) ⊎ NoneDue (CallDue file t)
-  first-or-none = by verdict
-    where
-      by : Verdict → ((k : ℕ) × First (CallDue file t) k) ⊎ NoneDue (CallDue file t)
-      by (first-due k f e) = inl (suc k, f)
-      by (none-due n e) = inr n
+  first-or-none = verdict-either verdict
 
   -- the first number due is given, and every lent table holds what it held
   pub refused-first : (k : ℕ) → First (CallDue file t) k → patchFile file t ≡ refused k t
-  refused-first k f = by verdict
-    where
-      by : Verdict → patchFile file t ≡ refused k t
-      by (first-due j g e) = refused-by j e ∙ ap (λ (n : ℕ). refused n t) (first-unique g f)
-      by (none-due n e) = absurd (none-first n f)
+  refused-first zero f = absurd (none-first (verdict-none verdict (verdict-first verdict f)) f)
+  refused-first (suc k) f = refused-by k (verdict-first verdict f)
 
   -- and a number that is given is the first that is due
   pub given-first : (k : ℕ) → numberOf (patchFile file t .outcome) ≡ suc k → First (CallDue file t) (suc k)
-  given-first k h = by verdict
+  given-first k h = by (fileNumber file t) refl
     where
-      by : Verdict → First (CallDue file t) (suc k)
-      by (first-due j g e) = subst (λ (n : ℕ). First (CallDue file t) n) (sym (ap (λ (x : Patching). numberOf (x .outcome)) (refused-by j e)) ∙ h) g
-      by (none-due n e) = absurd (untaken (taken e) h)
-        where
-          untaken : {o : Outcome} → Taken o → numberOf o ≡ suc k → ⊥
-          untaken a-patch q = omega (arith, q)
-          untaken a-none q = omega (arith, q)
+      untaken : {o : Outcome} → Taken o → numberOf o ≡ suc k → ⊥
+      untaken a-patch q = omega (arith, q)
+      untaken a-none q = omega (arith, q)
+
+      by : (n : ℕ) → fileNumber file t ≡ n → First (CallDue file t) (suc k)
+      by zero e = absurd (untaken (taken e) h)
+      by (suc j) e = verdict-given verdict (e ∙ sym (ap (λ (x : Patching). numberOf (x .outcome)) (refused-by j e)) ∙ h)
 
   -- the call ends in a patch or 'none' exactly when no number is due
   pub taken-when : NoneDue (CallDue file t) → Taken (patchFile file t .outcome)
-  taken-when n = by verdict
-    where
-      by : Verdict → Taken (patchFile file t .outcome)
-      by (first-due k f e) = absurd (none-first n f)
-      by (none-due m e) = taken e
+  taken-when n = taken (verdict-zero verdict n)
 
   pub taken-only-when : Taken (patchFile file t .outcome) → NoneDue (CallDue file t)
-  taken-only-when h = by verdict
+  taken-only-when h = verdict-none verdict (by (fileNumber file t) refl)
     where
-      by : Verdict → NoneDue (CallDue file t)
-      by (first-due k f e) = absurd (never-refused (ap (λ (x : Patching). x .outcome) (refused-by k e)) h)
-      by (none-due n e) = n
+      by : (n : ℕ) → fileNumber file t ≡ n → fileNumber file t ≡ 0
+      by zero e = e
+      by (suc k) e = absurd (never-refused (ap (λ (x : Patching). x .outcome) (refused-by k e)) h)
 
   -- what an accepted call is, for demands 2 and 3
   pub record Accepted : Type 0 where
@@ -206,9 +195,8 @@ module _ (file : List ℕ) (bytes : Bytes file) (t : Tables) where
     pub call-is : patchFile file t ≡ patched (polygonIn file) t
 
   pub accepted : NoneDue (CallDue file t) → Accepted
-  accepted n = by (reader.numberDue file) refl verdict
+  accepted n = by (reader.numberDue file) refl
     where
-      by : (k : ℕ) → reader.numberDue file ≡ k → Verdict → Accepted
-      by k e (first-due j f g) = absurd (none-first n f)
-      by zero e (none-due m g) = record { polygon-valid = valid e; call-is = accepted-by g ∙ ap (λ (p : Polygon). patched p t) (sym (polygon-is e)) }
-      by (suc k) e (none-due m g) = absurd (none-first n (reader-first k (number-first file k e)))
+      by : (k : ℕ) → reader.numberDue file ≡ k → Accepted
+      by zero e = record { polygon-valid = valid e; call-is = accepted-by (verdict-zero verdict n) ∙ ap (λ (p : Polygon). patched p t) (sym (polygon-is e)) }
+      by (suc k) e = absurd (none-first n (reader-first k (number-first file k e)))

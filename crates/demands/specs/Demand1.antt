@@ -1,7 +1,7 @@
 -- The numbers due on a rim file and on the tables lent with it, each by itself and at its place. Definitions only.
 use mathlib.Core.List.{List}
 use Prim.Native.Nat.{ℕ, _<_}
-use lib.ListN.{length, getD}
+use lib.ListN.{length}
 use Rattle.polygon.specs.declared.Polygon.{Polygon}
 use Rattle.reader.specs.Order.{Place, rim}
 use Rattle.reader.specs.Due.{DueAt}
@@ -10,10 +10,6 @@ use Rattle.finder.specs.declared.Places.{Places}
 use Rattle.finder.specs.Sizes.{placesOf}
 use Rattle.pipeline.specs.Patching.{Tables}
 use Rattle.demands.specs.Demand2.{Cospherical}
-
--- the places of a file are bytes
-abbrev pub Bytes : List ℕ → Type 0
-Bytes file = (i : ℕ) → getD file i 0 < 256
 
 -- the polygon of a file: its vertices are what the records give (`read-vertices` of reader/proofs/Accepted.antt), and none where the reader refuses
 -- the file, so that 12 and 13 are asked only of what there is (rule 4.31)

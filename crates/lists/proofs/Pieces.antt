@@ -4,10 +4,10 @@ use mathlib.Core.List.{List, _++_}
 use Prim.Native.Nat.{ℕ, zero, suc, _+_, _*_, _-_, _≤_, _<_}
 use native.Mathlib.Nat.{mul-zero, mul-suc}
 use native.Mathlib.Omega.{arith}
-use lib.ListN.{length, getD, length-append, List·getD-append}
-use lib.Seq.{getD-append-add}
+use lib.ListN.{length, take, drop, getD, length-append, List·getD-append}
+use lib.Seq.{getD-append-add, take-add}
 use Rattle.lists.specs.Lists.{upFrom, over}
-use Rattle.lists.proofs.Ranges.{over-step}
+use Rattle.lists.proofs.Ranges.{over-step, over-last}
 use Rattle.lists.proofs.Parts.{over-split}
 
 module _ {A : Type 0} (f : ℕ → List A) (size : ℕ) where
@@ -30,3 +30,17 @@ module _ {A : Type 0} (f : ℕ → List A) (size : ℕ) where
       ∙ getD-append-add (over lo i f) (over i hi f) j d
       ∙ ap (λ (x : List A). getD x j d) (over-step i hi f m)
       ∙ List·getD-append (f i) (over (i + 1) hi f) d j (omega (arith, h i l m))
+
+-- a list cut in pieces of one length
+pub cut-pieces : {A : Type 0} (size n : ℕ) (l : List A) → take (size * n) l ≡ over 1 (suc n) (λ k. take size (drop (size * (k - 1)) l))
+unfolding upFrom
+cut-pieces size zero l = ap (λ (k : ℕ). take k l) (mul-zero size)
+cut-pieces {A} size (suc n) l =
+    let f : ℕ → List A = λ k. take size (drop (size * (k - 1)) l) in
+    let e : suc n - 1 ≡ n = omega arith in
+    let d : suc n + 1 ≡ suc (suc n) = omega arith in
+    ap (λ (k : ℕ). take k l) (mul-suc size n)
+    ∙ take-add (size * n) size l
+    ∙ (λ i. cut-pieces size n l i ++ take size (drop (size * sym e i) l))
+    ∙ sym (over-last 1 (suc n) f (omega arith))
+    ∙ ap (λ (k : ℕ). over 1 k f) d

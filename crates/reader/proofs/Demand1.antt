@@ -2,7 +2,7 @@
 use mathlib.Core.Path.{_≡_, refl, sym, ap, _∙_}
 use mathlib.Core.Bool.{false}
 use mathlib.Core.List.{List}
-use mathlib.Core.Logic.{_⊎_, inl, inr}
+use mathlib.Core.Logic.{_⊎_}
 use Prim.Native.Nat.{ℕ, zero, suc}
 use native.Mathlib.Omega.{arith}
 use Rattle.polygon.specs.Polygon.{emptyPolygon}
@@ -13,7 +13,7 @@ use Rattle.reader.specs.Reading.{numberDue, polygonOf, answer, readingOf
 use Rattle.reader.specs.declared.Status.the-variants.{Complete}
 use Rattle.reader.proofs.Normals.{no-18-in-edition-1}
 use Rattle.reader.proofs.Answers.{answer-number}
-use Rattle.reader.proofs.Order.{first-unique, none-first}
+use Rattle.reader.proofs.Order.{none-first, Verdict, first-due, none-due, verdict-either, verdict-first, verdict-given, verdict-zero, verdict-none}
 use Rattle.reader.proofs.FirstNumber.{Read, number-first, no-number-read, read-none}
 
 module _ (s : List ℕ) where
@@ -28,43 +28,35 @@ module _ (s : List ℕ) where
   pub complete-read : readingOf s .status ≡ Complete → Read s
   complete-read e = no-number-read s (complete-zero (numberDue s) e)
 
+  pub verdict : Verdict (DueAt s) (numberDue s)
+  verdict = by (numberDue s) refl
+    where
+      by : (k : ℕ) → numberDue s ≡ k → Verdict (DueAt s) (numberDue s)
+      by zero e = none-due (read-none s (no-number-read s e)) e
+      by (suc k) e = first-due k (number-first s k e) e
+
   -- there is a first number due, or none is due
   pub first-or-none : ((k : ℕ) × First (DueAt s) k) ⊎ NoneDue (DueAt s)
-  first-or-none = by (numberDue s) refl
-    where
-      by : (k : ℕ) → numberDue s ≡ k → ((k : ℕ) × First (DueAt s) k) ⊎ NoneDue (DueAt s)
-      by zero e = inr (read-none s (no-number-read s e))
-      by (suc k) e = inl (suc k, number-first s k e)
+  first-or-none = verdict-either verdict
 
   -- the file is read exactly when no number is due
   pub read-when : NoneDue (DueAt s) → readingOf s .status ≡ Complete
-  read-when none = by (numberDue s) refl
-    where
-      by : (k : ℕ) → numberDue s ≡ k → answer (numberDue s) (polygonOf s) .status ≡ Complete
-      by zero e = ap (λ (k : ℕ). answer k (polygonOf s) .status) e
-      by (suc k) e = absurd (none-first none (number-first s k e))
+  read-when none = ap (λ (k : ℕ). answer k (polygonOf s) .status) (verdict-zero verdict none)
 
   pub read-only-when : readingOf s .status ≡ Complete → NoneDue (DueAt s)
   read-only-when e = read-none s (complete-read e)
 
   -- the number that is given is exactly the first that is due; the polygon is then the empty one
   pub given-first : (k : ℕ) → statusNumber (readingOf s .status) ≡ suc k → First (DueAt s) (suc k)
-  given-first k e = number-first s k (sym number-is ∙ e)
+  given-first k e = verdict-given verdict (sym number-is ∙ e)
 
   -- 18 is given to no file of edition 1 (rule 4.18)
   pub edition-1-not-18 : isEdition2 s ≡ false → statusNumber (readingOf s .status) ≡ 18 → ⊥
   edition-1-not-18 e d = let f = given-first 17 d in no-18-in-edition-1 s e (f .place) (f .is-due)
 
   pub first-given : (k : ℕ) → First (DueAt s) k → statusNumber (readingOf s .status) ≡ k
-  first-given k f = by (numberDue s) refl
-    where
-      by : (j : ℕ) → numberDue s ≡ j → statusNumber (readingOf s .status) ≡ k
-      by zero e = absurd (none-first (read-none s (no-number-read s e)) f)
-      by (suc j) e = number-is ∙ e ∙ first-unique (number-first s j e) f
+  first-given k f = number-is ∙ verdict-first verdict f
 
   pub refused-empty : (k : ℕ) → First (DueAt s) k → readingOf s .polygon ≡ emptyPolygon
-  refused-empty k f = by (numberDue s) refl
-    where
-      by : (j : ℕ) → numberDue s ≡ j → answer (numberDue s) (polygonOf s) .polygon ≡ emptyPolygon
-      by zero e = absurd (none-first (read-none s (no-number-read s e)) f)
-      by (suc j) e = ap (λ (i : ℕ). answer i (polygonOf s) .polygon) e
+  refused-empty zero f = absurd (none-first (verdict-none verdict (verdict-first verdict f)) f)
+  refused-empty (suc k) f = ap (λ (i : ℕ). answer i (polygonOf s) .polygon) (verdict-first verdict f)

@@ -1,7 +1,8 @@
 -- The order of numbers at their places: of two one comes first, so there is at most one first number. Assumes nothing.
-use mathlib.Core.Path.{_≡_, refl}
+use mathlib.Core.Path.{_≡_, refl, sym, subst, _∙_}
 use mathlib.Core.Bool.{Bool, true, false}
-use Prim.Native.Nat.{ℕ, _<_}
+use mathlib.Core.Logic.{_⊎_, inl, inr}
+use Prim.Native.Nat.{ℕ, suc, _<_}
 use native.Mathlib.Omega.{arith}
 use borrow.Author.Tests.{ltb-true, ltb-false}
 use lib.Dec.{ltb}
@@ -48,3 +49,32 @@ module _ {due : Place → ℕ → Type 0} where
   -- where no number is due, none is the first
   pub none-first : {k : ℕ} → NoneDue due → First due k → ⊥
   none-first {k} n f = n .none (f .place) k (f .is-due)
+
+-- a number that tests give: the first that is due, or 0 where none is
+pub data Verdict (due : Place → ℕ → Type 0) (n : ℕ) : Type 0 where
+  first-due : (k : ℕ) → First due (suc k) → n ≡ suc k → Verdict due n
+  none-due : NoneDue due → n ≡ 0 → Verdict due n
+
+module _ {due : Place → ℕ → Type 0} {n : ℕ} where
+  -- there is a first number due, or none is due
+  pub verdict-either : Verdict due n → ((k : ℕ) × First due k) ⊎ NoneDue due
+  verdict-either (first-due k f e) = inl (suc k, f)
+  verdict-either (none-due none e) = inr none
+
+  -- the first that is due is given, and what is given is the first that is due
+  pub verdict-first : {k : ℕ} → Verdict due n → First due k → n ≡ k
+  verdict-first (first-due j g e) f = e ∙ first-unique g f
+  verdict-first (none-due none e) f = absurd (none-first none f)
+
+  pub verdict-given : {k : ℕ} → Verdict due n → n ≡ suc k → First due (suc k)
+  verdict-given (first-due j g e) d = subst (λ (i : ℕ). First due i) (sym e ∙ d) g
+  verdict-given (none-due none e) d = absurd (omega arith)
+
+  -- none is given exactly when none is due
+  pub verdict-zero : Verdict due n → NoneDue due → n ≡ 0
+  verdict-zero (first-due k f e) none = absurd (none-first none f)
+  verdict-zero (none-due none e) h = e
+
+  pub verdict-none : Verdict due n → n ≡ 0 → NoneDue due
+  verdict-none (first-due k f e) d = absurd (omega arith)
+  verdict-none (none-due none e) d = none

@@ -1,8 +1,10 @@
 -- Numbers of two bytes in two's complement, as the machine holds them. Assumes nothing.
-use mathlib.Core.Path.{_≡_, sym, ap, subst, _∙_}
+use mathlib.Core.Path.{_≡_, refl, sym, ap, subst, _∙_}
+use mathlib.Core.Bool.{Bool, true, false}
 use Prim.Native.Nat.{ℕ, _-_, _≤_, _<_}
 use native.Mathlib.Omega.{arith}
-use borrow.Author.Tests.{lt-ltb, le-ltb}
+use borrow.Author.Tests.{lt-ltb, le-ltb, ltb-false}
+use lib.Dec.{ltb}
 use lib.IntN.{ℤ, pos, negsuc, _-ℤ_}
 use mir.Syntax.{w16, w64}
 use mir.Val.{SFits, toZ, ofZ}
@@ -33,3 +35,13 @@ module _ (u : ℕ) (low : 32768 ≤ u) (high : u < 65536) where
 
   pub high-half : toZ w16 (ofZ w16 (toZ w64 (ofZ w64 (toZ w64 u -ℤ pos 65536)))) ≡ signed16 u
   high-half = toZ-ofZ fits-16 ∙ held ∙ sym (no _ _ (le-ltb u 32768 low))
+
+-- only the bits 0 are the number 0
+pub zero-bits : (u : ℕ) → u < 65536 → signed16 u ≡ pos 0 → u ≡ 0
+zero-bits u h e = by (ltb u 32768) refl
+  where
+    by : (b : Bool) → ltb u 32768 ≡ b → u ≡ 0
+    by true d = let z : pos u ≡ pos 0 = sym (yes _ _ d) ∙ e in cc
+    by false d =
+        let z : negsuc (65535 - u) ≡ pos 0 = sym (less u (ltb-false u 32768 d) h) ∙ sym (no _ _ d) ∙ e in
+        absurd (let n : _≡_ {A = ℕ} 0 1 = cc in omega arith)

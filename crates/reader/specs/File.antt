@@ -1,5 +1,5 @@
 -- The rim file: its header and its records, as numbers. Definitions only.
-use Prim.Native.Nat.{ℕ, suc, _+_, _-_, _*_}
+use Prim.Native.Nat.{ℕ, suc, _+_, _-_, _*_, _<_}
 use mathlib.Core.Bool.{Bool, not, cond}
 use mathlib.Core.List.{List}
 use lib.ListN.{length, getD}
@@ -8,6 +8,10 @@ use lib.Dec.{ltb, eqb}
 use lib.Ieee.{Float, binary32, ofBits}
 use Rattle.lists.specs.Lists.{either}
 use Rattle.reader.specs.declared.Layout.{Layout}
+
+-- the places of a file are bytes
+abbrev pub Bytes : List ℕ → Type 0
+Bytes s = (i : ℕ) → getD s i 0 < 256
 
 -- a number of two bytes, and of four, the lowest first (rule 1.1)
 abbrev pub u16At : List ℕ → ℕ → ℕ

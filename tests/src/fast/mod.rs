@@ -1,12 +1,15 @@
 //! The library's own method in plain Rust made for speed, to measure the library against.
 
+mod conversion;
 mod finder;
 pub mod reader;
 mod tiler;
 mod vectors;
 pub mod weights;
 
-use crate::calls::{Calls, FindAnswer, PatchAnswer, Places, ReadAnswer, Tables};
+use crate::calls::{
+    Calls, ConvertAnswer, FindAnswer, Lent, PatchAnswer, Places, ReadAnswer, Tables,
+};
 use finder::Faces;
 use reader::Polygon;
 
@@ -100,5 +103,12 @@ impl Calls for Fast {
         let (candidates, rows) = (faces.candidates(), faces.rows());
         let triangles = polygon.n - 2;
         Ok(Places { triangles, candidates, weights: candidates, rows, work: candidates })
+    }
+
+    fn convert(&self, file: &[u8], out: &mut Lent<u8>) -> ConvertAnswer {
+        match conversion::convert(file, out.table()) {
+            Err(number) => ConvertAnswer::refused(number),
+            Ok((edition, length)) => ConvertAnswer { number: 0, edition, length },
+        }
     }
 }

@@ -14,30 +14,33 @@ pub struct Polygon {
 
 /// Where the parts of a file stand, by its edition.
 #[derive(Clone, Copy)]
-struct Layout {
-    header: usize,
-    record: usize,
+pub struct Layout {
+    pub header: usize,
+    pub record: usize,
 }
 
 impl Layout {
-    fn of(file: &[u8]) -> Layout {
+    pub const FIRST: Layout = Layout { header: 0, record: NORMAL };
+    pub const SECOND: Layout = Layout { header: 2, record: NORMAL + 6 };
+
+    pub fn of(file: &[u8]) -> Layout {
         match file.first_chunk() {
-            Some(&[0xff, 0xff]) => Layout { header: 2, record: NORMAL + 6 },
-            _ => Layout { header: 0, record: NORMAL },
+            Some(&[0xff, 0xff]) => Layout::SECOND,
+            _ => Layout::FIRST,
         }
     }
 
-    fn records(self) -> usize {
+    pub fn records(self) -> usize {
         self.header + 8
     }
 
-    fn has_normals(self) -> bool {
+    pub fn has_normals(self) -> bool {
         self.record > NORMAL
     }
 }
 
 /// Where the normal stands in a record that has one.
-const NORMAL: usize = 16;
+pub const NORMAL: usize = 16;
 
 fn u16_at(file: &[u8], at: usize) -> usize {
     u16::from_le_bytes([file[at], file[at + 1]]) as usize

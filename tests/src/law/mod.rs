@@ -2,6 +2,7 @@
 //! method: exact values of floats, spheres by their rational centres, triangulations as sets of
 //! candidates judged by edge counts.
 
+pub mod conversion;
 pub mod finder;
 pub mod grid;
 pub mod program;
@@ -9,8 +10,11 @@ pub mod reader;
 pub mod tests_of_jobs;
 pub mod tilings;
 
-use crate::calls::{Calls, FindAnswer, Job, PatchAnswer, Places, ReadAnswer, Tables};
+use crate::calls::{
+    Calls, ConvertAnswer, FindAnswer, Job, Lent, PatchAnswer, Places, ReadAnswer, Tables,
+};
 use crate::interval;
+use conversion::Converted;
 use finder::Lists;
 use tilings::Tiling;
 
@@ -129,5 +133,15 @@ impl Calls for Law {
             rows: lists.rows.len(),
             work: candidates,
         })
+    }
+
+    fn convert(&self, file: &[u8], out: &mut Lent<u8>) -> ConvertAnswer {
+        match conversion::convert(file, out.view().len()) {
+            Err(number) => ConvertAnswer::refused(number),
+            Ok(Converted { edition, bytes }) => {
+                fill(out.table(), &bytes);
+                ConvertAnswer { number: 0, edition, length: bytes.len() }
+            }
+        }
     }
 }

@@ -1,14 +1,26 @@
-//! What the bench program prints for a file (rules 5.3 and 5.4).
+//! What the programs write for a file: the bench program (rules 5.3 and 5.4) and the convert program.
 
-use super::BY_INTERVALS;
-use crate::calls::{Calls, Places, Tables};
+use super::{conversion, BY_INTERVALS};
+use crate::calls::{Calls, Places, Tables, MOST_BYTES};
 use std::fmt::Write;
+
+fn refusal(number: u32) -> String {
+    format!("refused {number}\n")
+}
+
+/// The convert program has places for every converted file.
+pub fn converted(file: &[u8]) -> Vec<u8> {
+    match conversion::convert(file, MOST_BYTES) {
+        Ok(converted) => converted.bytes,
+        Err(number) => refusal(number).into_bytes(),
+    }
+}
 
 pub fn output(file: &[u8]) -> String {
     let mut tables = Tables::guarded(Places::BENCH);
     let answer = BY_INTERVALS.patch_rim(file, &mut tables);
     if answer.number != 0 {
-        return format!("refused {}\n", answer.number);
+        return refusal(answer.number);
     }
     if answer.triangles == 0 {
         return String::from("none\n");

@@ -15,17 +15,16 @@ pub struct Rim {
     pub surfaces: Vec<Option<Point>>,
 }
 
-/// A file of either edition, cut up: its header numbers but the count, and its records.
-struct Parts<'a> {
-    first: usize,
-    area_factor: u64,
-    bend_factor: u64,
-    records: Vec<&'a [u8]>,
+/// A file of either edition, cut up: the eight bytes of its header, and its records.
+pub struct Parts<'a> {
+    pub edition: u32,
+    pub header: &'a [u8],
+    pub records: Vec<&'a [u8]>,
 }
 
 /// Bytes of a record up to its normal, and of the normal.
-const RECORD: usize = 16;
-const NORMAL: usize = 6;
+pub const RECORD: usize = 16;
+pub const NORMAL: usize = 6;
 
 fn u16_at(file: &[u8], at: usize) -> usize {
     u16::from_le_bytes([file[at], file[at + 1]]) as usize
@@ -84,22 +83,17 @@ fn surface_of(record: &[u8]) -> Result<Option<Point>, u32> {
 }
 
 /// Rules 1.2 to 1.4 and 1.12: the first u16 alone tells the edition; or 1.
-fn cut(file: &[u8]) -> Result<Parts<'_>, u32> {
-    let (file, record) = match file {
-        [255, 255, rest @ ..] => (rest, RECORD + NORMAL),
-        _ => (file, RECORD),
+pub fn cut(file: &[u8]) -> Result<Parts<'_>, u32> {
+    let (edition, file, record) = match file {
+        [255, 255, rest @ ..] => (2, rest, RECORD + NORMAL),
+        _ => (1, file, RECORD),
     };
     let (header, records) = file.split_at_checked(8).ok_or(1u32)?;
     let count = u16_at(header, 2);
     if count > 256 || records.len() != record * count {
         return Err(1);
     }
-    Ok(Parts {
-        first: u16_at(header, 0),
-        area_factor: u16_at(header, 4) as u64,
-        bend_factor: u16_at(header, 6) as u64,
-        records: records.chunks(record).collect(),
-    })
+    Ok(Parts { edition, header, records: records.chunks(record).collect() })
 }
 
 /// The points and surfaces along the chain. A link is judged when it is followed (rule 4.31): 3, 4,
@@ -109,7 +103,7 @@ fn chain(file: &Parts) -> Result<(Vec<Point>, Vec<Option<Point>>), u32> {
     let mut points = Vec::new();
     let mut surfaces = Vec::new();
     let mut height = None;
-    let mut link = file.first;
+    let mut link = u16_at(file.header, 0);
     while link != 0 {
         if link > file.records.len() {
             return Err(3);
@@ -133,7 +127,8 @@ fn chain(file: &Parts) -> Result<(Vec<Point>, Vec<Option<Point>>), u32> {
 
 pub fn read(file: &[u8]) -> Result<Rim, u32> {
     let parts = cut(file)?;
-    if parts.area_factor > 16 {
+    let [area_factor, bend_factor] = [4, 6].map(|at| u16_at(parts.header, at) as u64);
+    if area_factor > 16 {
         return Err(2);
     }
     let (points, surfaces) = chain(&parts)?;
@@ -145,6 +140,5 @@ pub fn read(file: &[u8]) -> Result<Rim, u32> {
             return Err(11);
         }
     }
-    let Parts { area_factor, bend_factor, .. } = parts;
     Ok(Rim { area_factor, bend_factor, points, surfaces })
 }
