@@ -5,13 +5,22 @@ use Prim.Native.Nat.{ℕ, zero, suc, _+_, _-_, _≤_, _<_}
 use native.Mathlib.Numerals.{add-one}
 use native.Mathlib.Omega.{arith}
 use lib.ListN.{length, take, drop, set, getD, replicate, length-drop, length-replicate, replicate-append-replicate}
-use lib.Seq.{sets, sets-eq, length-take-le, take-suc, getD-drop}
+use lib.Seq.{sets, sets-eq, length-take-le, take-suc, getD-take, getD-drop, ext-getD}
 use Rattle.lists.specs.Lists.{filled}
 use Rattle.converter.specs.Converted.{bytesAt}
 
 -- ---- the bytes
 pub bytes-length : (s : List ℕ) (i k : ℕ) → i + k ≤ length s → length (bytesAt s i k) ≡ k
 bytes-length s i k h = length-take-le k (drop i s) (omega (arith, length-drop i s))
+
+pub bytes-at : (s : List ℕ) (i k j : ℕ) → j < k → getD (bytesAt s i k) j 0 ≡ getD s (i + j) 0
+bytes-at s i k j h = getD-take k (drop i s) j 0 h ∙ getD-drop i s j 0
+
+-- bytes that are the same one by one
+pub bytes-same : (s t : List ℕ) (i j k : ℕ) → i + k ≤ length s → j + k ≤ length t → ((n : ℕ) → n < k → getD s (i + n) 0 ≡ getD t (j + n) 0) → bytesAt s i k ≡ bytesAt t j k
+bytes-same s t i j k a b h =
+    ext-getD 0 (bytesAt s i k) (bytesAt t j k) (bytes-length s i k a ∙ sym (bytes-length t j k b))
+    (λ n l. let m : n < k = omega (arith, bytes-length s i k a) in bytes-at s i k n m ∙ h n m ∙ sym (bytes-at t j k n m))
 
 bytes-next : (s : List ℕ) (i k : ℕ) → i + k < length s → bytesAt s i (k + 1) ≡ bytesAt s i k ++ (getD s (i + k) 0 ∷ [])
 bytes-next s i k h =

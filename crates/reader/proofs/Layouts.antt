@@ -23,6 +23,9 @@ module _ (s : List ℕ) where
   pub start-1 : isEdition2 s ≡ false → headerStart s ≡ 0
   start-1 e = ap (λ (l : Layout). l .header) (edition1 e)
 
+  pub start-2 : isEdition2 s ≡ true → headerStart s ≡ markerSize
+  start-2 e = ap (λ (l : Layout). l .header) (edition2 e)
+
   pub size-1 : isEdition2 s ≡ false → recordSize s ≡ recordSize1
   size-1 e = ap (λ (l : Layout). l .«record_size») (edition1 e)
 
@@ -40,11 +43,11 @@ module _ (s : List ℕ) where
     where
       by : (b : Bool) → isEdition2 s ≡ b → Bounds
       by true e =
-          let h : headerStart s ≡ markerSize = ap (λ (l : Layout). l .header) (edition2 e) in
+          let h = start-2 e in
           let z = size-2 e in
           record { header = omega arith; least = omega arith; most = omega arith }
       by false e =
-          let h : headerStart s ≡ 0 = ap (λ (l : Layout). l .header) (edition1 e) in
+          let h = start-1 e in
           let z = size-1 e in
           record { header = omega arith; least = omega arith; most = omega arith }
 
