@@ -17,7 +17,7 @@ use Rattle.reader.specs.declared.Status.the-variants as status
 use Rattle.reader.proofs.Demand1.{number-is}
 use Rattle.reader.proofs.FirstNumber.{no-number-read}
 use Rattle.converter.specs.Converted.{converted, otherEdition, normalLost}
-use Rattle.converter.specs.Call.{Values, valuesOf, conversionCode, numberDue, dueValues, Converting, converting, convertBy, convertCall}
+use Rattle.converter.specs.Call.{Values, valuesOf, conversionCode, conversionNumber, numberDue, dueValues, Converting, converting, convertBy, convertCall}
 use Rattle.converter.specs.declared.Conversion.{Conversion}
 use Rattle.converter.specs.declared.Conversion.the-variants.{Converted, Refused}
 
@@ -60,11 +60,11 @@ module _ (file out : List ℕ) where
       by (suc j) d f =
           let g : k ≡ suc j = cc in
           ap (λ (i : ℕ). converting (Refused i) out) g
-          ∙ sym (ap (λ (i : ℕ). convertBy (firstDue i (conversionCode (ltb (length out) (length (converted file))) (normalLost file))) file out) d)
+          ∙ sym (ap (λ (i : ℕ). convertBy (firstDue i (conversionNumber file out)) file out) d)
 
-  pub call-read : reader.numberDue file ≡ 0 → convertBy (conversionCode (ltb (length out) (length (converted file))) (normalLost file)) file out ≡ convertCall file out
+  pub call-read : reader.numberDue file ≡ 0 → convertBy (conversionNumber file out) file out ≡ convertCall file out
   unfolding convertCall
-  call-read e = sym (ap (λ (i : ℕ). convertBy (firstDue i (conversionCode (ltb (length out) (length (converted file))) (normalLost file))) file out) e)
+  call-read e = sym (ap (λ (i : ℕ). convertBy (firstDue i (conversionNumber file out)) file out) e)
 
   -- both promises from the call's answer
   pub promised : {r : Conversion} {left : List ℕ} → converting r left ≡ convertCall file out →

@@ -5,3 +5,5 @@ pub mod Answers
 pub mod Places
 pub mod Rims
 pub mod RoundTrip
+pub mod Numbers
+pub mod Demands

@@ -7,9 +7,10 @@ use native.Mathlib.Omega.{arith}
 use borrow.Author.Tests.{ne-eqb}
 use lib.ListN.{length, getD, getD-replicate}
 use lib.IntN.{pos}
-use Rattle.lists.proofs.Choice.{yes, no, not-false-true}
-use Rattle.lists.proofs.Ranges.{some-none}
+use Rattle.lists.proofs.Choice.{yes, no, true-not-false, not-false-true}
+use Rattle.lists.proofs.Ranges.{some-none, some-nowhere}
 use Rattle.polygon.specs.Normal.{normal, noNormal, isNone}
+use Rattle.polygon.specs.declared.normal.Normal.{Normal}
 use Rattle.polygon.proofs.Normals.{none-is}
 use Rattle.reader.specs.File.{u16At, signed16, i16At, isEdition2, marker, recordSize1, headerStart, recordSize, firstRecord, recordCount, lengthWrong, offset}
 use Rattle.reader.specs.Record.{normalIn}
@@ -37,6 +38,16 @@ unfolding normalLost
 none-lost s e k h l =
     none-is (normalIn s (offset s k))
     (not-false-true (isNone (normalIn s (offset s k))) (λ f. some-none 1 (suc (recordCount s)) (λ k. not (isNone (normalIn s (offset s k)))) e k (omega arith) (omega arith) (ap not f)))
+
+-- and where none has, none is lost: so 19 is never due on a file that goes up
+pub nothing-lost : (s : List ℕ) → ((k : ℕ) → 0 < k → k ≤ recordCount s → normalIn s (offset s k) ≡ noNormal) → normalLost s ≡ false
+unfolding normalLost
+nothing-lost s none =
+    some-nowhere 1 (suc (recordCount s)) (λ k. not (isNone (normalIn s (offset s k))))
+    (λ k h l t. true-not-false t (ap (λ (n : Normal). not (isNone n)) (none k (omega arith) (omega arith))))
+
+pub edition-1-loses-none : (s : List ℕ) → isEdition2 s ≡ false → normalLost s ≡ false
+edition-1-loses-none s one = nothing-lost s (λ k h l. normal-1 s (offset s k) one)
 
 module _ (s : List ℕ) (w : Whole s) where
   -- a file laid out as its edition has it, with the normals of the first

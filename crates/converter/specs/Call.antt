@@ -40,9 +40,12 @@ valuesOf r = values (numberOf r) (editionOf r) (lengthOf r)
 abbrev pub conversionCode : Bool → Bool → ℕ
 conversionCode short lost = cond short 13 (cond lost 19 0)
 
+abbrev pub conversionNumber : List ℕ → List ℕ → ℕ
+conversionNumber file out = conversionCode (ltb (length out) (length (converted file))) (normalLost file)
+
 -- the first number due (rule 4.35): 1 to 11 and 18 in the reader's order, then 13 and 19
 abbrev pub numberDue : List ℕ → List ℕ → ℕ
-numberDue file out = firstDue (reader.numberDue file) (conversionCode (ltb (length out) (length (converted file))) (normalLost file))
+numberDue file out = firstDue (reader.numberDue file) (conversionNumber file out)
 
 -- what the values are: those of the converted file where no number is due, else the number and two zeros (rule 5.2)
 abbrev pub dueValues : ℕ → List ℕ → Values

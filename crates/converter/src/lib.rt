@@ -4,11 +4,8 @@ mod writing;
 
 ghost use mathlib.Core.Path.{_≡_};
 ghost use mathlib.Core.Bool.{false};
-ghost use lib.Dec.{ltb};
-ghost use lib.ListN.{length};
 ghost use Rattle.reader.specs.File.{lengthWrong};
-ghost use Rattle.converter.specs.Converted.{converted, normalLost};
-ghost use Rattle.converter.specs.Call.{numberOf, editionOf, lengthOf, valuesOf, conversionCode, numberDue, dueValues, converting, convertBy, convertCall};
+ghost use Rattle.converter.specs.Call.{numberOf, editionOf, lengthOf, valuesOf, conversionCode, conversionNumber, numberDue, dueValues, converting, convertBy, convertCall};
 ghost use Rattle.converter.specs.Steps.{targetOf};
 use reader::Layout;
 use reader::Status;
@@ -88,7 +85,7 @@ fn conversion_code(short: bool, lost: bool) -> u32
 // Carries a file on which the reader found no number.
 fn carry(file: &[u8], out: &mut [u8]) -> Conversion
     requires { ⌜ lengthWrong (now file) ≡ false ⌝ }
-    ensures { λ r. ⌜ converting r (now (out .exit)) ≡ convertBy (conversionCode (ltb (length (now (out .entry))) (length (converted (now (file .entry))))) (normalLost (now (file .entry)))) (now (file .entry)) (now (out .entry)) ⌝ }
+    ensures { λ r. ⌜ converting r (now (out .exit)) ≡ convertBy (conversionNumber (now (file .entry)) (now (out .entry))) (now (file .entry)) (now (out .entry)) ⌝ }
 {
     let source = edition::layout(file);
     let target = target_of(source);

@@ -11,7 +11,7 @@ use Rattle.lists.specs.Lists.{both, either}
 use Rattle.lists.proofs.Choice.{both-true}
 use Rattle.polygon.specs.declared.Polygon.{Polygon}
 use Rattle.polygon.specs.declared.normal.Normal.{Normal}
-use Rattle.polygon.specs.Polygon.{firstDue}
+use Rattle.polygon.proofs.Codes.{due-neither}
 use Rattle.polygon.specs.Normal.{noNormal, isNone}
 use Rattle.terms.specs.Entries.{vertexA, vertexB, vertexC}
 use Rattle.reader.specs.declared.Status.the-variants.{Complete}
@@ -24,13 +24,13 @@ use Rattle.reader.specs.Reading as reader
 use Rattle.reader.proofs.Layouts.{start-1, size-1}
 use Rattle.reader.proofs.Accepted.{read-normals, read-records}
 use Rattle.reader.proofs.Normals.{normal-1, normal-2}
-use Rattle.reader.proofs.Editions.{number-same, polygon-same}
 use Rattle.faces.proofs.Members.{triples-member}
 use Rattle.delaunay.specs.Candidates.{isCandidate, candidatesOf}
 use Rattle.dihedrals.specs.Dihedrals.{faceNormal}
 use Rattle.weights.specs.Weights.{edgeNormal, outsideNormal, areaWeight, ownWeight}
 use Rattle.weights.proofs.Edges.{edgesOf, none-outside}
 use Rattle.pipeline.specs.Patching.{Tables, weightsIn, patchedWith, patchBy, polygonNumber, fileNumber, patchFile}
+use Rattle.demands.proofs.Conversion.{same-answers}
 use Rattle.demands.specs.Base.{NoSurface, ZeroNormals, areaWeights, baseBy, baseFile, Edition1}
 
 map-members : {A B : Type 0} (f g : A → B) (l : List A) → ((x : A) → List·Memᴰ x l → f x ≡ g x) → map f l ≡ map g l
@@ -64,10 +64,6 @@ module _ (p : Polygon) (bare : NoSurface p) where
   areas-alone = map-members (ownWeight p) (areaWeight p) (candidatesOf p) own-is-area
 
 -- ---- files
-read-first : (j k : ℕ) → firstDue j k ≡ 0 → j ≡ 0
-read-first zero k e = refl
-read-first (suc j) k e = e
-
 module _ (file : List ℕ) where
   -- a file of which every normal that its chain could have is zero
   module _ (zeros : ZeroNormals file) where
@@ -88,7 +84,7 @@ module _ (file : List ℕ) where
     -- it has the answer of areas and rows alone
     pub zero-normals-answer : (t : Tables) → patchFile file t ≡ baseFile file t
     unfolding patchFile
-    zero-normals-answer t = by-number t (fileNumber file t) (λ e. bare-read (read-first (reader.numberDue file) (polygonNumber (polygonOf file) t) e))
+    zero-normals-answer t = by-number t (fileNumber file t) (λ e. bare-read (due-neither (reader.numberDue file) (polygonNumber (polygonOf file) t) e .0))
 
   -- every file of edition 1 is such a file
   pub edition-1-answer : isEdition2 file ≡ false → (t : Tables) → patchFile file t ≡ baseFile file t
@@ -111,6 +107,4 @@ edition-1-layout file one =
 
 -- a file of edition 2 with the same header and records as one of edition 1, so that its normals are all zero, has the answer of that one
 pub edition-2-answer : {one two : List ℕ} → isEdition2 one ≡ false → SameRim two one → (t : Tables) → patchFile two t ≡ baseFile one t
-unfolding patchFile
-edition-2-answer {one} {two} e r t =
-    (λ i. patchBy (firstDue (number-same r i) (polygonNumber (polygon-same r i) t)) (polygon-same r i) t) ∙ edition-1-answer one e t
+edition-2-answer {one} e r t = same-answers r .patch t ∙ edition-1-answer one e t

@@ -3,6 +3,7 @@ pub mod Tables
 pub mod Demand1
 pub mod Demands
 pub mod Sizes
+pub mod Conversion
 pub mod Base
 pub mod Worked
 pub mod Cases

@@ -1,4 +1,5 @@
 pub mod Demand2
 pub mod Demand1
 pub mod Base
+pub mod Conversion
 pub mod Worked

@@ -25,6 +25,10 @@ due-here {c} {j} k e d = go j e
 pub due-on : {j : ℕ} (k : ℕ) → j ≡ 0 → firstDue j k ≡ k
 due-on k e = ap (λ (j : ℕ). firstDue j k) e
 
+pub due-neither : (j k : ℕ) → firstDue j k ≡ 0 → (j ≡ 0) × (k ≡ 0)
+due-neither zero k e = (refl, e)
+due-neither (suc j) k e = absurd (omega arith)
+
 module _ (vertices : List GridPoint) (normals : List Normal) where
   -- ---- as a loop finds it
   step : (i n : ℕ) → i < n → verticesCodeFrom vertices normals i (n - i) ≡ firstDue (vertexCode vertices normals i) (verticesCodeFrom vertices normals (i + 1) (n - (i + 1)))

@@ -10,7 +10,7 @@ use borrow.Author.Tests.{ltb-false}
 use denote.Ref.{now}
 use Rattle.reader.specs.File.{headerSize, recordCount}
 use Rattle.reader.proofs.Lengths.{whole}
-use Rattle.converter.specs.Call.{conversionCode}
+use Rattle.converter.specs.Call.{conversionCode, conversionNumber}
 use Rattle.converter.specs.Converted.{converted, normalLost}
 use Rattle.converter.specs.Steps.{targetOf}
 use Rattle.converter.specs.declared.Target.{Target}
@@ -81,7 +81,7 @@ module _ (c : tie.After-conversion-code) where
       let e : count + 1 - 1 ≡ count = omega arith in
       c .before .before .record-start .ensures ∙ ap (λ (k : ℕ). target .layout .header + headerSize + target .layout .«record_size» * k) e ∙ sym size-is
 
-  code-is : c .conversion-code .result ≡ conversionCode (ltb (length out) (length (converted file))) (normalLost file)
+  code-is : c .conversion-code .result ≡ conversionNumber file out
   code-is = c .conversion-code .ensures ∙ (λ i. conversionCode (ltb (length out) (length-is i)) (c .before .has-normal .ensures i))
 
   fits : c .conversion-code .result ≡ 0 → length (converted file) ≤ length out
