@@ -1,14 +1,13 @@
 // The bench program (rules 5.3, 5.4): closes the gap of the rim file on standard input, of either edition.
 mod hanging;
-mod input;
 mod output;
 
+use programs::input;
 use triangulator::Outcome;
 
 fn main() {
     let mut file = [0u8; input::BUFFER];
-    let length = io::read_full(0, &mut file);
-    input::discard_rest(length);
+    let length = input::read(&mut file);
     let mut triangles = [0u16; 62];
     let mut candidates = [[0u8; 3]; 1024];
     let mut weights = [0u32; 1024];
@@ -33,6 +32,6 @@ fn main() {
         Outcome::None => {
             io::write_all(1, b"none\n");
         }
-        Outcome::Refused(number) => output::print_refusal(number),
+        Outcome::Refused(number) => programs::output::print_refusal(number),
     }
 }

@@ -1,4 +1,4 @@
-// What the program prints.
+// What the program prints for a patch.
 use crate::hanging::row_weight;
 
 fn print_number(number: u32) {
@@ -61,10 +61,4 @@ pub(crate) fn print_patch(
     io::print_decimal(1, total);
     end_line();
     print_triangles(part, candidates, weights, rows);
-}
-
-pub(crate) fn print_refusal(number: u32) {
-    io::write_all(1, b"refused ");
-    print_number(number);
-    end_line();
 }

@@ -8,7 +8,7 @@ use native.Mathlib.Omega.{arith}
 use borrow.Author.Tests.{ltb-false, le-ltb}
 use lib.Dec.{ltb}
 use lib.ListN.{length}
-use Rattle.lists.proofs.Writing.{filled-take}
+use Rattle.lists.proofs.Writing.{filled-first}
 use Rattle.polygon.specs.Polygon.{firstDue}
 use Rattle.polygon.proofs.Codes.{due-neither}
 use Rattle.reader.specs.File.{Bytes, isEdition2}
@@ -38,7 +38,7 @@ module _ (file out : List ℕ) (taken : numberOf (convertCall file out .answer) 
   -- hands over the converted file
   pub handed-over : handedOver (convertCall file out) ≡ converted file
   handed-over =
-      ap handedOver (call-by file out 0 (sym (number-given file out) ∙ taken)) ∙ filled-take (converted file) out (length (converted file)) refl
+      ap handedOver (call-by file out 0 (sym (number-given file out) ∙ taken)) ∙ filled-first (converted file) out
 
   -- of the other edition
   pub other-edition : isEdition2 (handedOver (convertCall file out)) ≡ not (isEdition2 file)
@@ -71,5 +71,5 @@ module _ (file out : List ℕ) (taken : numberOf (convertCall file out .answer) 
   back bytes out′ room =
       ap (λ (t : List ℕ). handedOver (convertCall t out′)) handed-over
       ∙ ap handedOver (call-by (converted file) out′ 0 (again bytes out′ room))
-      ∙ filled-take (converted (converted file)) out′ (length (converted (converted file))) refl
+      ∙ filled-first (converted (converted file)) out′
       ∙ there-and-back file read bytes kept

@@ -3,8 +3,8 @@ use mathlib.Core.Bool.{Bool, cond}
 use mathlib.Core.List.{List}
 use Prim.Native.Nat.{ℕ, zero, suc}
 use lib.Dec.{ltb}
-use lib.ListN.{length, take}
-use Rattle.lists.specs.Lists.{filled}
+use lib.ListN.{length}
+use Rattle.lists.specs.Lists.{filled, firstPlaces}
 use Rattle.polygon.specs.Polygon.{firstDue}
 use Rattle.reader.specs.Reading as reader
 use Rattle.converter.specs.Converted.{converted, otherEdition, normalLost}
@@ -69,6 +69,9 @@ convertBy (suc k) file out = converting (Refused (suc k)) out
 unfoldable pub convertCall : List ℕ → List ℕ → Converting
 convertCall file out = convertBy (numberDue file out) file out
 
--- the converted file as the call hands it over: the first places, as many as the answer says
+-- the part handed back: as many first places as the answer says, none where the table is shorter (rule 5.7)
+abbrev pub partOf : Conversion → List ℕ → List ℕ
+partOf r table = firstPlaces (lengthOf r) table
+
 abbrev pub handedOver : Converting → List ℕ
-handedOver c = take (lengthOf (c .answer)) (c .left)
+handedOver c = partOf (c .answer) (c .left)

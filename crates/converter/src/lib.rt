@@ -5,7 +5,7 @@ mod writing;
 ghost use mathlib.Core.Path.{_≡_};
 ghost use mathlib.Core.Bool.{false};
 ghost use Rattle.reader.specs.File.{lengthWrong};
-ghost use Rattle.converter.specs.Call.{numberOf, editionOf, lengthOf, valuesOf, conversionCode, conversionNumber, numberDue, dueValues, converting, convertBy, convertCall};
+ghost use Rattle.converter.specs.Call.{numberOf, editionOf, lengthOf, valuesOf, conversionCode, conversionNumber, numberDue, dueValues, converting, convertBy, convertCall, partOf};
 ghost use Rattle.converter.specs.Steps.{targetOf};
 use reader::Layout;
 use reader::Status;
@@ -114,5 +114,17 @@ pub fn convert(file: &[u8], out: &mut [u8]) -> Conversion
     match status {
         Status::Refused(number) => Conversion::Refused(number),
         Status::Complete => carry(file, out),
+    }
+}
+
+// The converted file after a call with this answer: the filled part of the output table.
+pub fn part(out: &[u8], conversion: Conversion) -> &[u8]
+    ensures { λ r. ⌜ now r ≡ partOf conversion (now (out .entry)) ⌝ }
+{
+    let length = conversion.length();
+    if length <= out.len() {
+        &out[..length]
+    } else {
+        &out[..0]
     }
 }

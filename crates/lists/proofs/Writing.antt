@@ -5,9 +5,11 @@ use Prim.Native.Nat.{ℕ, suc, _+_, _-_, _≤_, _<_}
 use native.Mathlib.Nat.{le-trans, le-refl}
 use native.Mathlib.Numerals.{add-one}
 use native.Mathlib.Omega.{arith}
+use borrow.Author.Tests.{le-leb, lt-leb}
 use lib.ListN.{List·getD-append, length, take, drop, set, getD, drop-of-length-le, length-append, length-set, take-append-drop, length-drop}
 use lib.Seq.{length-take-le, drop-cons, take-suc-set, drop-set-lt, drop-drop, drop-at, take-at, set-append-seam}
-use Rattle.lists.specs.Lists.{filled}
+use Rattle.lists.specs.Lists.{filled, firstPlaces}
+use Rattle.lists.proofs.Choice.{yes, no}
 
 module _ {A : Type 0} where
   -- the first `count` places of `out` and then `rest` make up `total`; from `count` on `out` is as `out₀`
@@ -118,3 +120,14 @@ taken l t {m = m} e d = ap (λ x. take m x) d ∙ filled-take l t m e
 
 pub filled-room : {A : Type 0} (l t : List A) {b : List A} {m : ℕ} → m ≡ length l → b ≡ filled l t → m ≤ length b
 filled-room l t e d = omega (arith, e, ap length d ∙ length-append l (drop (length l) t))
+
+-- the first places handed back as a part
+pub first-places : {A : Type 0} {m n : ℕ} (t : List A) → m ≡ n → m ≤ length t → take m t ≡ firstPlaces n t
+first-places {m = m} t e h = sym (yes (take m t) [] (le-leb m (length t) h)) ∙ ap (λ (k : ℕ). firstPlaces k t) e
+
+pub no-places : {A : Type 0} {m n : ℕ} (t : List A) → m ≡ n → length t < m → [] ≡ firstPlaces n t
+no-places {m = m} t e h = sym (no (take m t) [] (lt-leb m (length t) h)) ∙ ap (λ (k : ℕ). firstPlaces k t) e
+
+-- and those of a table that was filled
+pub filled-first : {A : Type 0} (l t : List A) → firstPlaces (length l) (filled l t) ≡ l
+filled-first l t = sym (first-places (filled l t) refl (filled-room l t {m = length l} refl refl)) ∙ filled-take l t (length l) refl

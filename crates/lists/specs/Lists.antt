@@ -2,11 +2,16 @@
 use mathlib.Core.Bool.{Bool, true, false, cond}
 use mathlib.Core.List.{List, [], _∷_, _++_}
 use Prim.Native.Nat.{ℕ, zero, suc, _-_}
-use lib.ListN.{length, drop}
+use lib.Dec.{leb}
+use lib.ListN.{length, take, drop}
 
 -- the first places hold the list l, all further places what the table t held (rule 3.9)
 abbrev pub filled : {A : Type 0} → List A → List A → List A
 filled l t = l ++ drop (length l) t
+
+-- the first n places of the table t handed back as a part, none where it has fewer
+abbrev pub firstPlaces : {A : Type 0} → ℕ → List A → List A
+firstPlaces n t = cond (leb n (length t)) (take n t) []
 
 -- f lo, then f (lo + 1), and so on for k numbers
 unfoldable pub upFrom : {A : Type 0} → (ℕ → List A) → ℕ → ℕ → List A

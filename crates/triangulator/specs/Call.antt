@@ -1,10 +1,10 @@
 -- What a call of the tiler answers, and what it leaves in every place of its tables. Definitions only.
 use Prim.Native.Nat.{ℕ, zero, suc, _-_}
 use mathlib.Core.Bool.{cond}
-use mathlib.Core.List.{List, []}
-use lib.ListN.{length, take, replicate}
-use lib.Dec.{eqb, leb}
-use Rattle.lists.specs.Lists.{filled}
+use mathlib.Core.List.{List}
+use lib.ListN.{length, replicate}
+use lib.Dec.{eqb}
+use Rattle.lists.specs.Lists.{filled, firstPlaces}
 use Rattle.triangulation.specs.Triangulations.{Answer, none, patch, best}
 use Rattle.triangulation.specs.Jobs.{jobOf}
 use Rattle.jobs.specs.Job.{jobCode}
@@ -50,7 +50,7 @@ dueValues (suc k) n answer = values (suc k) 0 0
 
 -- the part handed back: as many first places as the outcome says, none where the table is shorter (rule 3.8)
 abbrev pub partOf : Outcome → List ℕ → List ℕ
-partOf outcome table = cond (leb (trianglesOf outcome) (length table)) (take (trianglesOf outcome) table) []
+partOf outcome table = firstPlaces (trianglesOf outcome) table
 
 -- an outcome, and what the triangle and work tables hold after the call (rule 5.1)
 pub record Result : Type 0 where

@@ -1,13 +1,8 @@
 -- `triangulator::part` meets its contract. Assumes nothing.
-use Prim.Native.Nat.{ℕ}
-use mathlib.Core.Path.{sym, ap, _∙_}
-use mathlib.Core.Bool.{cond}
-use mathlib.Core.List.{[]}
-use lib.Dec.{leb}
-use lib.ListN.{length, take}
+use mathlib.Core.Path.{sym}
 use lib.Seq.{length-take-le}
-use borrow.Author.Tests.{le-leb, lt-leb}
-use Rattle.lists.proofs.Choice.{yes, no}
+use denote.Ref.{now}
+use Rattle.lists.proofs.Writing.{first-places, no-places}
 use borrow.Author.Needs.{needs}
 use Rattle.triangulator.proofs.part.Statement.{statement}
 use Rattle.triangulator.proofs.part.Tie as tie
@@ -22,10 +17,10 @@ slice-aggregate-result-2 : tie.Need-slice-aggregate-result-2
 slice-aggregate-result-2 c = search needs
 
 returns : tie.Need-returns
-returns c = sym (yes _ _ (le-leb _ _ (c .before .if1 .taken))) ∙ ap (λ (k : ℕ). cond (leb k (length (c .before .before .before .before .args .triangles .now))) (take k (c .before .before .before .before .args .triangles .now)) []) (c .before .before .triangles .ensures)
+returns c = first-places (now (c .before .before .before .before .args .triangles)) (c .before .before .triangles .ensures) (c .before .if1 .taken)
 
 returns-2 : tie.Need-returns-2
-returns-2 c = sym (no _ _ (lt-leb _ _ (c .before .if1 .left))) ∙ ap (λ (k : ℕ). cond (leb k (length (c .before .before .before .before .args .triangles .now))) (take k (c .before .before .before .before .args .triangles .now)) []) (c .before .before .triangles .ensures)
+returns-2 c = no-places (now (c .before .before .before .before .args .triangles)) (c .before .before .triangles .ensures) (c .before .if1 .left)
 
 pub part-spec : {M : Type 1} → statement M
 part-spec =
