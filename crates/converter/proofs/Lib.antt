@@ -7,3 +7,4 @@ pub mod Rims
 pub mod RoundTrip
 pub mod Numbers
 pub mod Demands
+pub mod WrongCalls

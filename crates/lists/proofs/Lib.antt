@@ -8,3 +8,4 @@ pub mod Maps
 pub mod Flattening
 pub mod Writing
 pub mod Counting
+pub mod Comparing

@@ -16,17 +16,17 @@ use Rattle.reader.specs.Chain.{link, metBefore, heightBefore, positionCo
 use Rattle.reader.specs.Reading.{numberDue}
 
 -- the point (x, y, 0) with x and y of 0 mm or 1 mm, by the two high bytes of each, and a link
-abbrev point-then : ℕ → List ℕ → List ℕ → List ℕ
+abbrev pub point-then : ℕ → List ℕ → List ℕ → List ℕ
 point-then next x y = (next ∷ 0 ∷ 1 ∷ 0 ∷ 0 ∷ 0 ∷ []) ++ x ++ (0 ∷ 0 ∷ []) ++ y ++ replicate 4 0
 
-abbrev zero-mm : List ℕ
+abbrev pub zero-mm : List ℕ
 zero-mm = 0 ∷ 0 ∷ []
 
-abbrev one-mm : List ℕ
+abbrev pub one-mm : List ℕ
 one-mm = 128 ∷ 63 ∷ []
 
 -- the normals (0, 0, 0) and (0, 0, 2000)
-abbrev no-surface : List ℕ
+abbrev pub no-surface : List ℕ
 no-surface = replicate 6 0
 
 abbrev too-long : List ℕ

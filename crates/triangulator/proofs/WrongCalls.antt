@@ -7,22 +7,12 @@ use mathlib.Core.List.{List, [], _∷_, List·Memᴰ, List·Memᴰ·not-nil, Lis
 use lib.Dec.{eqb}
 use borrow.Author.Tests.{eq-eqb}
 use Rattle.lists.specs.Lists.{everyFrom}
+use Rattle.lists.proofs.Comparing.{sameList, same-list}
 use Rattle.jobs.specs.Job.{ascends, before, candidateFits, hangs, namesPair, rowBefore, rowFits, listsCode, jobCode}
 use Rattle.triangulation.specs.Triangulations.{bestKey, key, isTriangulation, totalWeight, preorderFrom, countBetween, countOutside}
 use Rattle.triangulator.specs.Call.{Result, numberOf, trianglesOf, totalOf, triangulated}
 use Rattle.triangulator.specs.Cases.{answered}
 use Rattle.triangulator.specs.WrongCalls.{Call, wrongCalls}
-
-sameList : List ℕ → List ℕ → Bool
-sameList [] [] = true
-sameList [] (y ∷ ys) = false
-sameList (x ∷ xs) [] = false
-sameList (x ∷ xs) (y ∷ ys) = eqb x y && sameList xs ys
-
-same-list : (xs : List ℕ) → sameList xs xs ≡ true
-unfolding sameList
-same-list [] = refl
-same-list (x ∷ xs) = rw (eq-eqb x x refl, same-list xs)
 
 -- equal results are the same by their values and tables
 sameResult : Result → Result → Bool
