@@ -1,12 +1,11 @@
 -- `converter::writing::write_file` meets its contract. Assumes nothing.
-use mathlib.Core.Path.{ap, _∙_}
+use mathlib.Core.Path.{ap}
 use native.Mathlib.Omega.{arith}
-use lib.ListN.{length, replicate}
+use lib.ListN.{length}
 use lib.Seq.{length-sets}
 use denote.Ref.{now}
 use Rattle.reader.proofs.Layouts.{header-as}
 use Rattle.reader.proofs.Lengths.{whole}
-use Rattle.converter.specs.Converted.{markerByte}
 use Rattle.converter.proofs.Targets.{file-stored}
 use borrow.Author.Needs.{needs}
 use Rattle.converter.proofs.writing.write_file.Statement.{statement}
@@ -18,7 +17,7 @@ fill-requires c κs = search needs
 copy-requires : tie.Need-copy-requires
 copy-requires c κs =
     let s = c .before .before .before .before .before .before .before in
-    let opened = ap length (c .before .before .before .fill .ensures) ∙ length-sets (now (s .args .out)) 0 (replicate (s .args .target .header) markerByte) in
+    let opened = simp length-sets at (ap length (c .before .before .before .fill .ensures)) in
     (omega (arith, header-as _ (s .pre .source-is), whole _ (s .pre .right) .header), omega (arith, s .pre .long, opened))
 
 write-records-requires : tie.Need-write-records-requires

@@ -10,7 +10,7 @@ use Rattle.lists.specs.Lists.{upFrom, over}
 use Rattle.reader.specs.File.{headerSize, recordSize1, recordCount, offset}
 use Rattle.reader.proofs.Layouts.{bounds, header-as, size-as, start-as, record-within}
 use Rattle.reader.proofs.Lengths.{whole}
-use Rattle.converter.specs.Converted.{bytesAt, recordBytes}
+use Rattle.converter.specs.Converted.{recordBytes}
 use Rattle.converter.specs.Steps.{endingIn}
 use Rattle.converter.proofs.Records.{piece-end, record-stored}
 use Rattle.converter.proofs.writing.write_records.Statement.{statement}
@@ -80,7 +80,7 @@ module _ (c : tie.After-struct-known Inv-loop μ-loop) where
   here = c .before .before .before .before .before .before
 
   copied-length : length copied ≡ length (here .before .before .before .loop .out)
-  copied-length = ap length (c .before .before .before .before .copy .ensures) ∙ length-sets (here .before .before .before .loop .out) (here .record-start2 .result) (bytesAt (now (start here .args .file)) (here .before .record-start .result) recordSize1)
+  copied-length = simp length-sets at (ap length (c .before .before .before .before .copy .ensures))
 
 fill-requires : tie.Need-fill-requires Inv-loop μ-loop
 fill-requires c κs =
@@ -106,7 +106,7 @@ loop-again c =
     let size : recordSize1 + length (endingIn target) ≡ target .«record_size» = omega (arith, s .pre .least, length-replicate {A = ℕ} (target .«record_size» - recordSize1) 0) in (
       omega arith,
       omega (arith, test),
-      ap length (c .before .before .fill .ensures) ∙ length-sets (copied stop) (p .record-start2 .result + recordSize1) (endingIn target) ∙ copied-length stop ∙ l .inv .2,
+      (simp length-sets at (ap length (c .before .before .fill .ensures))) ∙ copied-length stop ∙ l .inv .2,
       record-stored (now (s .args .file)) (whole _ (s .pre .right)) (endingIn target) (now (s .args .out)) (target .header + headerSize) (l .k) (p .record-start2 .result)
           (l .inv .0) (omega (arith, s .pre .count-is, test)) (l .inv .3) (from-is p) (p .record-start2 .ensures ∙ ap (λ (z : ℕ). target .header + headerSize + z * (l .k - 1)) (sym size)) refl
           (stop .before .before .before .before .copy .ensures) (c .before .before .fill .ensures),
