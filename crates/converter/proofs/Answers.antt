@@ -2,13 +2,10 @@
 use mathlib.Core.Path.{_≡_, refl, sym, ap, _∙_}
 use mathlib.Core.Bool.{Bool, true, false}
 use mathlib.Core.List.{List}
-use Prim.Native.Nat.{ℕ, zero, suc, _≤_}
+use Prim.Native.Nat.{ℕ, zero, suc}
 use native.Mathlib.Omega.{arith}
-use borrow.Author.Tests.{ltb-false}
-use lib.Dec.{ltb}
 use lib.ListN.{length}
 use Rattle.lists.specs.Lists.{filled}
-use Rattle.lists.proofs.Choice.{no}
 use Rattle.polygon.specs.Polygon.{firstDue}
 use Rattle.reader.specs.File.{lengthWrong}
 use Rattle.reader.specs.Reading.{polygonOf, answer, readingOf, statusNumber}
@@ -16,8 +13,8 @@ use Rattle.reader.specs.Reading as reader
 use Rattle.reader.specs.declared.Status.the-variants as status
 use Rattle.reader.proofs.Demand1.{number-is}
 use Rattle.reader.proofs.FirstNumber.{no-number-read}
-use Rattle.converter.specs.Converted.{converted, otherEdition, normalLost}
-use Rattle.converter.specs.Call.{Values, valuesOf, conversionCode, conversionNumber, numberDue, dueValues, Converting, converting, convertBy, convertCall}
+use Rattle.converter.specs.Converted.{converted, otherEdition}
+use Rattle.converter.specs.Call.{valuesOf, conversionCode, conversionNumber, numberDue, dueValues, Converting, converting, convertBy, convertCall}
 use Rattle.converter.specs.declared.Conversion.{Conversion}
 use Rattle.converter.specs.declared.Conversion.the-variants.{Converted, Refused}
 

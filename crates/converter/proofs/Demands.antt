@@ -1,11 +1,11 @@
 -- What a conversion hands over (rules 1.15, 1.16): a file of the other edition with the same rim, all its records at their places, which the reader answers
 -- alike; and converted again it is the first file, byte for byte. Assumes nothing.
-use mathlib.Core.Path.{_≡_, refl, sym, ap, subst, _∙_}
+use mathlib.Core.Path.{_≡_, sym, ap, subst, _∙_}
 use mathlib.Core.Bool.{not, false}
 use mathlib.Core.List.{List}
 use Prim.Native.Nat.{ℕ, _≤_}
 use native.Mathlib.Omega.{arith}
-use borrow.Author.Tests.{ltb-false, le-ltb}
+use borrow.Author.Tests.{le-ltb}
 use lib.Dec.{ltb}
 use lib.ListN.{length}
 use Rattle.lists.proofs.Writing.{filled-first}
@@ -18,8 +18,8 @@ use Rattle.reader.specs.Reading as reader
 use Rattle.reader.proofs.Editions.{number-same, reading-same}
 use Rattle.reader.proofs.FirstNumber.{Read, no-number-read}
 use Rattle.converter.specs.Converted.{converted, normalLost}
-use Rattle.converter.specs.Call.{numberOf, conversionCode, conversionNumber, numberDue, Converting, convertCall, handedOver}
-use Rattle.converter.proofs.Answers.{not-short, not-lost}
+use Rattle.converter.specs.Call.{numberOf, conversionCode, conversionNumber, numberDue, convertCall, handedOver}
+use Rattle.converter.proofs.Answers.{not-lost}
 use Rattle.converter.proofs.Rims.{none-lost, nothing-lost, converted-edition, converted-rim}
 use Rattle.converter.proofs.RoundTrip.{there-and-back}
 use Rattle.converter.proofs.Numbers.{call-by, number-given}

@@ -1,7 +1,7 @@
 -- The numbers of a conversion (rules 4.30, 4.33, 4.35): of those due on a file and its output table one is the first, or none is due; the call gives exactly
 -- that number and changes no place, and hands the converted file over exactly where none is due. Assumes nothing.
 use mathlib.Core.Path.{_≡_, refl, sym, ap, _∙_}
-use mathlib.Core.Bool.{Bool, true, false, not}
+use mathlib.Core.Bool.{true, not}
 use mathlib.Core.List.{List}
 use mathlib.Core.Logic.{_⊎_}
 use Prim.Native.Nat.{ℕ, zero, suc, _≤_, _<_}

@@ -22,7 +22,7 @@ use Rattle.reader.proofs.Signed.{zero-bits}
 use Rattle.reader.proofs.FirstNumber.{Read}
 use Rattle.converter.specs.Converted.{bytesAt, headerBytes, recordBytes, laidOut, markerBytes, zeroNormal, converted, normalLost}
 use Rattle.converter.proofs.Storing.{bytes-length, bytes-at, bytes-same}
-use Rattle.converter.proofs.Places.{header-byte, count-same, whole-again, right-again, record-byte}
+use Rattle.converter.proofs.Places.{header-byte, count-same, right-again, record-byte}
 use Rattle.converter.proofs.Rims.{converted-up, converted-down, none-lost, raised-edition, raised-start, raised-size, first-small, lowered-edition, lowered-start, lowered-size}
 
 -- ---- a file laid out twice

@@ -1,15 +1,14 @@
 -- Files worked out, with what the call does and what a wrong converter would do instead, by computation over the definitions. Assumes nothing.
 use mathlib.Core.Path.{_≡_, refl, sym, _∙_}
-use mathlib.Core.Bool.{Bool, true, false, _&&_, _||_, false≢true}
-use mathlib.Core.Logic.{⊎-elim}
-use mathlib.Core.List.{List, [], _∷_, _++_, map, List·Memᴰ, List·Memᴰ·not-nil, List·Memᴰ·cases-cons}
+use mathlib.Core.Bool.{Bool, true, false, _&&_, false≢true}
+use mathlib.Core.List.{List, [], _∷_, _++_, map, List·Memᴰ}
 use Prim.Native.Nat.{ℕ}
 use borrow.Author.Tests.{eq-eqb}
 use lib.Dec.{eqb}
 use lib.Ieee.{ofBits}
 use lib.ListN.{replicate}
 use Rattle.lists.specs.Lists.{upFrom, someFrom}
-use Rattle.lists.proofs.Comparing.{sameList, same-list}
+use Rattle.lists.proofs.Comparing.{sameList, same-list, anyOf, any-of}
 use Rattle.grid.specs.Number.{finite, numerator, denominator, negative, inRange, roundEighths}
 use Rattle.polygon.specs.Polygon.{repeatedVertex}
 use Rattle.reader.specs.File.{layoutOf, lengthWrong}
@@ -87,24 +86,12 @@ same-converting : (c : Converting) → sameConverting c c ≡ true
 unfolding sameConverting
 same-converting c = rw (eq-eqb (numberOf (c .answer)) _ refl, eq-eqb (editionOf (c .answer)) _ refl, eq-eqb (lengthOf (c .answer)) _ refl, same-list (c .left))
 
--- whether some wrong answer is the right one
-someRight : List Try → Bool
-someRight [] = false
-someRight (t ∷ ts) = sameConverting (t .wrong) (t .right) || someRight ts
-
-right-some : (ts : List Try) (t : Try) → List·Memᴰ t ts → t .wrong ≡ t .right → someRight ts ≡ true
-unfolding someRight
-right-some [] t m e = absurd (List·Memᴰ·not-nil m)
-right-some (u ∷ ts) t m e =
-    ⊎-elim (λ q. rw (← q, e, same-converting (t .right))) (λ r. right (sameConverting (u .wrong) (u .right)) (right-some ts t r e)) (List·Memᴰ·cases-cons m)
-  where
-    right : (x : Bool) {y : Bool} → y ≡ true → (x || y) ≡ true
-    right true e = refl
-    right false e = e
-
 pub wrong-calls-fail : (t : Try) → List·Memᴰ t tries → t .wrong ≡ t .right → ⊥
-unfolding someRight sameConverting sameList
-wrong-calls-fail t m e = false≢true (sym none-right ∙ right-some tries t m e)
+unfolding anyOf sameConverting sameList
+wrong-calls-fail t m e = false≢true (sym none-right ∙ any-of isRight tries t m (rw e (same-converting (t .right))))
   where
-    none-right : someRight tries ≡ false
+    isRight : Try → Bool
+    isRight u = sameConverting (u .wrong) (u .right)
+
+    none-right : anyOf isRight tries ≡ false
     none-right = refl

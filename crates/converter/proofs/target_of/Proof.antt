@@ -1,11 +1,9 @@
 -- `converter::target_of` meets its contract. Assumes nothing.
-use mathlib.Core.Path.{_≡_, sym, ap, _∙_}
-use Prim.Native.Nat.{ℕ}
+use mathlib.Core.Path.{sym, ap, _∙_}
 use borrow.Author.Tests.{eq-eqb, ne-eqb}
 use Rattle.lists.proofs.Choice.{yes, no}
 use Rattle.reader.specs.declared.Layout.{Layout}
 use Rattle.reader.specs.File.{recordSize1}
-use Rattle.converter.specs.declared.Target.{Target}
 use borrow.Author.Needs.{needs}
 use Rattle.converter.proofs.target_of.Statement.{statement}
 use Rattle.converter.proofs.target_of.Tie as tie

@@ -8,7 +8,6 @@ use lib.ListN.{length}
 use denote.Ref.{now}
 use Rattle.reader.proofs.Layouts.{bounds, header-as, records-size, length-as}
 use Rattle.reader.proofs.Lengths.{too-short, too-many, by-records}
-use borrow.Author.Needs.{needs}
 use Rattle.reader.proofs.edition.length_wrong.Statement.{statement}
 use Rattle.reader.proofs.edition.length_wrong.Tie as tie
 
