@@ -3,12 +3,13 @@
 //! microseconds per call: library, reference, and library / reference. The time is the clock's:
 //! the machine should be quiet, and the least round is the one that other work disturbed least.
 //! The finder's call reads the file too. The first table is of rim files of edition 1; another has
-//! the whole call on the same rims in both editions. Without the library only the reference is
-//! timed.
+//! the whole call on the same rims in both editions, and the last the conversion of files, spare
+//! records and all. Without the library only the reference is timed.
 
 #![forbid(unsafe_code)]
 
-use outside_tests::calls::{Calls, Job, Places, Tables};
+use outside_tests::calls::{Calls, Job, Lent, Places, Tables, MOST_BYTES};
+use outside_tests::comparison::compare_conversion;
 use outside_tests::fast::Fast;
 use outside_tests::jobs::{job_of, random_job};
 use outside_tests::library::library;
@@ -142,6 +143,28 @@ fn editions(shape: Shape, n: usize, random: &mut Random, of_normals: &mut Random
     println!("{:<12} {n:>2} {} {}", format!("{shape:?}"), one.shown(), two.shown());
 }
 
+/// Files of n vertices and so many spare records to edition 2, and back to edition 1.
+fn conversions(n: usize, spare: usize, random: &mut Random) {
+    let mut out = Lent::guarded(MOST_BYTES);
+    let files: Vec<RimFile> = rim_files(Shape::NoisyCircle, n, random)
+        .into_iter()
+        .map(|file| file.among_spare_records(spare, random))
+        .collect();
+    let converted: Vec<RimFile> = files.iter().map(|file| file.clone().converted()).collect();
+    let [up, down] = [files, converted].map(|files| {
+        let files: Vec<Vec<u8>> = files.iter().map(RimFile::bytes).collect();
+        if let Some(library) = library() {
+            files.iter().for_each(|file| {
+                compare_conversion(&Fast, library, file, MOST_BYTES);
+            });
+        }
+        measure(files.len(), &mut |calls, case| {
+            black_box(calls.convert(black_box(&files[case]), &mut out));
+        })
+    });
+    println!("{n:>2} {:>7} {} {}", n + spare, up.shown(), down.shown());
+}
+
 fn jobs(n: usize, rows: usize, random: &mut Random) {
     let count = if n > 32 { 2 } else { 8 };
     let jobs: Vec<Job> = (0..count).map(|_| random_job(n, 100, rows, 1000, random)).collect();
@@ -188,5 +211,12 @@ fn main() {
         for n in SIZES {
             editions(shape, n, &mut random, &mut of_normals);
         }
+    }
+    println!(
+        "\nconversion, with spare records\n{:>2} {:>7} {:>30} {:>30}",
+        "n", "records", "to edition 2", "to edition 1"
+    );
+    for (n, spare) in [(8, 0), (8, 56), (8, 248), (64, 0), (64, 192)] {
+        conversions(n, spare, &mut random);
     }
 }

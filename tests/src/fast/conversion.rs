@@ -1,30 +1,9 @@
-//! The file in the other edition, byte by byte: for each place of the output, where its byte stands in
-//! the file.
+//! The file in the other edition, record by record from one slice to the other.
 
 use super::reader::{self, Layout, NORMAL};
 
-/// The record that a position after the header is in, and where in it.
-fn in_record(layout: Layout, at: usize) -> (usize, usize) {
-    let after = at - layout.records();
-    (after / layout.record, after % layout.record)
-}
-
-fn byte(file: &[u8], from: Layout, to: Layout, at: usize) -> u8 {
-    if at < to.header {
-        return 0xff;
-    }
-    if at < to.records() {
-        return file[from.header + (at - to.header)];
-    }
-    match in_record(to, at) {
-        (k, offset) if offset < NORMAL => file[from.records() + from.record * k + offset],
-        _ => 0,
-    }
-}
-
-fn loses_a_normal(file: &[u8], layout: Layout) -> bool {
-    let of_normal = |&at: &usize| in_record(layout, at).1 >= NORMAL;
-    (layout.records()..file.len()).filter(of_normal).any(|at| file[at] != 0)
+fn loses_a_normal(mut records: std::slice::Chunks<u8>) -> bool {
+    records.any(|record| record[NORMAL..].iter().any(|&byte| byte != 0))
 }
 
 /// Fills the first places of the output: the edition and the length, or the number due.
@@ -32,14 +11,20 @@ pub fn convert(file: &[u8], out: &mut [u8]) -> Result<(u32, usize), u32> {
     reader::read(file)?;
     let from = Layout::of(file);
     let (edition, to) = if from.has_normals() { (1, Layout::FIRST) } else { (2, Layout::SECOND) };
-    let records = (file.len() - from.records()) / from.record;
-    let length = to.records() + to.record * records;
+    let (start, records) = file.split_at(from.records());
+    let records = records.chunks(from.record);
+    let length = to.records() + to.record * records.len();
     let filled = out.get_mut(..length).ok_or(13u32)?;
-    if loses_a_normal(file, from) {
+    if loses_a_normal(records.clone()) {
         return Err(19);
     }
-    for (at, place) in filled.iter_mut().enumerate() {
-        *place = byte(file, from, to, at);
+    let (opening, places) = filled.split_at_mut(to.records());
+    opening[..to.header].fill(0xff);
+    opening[to.header..].copy_from_slice(&start[from.header..]);
+    for (record, place) in records.zip(places.chunks_mut(to.record)) {
+        let (bytes, normal) = place.split_at_mut(NORMAL);
+        bytes.copy_from_slice(&record[..NORMAL]);
+        normal.fill(0);
     }
     Ok((edition, length))
 }
