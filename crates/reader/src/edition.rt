@@ -2,7 +2,7 @@
 ghost use mathlib.Core.Path.{_≡_};
 ghost use Prim.Native.Nat.{_+_, _-_, _*_, _≤_, _<_};
 ghost use lib.ListN.{length};
-ghost use Rattle.reader.specs.File.{isEdition2, markerSize, headerSize, recordSize2, layout1, layout2, layoutOf, headerStart, recordCount, lengthWrong};
+ghost use Rattle.reader.specs.File.{isEdition2, markerSize, headerSize, recordSize2, layout1, layout2, layoutOf, headerStart, recordCount, recordNumbers, lengthWrong};
 use crate::Layout;
 use crate::bytes;
 
@@ -62,9 +62,9 @@ pub fn record_count(s: &[u8], layout: Layout) -> usize
     bytes::u16_at(s, layout.header + 2) as usize
 }
 
-// Where record k starts.
+// Where record k starts. With one more than the last record it is where the file ends.
 pub fn record_start(layout: Layout, k: usize) -> usize
-    requires { ⌜ (layout .header ≤ markerSize) × (layout .«record_size» ≤ recordSize2) × (0 < k) × (k ≤ 65536) ⌝ }
+    requires { ⌜ (layout .header ≤ markerSize) × (layout .«record_size» ≤ recordSize2) × (0 < k) × (k ≤ recordNumbers) ⌝ }
     ensures { λ r. ⌜ r ≡ layout .header + headerSize + layout .«record_size» * (k - 1) ⌝ }
 {
     layout.header + HEADER_SIZE + layout.record_size * (k - 1)
