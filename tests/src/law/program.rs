@@ -1,4 +1,4 @@
-//! What the programs write for a file: the bench program (rules 5.3 and 5.4) and the convert program.
+//! What the programs write for a file: the bench program (rules 5.3 and 5.4) and `convert` (rule 5.8).
 
 use super::{conversion, BY_INTERVALS};
 use crate::calls::{Calls, Places, Tables, MOST_BYTES};
