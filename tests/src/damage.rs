@@ -234,3 +234,15 @@ impl Damage {
         }
     }
 }
+
+/// An undamaged file of each edition with each damage by itself, and the number due.
+pub fn each_alone(seed: u64) -> impl Iterator<Item = (Vec<u8>, u32)> {
+    let cases = Edition::BOTH
+        .into_iter()
+        .flat_map(|edition| all(edition).into_iter().map(move |damage| (edition, damage)));
+    cases.map(move |(edition, damage)| {
+        let mut file = undamaged(edition, seed);
+        damage.apply(&mut file);
+        (file.bytes(), damage.number())
+    })
+}

@@ -61,13 +61,9 @@ fn rims_of_64() {
 
 #[test]
 fn damaged_files() {
-    for edition in Edition::BOTH {
-        for damage in damage::all(edition) {
-            let mut file = undamaged(edition, 4);
-            damage.apply(&mut file);
-            assert_eq!(output(&file.bytes()), format!("refused {}\n", damage.number()));
-            compare(&file.bytes());
-        }
+    for (file, number) in damage::each_alone(4) {
+        assert_eq!(output(&file), format!("refused {number}\n"));
+        compare(&file);
     }
 }
 
