@@ -1,58 +1,52 @@
 -- The grid number is at most half a step from the exact 8v, at a half it is even, and where 8v is in range it is within the grid. Assumes nothing.
 use mathlib.Core.Path.{_≡_, refl, sym, ap, _∙_, subst}
 use mathlib.Core.Logic.{_⊎_, inl, inr}
-use Prim.Native.Nat.{ℕ, zero, suc, _+_, _-_, _*_, _/_, _%_, _≤_, _<_, compare, Ordering, Ordering·lt, Ordering·eq, Ordering·gt}
+use Prim.Native.Nat.{ℕ, zero, suc, _+_, _-_, _*_, _/_, _%_, _≤_, _<_}
 use native.Mathlib.Nat.{div-add-mod', mod-lt, suc-mul, mul-one, le-trans, le-of-eq, zero-lt-suc}
+use native.Mathlib.Numerals.{add-one}
 use native.Mathlib.Omega.{arith}
-use mathlib.Core.Bool.{Bool, true, false, not, cond}
+use mathlib.Core.Bool.{Bool, true, false, cond}
 use borrow.Author.Tests.{leb-true, ltb-true, ltb-false}
 use lib.IntN.{ℤ, pos, negsuc, negℤ, natAbs, _-ℤ_, _*ℤ_, negℤ-+ℤ, negsuc-*ℤ-pos, pos-*ℤ-pos}
-use lib.Dec.{T, isLe, isEq, leb→le, nleb→lt, eqb→eq, ltb}
-use lib.Ieee.{Float, nan, inf, fin, nearest}
+use lib.Dec.{ltb}
+use lib.Ieee.{Float, nan, inf, fin}
 use lib.Ieee.Fits.{down-pos}
-use lib.Ieee.Nearest.{closest, closest-mono}
 use Rattle.grid.specs.declared.GridNumber.the-variants.{Value}
-use Rattle.grid.specs.Number.{finite, numerator, denominator, negative, signed, inRange, roundEighths, gridNumberOf, HalfStep, EvenHalf}
+use Rattle.grid.specs.Number.{finite, numerator, denominator, negative, signed, nearestEven, inRange, roundEighths, gridNumberOf, HalfStep, EvenHalf}
 use Rattle.grid.specs.Point.{OnGrid}
-use Rattle.grid.proofs.Round.{tie}
+use Rattle.grid.proofs.Nearest.{Cases, below-half, above-half, half-even, half-odd, cases, nearest-mono}
 
 -- ---- g is at most half a step from a / b
-record Near (a b g : ℕ) : Type 0 where
-  low : 2 * (g * b) ≤ 2 * a + b
-  high : 2 * a ≤ 2 * (g * b) + b
+pub record Near (a b g : ℕ) : Type 0 where
+  pub low : 2 * (g * b) ≤ 2 * a + b
+  pub high : 2 * a ≤ 2 * (g * b) + b
+
+pub next-times : (q b : ℕ) → (q + 1) * b ≡ q * b + b
+next-times q b = ap (λ (n : ℕ). n * b) (add-one q) ∙ suc-mul q b
 
 at-whole : (a b q r : ℕ) → q * b + r ≡ a → r * 2 ≤ b → Near a b q
 at-whole a b q r e h = record { low = omega arith; high = omega arith }
 
-at-next : (a b q r : ℕ) → q * b + r ≡ a → r < b → b ≤ r * 2 → Near a b (suc q)
-at-next a b q r e l h = let s : suc q * b ≡ q * b + b = suc-mul q b in record { low = omega arith; high = omega arith }
+at-next : (a b q r : ℕ) → q * b + r ≡ a → r < b → b ≤ r * 2 → Near a b (q + 1)
+at-next a b q r e l h = let s : (q + 1) * b ≡ q * b + b = next-times q b in record { low = omega arith; high = omega arith }
 
-at-tie : (a b q r k : ℕ) → q * b + r ≡ a → r < b → r * 2 ≡ b → k < 2 → Near a b (q + k)
-at-tie a b q r zero e l h k = subst (λ (n : ℕ). Near a b n) (none q) (at-whole a b q r e (le-of-eq h))
+pub near : (a b : ℕ) → 0 < b → Near a b (nearestEven a b)
+near a b B = by (cases a b)
   where
-    none : (q : ℕ) → q ≡ q + 0
-    none q = omega arith
-at-tie a b q r (suc k) e l h i = subst (λ (n : ℕ). Near a b n) (one q k i) (at-next a b q r e l (le-of-eq (sym h)))
-  where
-    one : (q k : ℕ) → suc k < 2 → suc q ≡ q + suc k
-    one q k i = omega arith
+    e : a / b * b + a % b ≡ a
+    e = div-add-mod' a b
 
-parity : (q : ℕ) → q % 2 < 2
-parity q = omega arith
+    less : {x y : ℕ} → x < y → x ≤ y
+    less {x} {y} p = omega arith
 
-near : (a b : ℕ) → 0 < b → Near a b (closest a b)
-near a b B = go (compare (a % b * 2) b) (leb→le (a % b * 2) b) (nleb→lt (a % b * 2) b) (eqb→eq (a % b * 2) b)
-  where
-    go : (o : Ordering) → (T (isLe o) → a % b * 2 ≤ b) → (T (not (isLe o)) → b < a % b * 2) → (T (isEq o) → a % b * 2 ≡ b) → Near a b (nearest (a / b) o)
-    go Ordering·lt h k e = at-whole a b (a / b) (a % b) (div-add-mod' a b) (h tt)
-    go Ordering·eq h k e = at-tie a b (a / b) (a % b) (a / b % 2) (div-add-mod' a b) (mod-lt a B) (e tt) (parity (a / b))
-    go Ordering·gt h k e = at-next a b (a / b) (a % b) (div-add-mod' a b) (mod-lt a B) (less (k tt))
-      where
-        less : {x y : ℕ} → x < y → x ≤ y
-        less {x} {y} p = omega arith
+    by : {n : ℕ} → Cases a b n → Near a b n
+    by (below-half h) = at-whole a b (a / b) (a % b) e (less h)
+    by (above-half h) = at-next a b (a / b) (a % b) e (mod-lt a B) (less h)
+    by (half-even h p) = at-whole a b (a / b) (a % b) e (le-of-eq h)
+    by (half-odd h p) = at-next a b (a / b) (a % b) e (mod-lt a B) (le-of-eq (sym h))
 
 -- ---- the same with a sign
-natAbs-neg : (z : ℤ) → natAbs (negℤ z) ≡ natAbs z
+pub natAbs-neg : (z : ℤ) → natAbs (negℤ z) ≡ natAbs z
 natAbs-neg (pos zero) = refl
 natAbs-neg (pos (suc n)) = refl
 natAbs-neg (negsuc n) = refl
@@ -65,14 +59,14 @@ difference-le x (suc y) k h l = go (ltb x (suc y)) (ltb-true x (suc y)) (ltb-fal
     go true a b = let c = a refl in omega arith
     go false a b = let c = b refl in omega arith
 
-neg-times : (g b : ℕ) → negℤ (pos g) *ℤ pos b ≡ negℤ (pos (g * b))
+pub neg-times : (g b : ℕ) → negℤ (pos g) *ℤ pos b ≡ negℤ (pos (g * b))
 neg-times zero b = pos-*ℤ-pos 0 b ∙ ap pos (none b) ∙ ap (λ (n : ℕ). negℤ (pos n)) (sym (none b))
   where
     none : (b : ℕ) → 0 * b ≡ 0
     none b = omega arith
 neg-times (suc g) b = negsuc-*ℤ-pos g b
 
-signed-distance : (s : Bool) (g b a : ℕ) → natAbs ((signed s g *ℤ pos b) -ℤ signed s a) ≡ natAbs (pos (g * b) -ℤ pos a)
+pub signed-distance : (s : Bool) (g b a : ℕ) → natAbs ((signed s g *ℤ pos b) -ℤ signed s a) ≡ natAbs (pos (g * b) -ℤ pos a)
 signed-distance false g b a = ap (λ (z : ℤ). natAbs (z -ℤ pos a)) (pos-*ℤ-pos g b)
 signed-distance true g b a =
     ap (λ (z : ℤ). natAbs (z -ℤ negℤ (pos a))) (neg-times g b)
@@ -91,12 +85,12 @@ unfolding roundEighths
 half-step v f =
     let a = numerator v in
     let b = denominator v in
-    let g = closest a b in
+    let g = nearestEven a b in
     let n = near a b (denominator-pos v) in
     record { near = subst (λ (k : ℕ). 2 * k ≤ b) (sym (signed-distance (negative v) g b a)) (difference-le (g * b) a b (n .low) (n .high)) }
 
 -- ---- at a half it is even
-apart : (x y : ℕ) → (x + natAbs (pos x -ℤ pos y) ≡ y) ⊎ (y + natAbs (pos x -ℤ pos y) ≡ x)
+pub apart : (x y : ℕ) → (x + natAbs (pos x -ℤ pos y) ≡ y) ⊎ (y + natAbs (pos x -ℤ pos y) ≡ x)
 apart x zero = inr (omega arith)
 apart x (suc y) = by (ltb x (suc y)) (ltb-true x (suc y)) (ltb-false x (suc y))
   where
@@ -109,24 +103,26 @@ half-of : (a b q r d : ℕ) → q * b + r ≡ a → 2 * d ≡ b → (q * b + d �
 half-of a b q r d e h (inl p) = omega arith
 half-of a b q r d e h (inr p) = omega arith
 
-half-of-next : (a b q r d : ℕ) → q * b + r ≡ a → r < b → 2 * d ≡ b → (suc q * b + d ≡ a) ⊎ (a + d ≡ suc q * b) → r * 2 ≡ b
-half-of-next a b q r d e l h (inl p) = let s : suc q * b ≡ q * b + b = suc-mul q b in omega arith
-half-of-next a b q r d e l h (inr p) = let s : suc q * b ≡ q * b + b = suc-mul q b in omega arith
+half-of-next : (a b q r d : ℕ) → q * b + r ≡ a → r < b → 2 * d ≡ b → ((q + 1) * b + d ≡ a) ⊎ (a + d ≡ (q + 1) * b) → r * 2 ≡ b
+half-of-next a b q r d e l h (inl p) = let s : (q + 1) * b ≡ q * b + b = next-times q b in omega arith
+half-of-next a b q r d e l h (inr p) = let s : (q + 1) * b ≡ q * b + b = next-times q b in omega arith
 
-tie-even : (a b : ℕ) → 0 < b → 2 * natAbs (pos (closest a b * b) -ℤ pos a) ≡ b → closest a b % 2 ≡ 0
-tie-even a b B h =
-    let t : a % b * 2 ≡ b = half (compare (a % b * 2) b) (eqb→eq (a % b * 2) b) h in
-    ap (λ (n : ℕ). n % 2) (sym (tie a b (le-of-eq (sym t)) (le-of-eq t))) ∙ even (a / b)
+half-even-is : (a b : ℕ) → 0 < b → 2 * natAbs (pos (nearestEven a b * b) -ℤ pos a) ≡ b → nearestEven a b % 2 ≡ 0
+half-even-is a b B = by (cases a b)
   where
-    half : (o : Ordering) → (T (isEq o) → a % b * 2 ≡ b) → 2 * natAbs (pos (nearest (a / b) o * b) -ℤ pos a) ≡ b → a % b * 2 ≡ b
-    half Ordering·lt e d = half-of a b (a / b) (a % b) (natAbs (pos (a / b * b) -ℤ pos a)) (div-add-mod' a b) d (apart (a / b * b) a)
-    half Ordering·eq e d = e tt
-    half Ordering·gt e d = half-of-next a b (a / b) (a % b) (natAbs (pos (suc (a / b) * b) -ℤ pos a)) (div-add-mod' a b) (mod-lt a B) d (apart (suc (a / b) * b) a)
+    e : a / b * b + a % b ≡ a
+    e = div-add-mod' a b
 
-    even : (q : ℕ) → (q + q % 2) % 2 ≡ 0
-    even q = omega arith
+    next-even : (q : ℕ) → q % 2 ≡ 1 → (q + 1) % 2 ≡ 0
+    next-even q p = omega arith
 
-natAbs-signed : (s : Bool) (n : ℕ) → natAbs (signed s n) ≡ n
+    by : {n : ℕ} → Cases a b n → 2 * natAbs (pos (n * b) -ℤ pos a) ≡ b → n % 2 ≡ 0
+    by (below-half h) d = absurd (let t = half-of a b (a / b) (a % b) _ e d (apart (a / b * b) a) in omega (arith, h, t))
+    by (above-half h) d = absurd (let t = half-of-next a b (a / b) (a % b) _ e (mod-lt a B) d (apart ((a / b + 1) * b) a) in omega (arith, h, t))
+    by (half-even h p) d = p
+    by (half-odd h p) d = next-even (a / b) p
+
+pub natAbs-signed : (s : Bool) (n : ℕ) → natAbs (signed s n) ≡ n
 natAbs-signed true n = natAbs-neg (pos n)
 natAbs-signed false n = refl
 
@@ -136,11 +132,11 @@ unfolding roundEighths
 even-half v =
     let a = numerator v in
     let b = denominator v in
-    let g = closest a b in
+    let g = nearestEven a b in
     record {
       even = λ h.
           ap (λ (n : ℕ). n % 2) (natAbs-signed (negative v) g)
-          ∙ tie-even a b (denominator-pos v) (ap (λ (n : ℕ). 2 * n) (sym (signed-distance (negative v) g b a)) ∙ h);
+          ∙ half-even-is a b (denominator-pos v) (ap (λ (n : ℕ). 2 * n) (sym (signed-distance (negative v) g b a)) ∙ h);
     }
 
 -- ---- in range, it is on the grid
@@ -150,7 +146,7 @@ in-range-on-grid v h =
     let a = numerator v in
     let b = denominator v in
     let r : a ≤ 1000 * b = leb-true a (1000 * b) h in
-    record { size = le-trans (le-of-eq (natAbs-signed (negative v) (closest a b))) (closest-mono a b 1000 1 (denominator-pos v) (zero-lt-suc 0) (le-trans (le-of-eq (mul-one a)) r)) }
+    record { size = le-trans (le-of-eq (natAbs-signed (negative v) (nearestEven a b))) (nearest-mono a b 1000 1 (denominator-pos v) (zero-lt-suc 0) (le-trans (le-of-eq (mul-one a)) r)) }
 
 -- rule 1.10: that of minus zero is 0
 pub minus-zero : gridNumberOf (fin true 0 (pos 0)) ≡ Value (pos 0)

@@ -1,4 +1,5 @@
 pub mod Value
+pub mod Nearest
 pub mod Round
 pub mod Patterns
 pub mod Product
@@ -7,3 +8,4 @@ pub mod Agree
 pub mod HalfStep
 pub mod Cases
 pub mod Points
+pub mod Unique

@@ -11,14 +11,15 @@ use lib.Pow.{pow-pos, pow-add}
 use lib.Ieee.{Float, nan, inf, fin, binary32, up, down, unlike, size, nearest, odd, ofBits, toBits, isNan, fits, mul, round}
 use lib.Ieee as ieee
 use lib.Ieee.Digits.{size-le, back}
-use lib.Ieee.Fits.{down-pos, mul-fits, nearest-le, core, round-is}
+use lib.Ieee.Fits.{down-pos, mul-fits, core, round-is}
 use lib.Ieee.Exact.{HasValue, round-exact}
-use lib.Ieee.Nearest.{closest, nearest-ge}
+use lib.Ieee.Nearest.{nearest-ge}
 use lib.Ieee.Scale.{round-same}
 use Rattle.grid.specs.declared.GridNumber.the-variants.{Value, OutOfRange}
-use Rattle.grid.specs.Number.{signed, gridNumberOf}
+use Rattle.grid.specs.Number.{signed, nearestEven, gridNumberOf}
 use Rattle.grid.specs.Pattern.{significand, exponent, units}
 use Rattle.grid.proofs.Value.{bits-value, value-unique, grid-value}
+use Rattle.grid.proofs.Nearest.{at-most-next}
 use Rattle.grid.proofs.Round.{significand-lt, digits-lt}
 use Rattle.grid.proofs.Patterns.{units-lt, units-le, own-bits, finite-bits}
 
@@ -106,16 +107,16 @@ product-no-nan x k f h l =
     mul-no-nan x (ofBits binary32 k) (leb 2147483648 b) (leb 2147483648 k) (units (b % 2147483648)) (units (k % 2147483648)) (own-bits x f h) (bits-value k l)
 
 -- ---- what a pattern below 1024.0 rounds to is small
-rounded-le : (c : ℕ) → c < 1149239296 → closest (units c) (2 ^ 149) ≤ 1025
+rounded-le : (c : ℕ) → c < 1149239296 → nearestEven (units c) (2 ^ 149) ≤ 1025
 rounded-le c h =
-    le-trans (nearest-le (units c / 2 ^ 149) (compare (units c % 2 ^ 149 * 2) (2 ^ 149)))
+    le-trans (at-most-next (units c) (2 ^ 149))
     (up1 (units c / 2 ^ 149) (div-le-of-le-mul (2 ^ 149) (le-trans (le-of-lt (units-lt c 1149239296 h)) (le-of-eq (mul-comm 1024 (2 ^ 149))))))
   where
-    up1 : (n : ℕ) → n ≤ 1024 → suc n ≤ 1025
+    up1 : (n : ℕ) → n ≤ 1024 → n + 1 ≤ 1025
     up1 n h = omega arith
 
-pub rounded-small : {n c most : ℕ} → n ≡ closest (units c) (2 ^ 149) → c ≤ most → most < 1149239296 → n < 2 ^ 63
-rounded-small {n} {c} {most} e h l = small n (closest (units c) (2 ^ 149)) e (rounded-le c (lt-of-le-of-lt h l))
+pub rounded-small : {n c most : ℕ} → n ≡ nearestEven (units c) (2 ^ 149) → c ≤ most → most < 1149239296 → n < 2 ^ 63
+rounded-small {n} {c} {most} e h l = small n (nearestEven (units c) (2 ^ 149)) e (rounded-le c (lt-of-le-of-lt h l))
   where
     small : (n m : ℕ) → n ≡ m → m ≤ 1025 → n < 2 ^ 63
     small n m e h = omega arith
@@ -157,7 +158,7 @@ module _ (x : Float) (f : T (fits binary32 x)) (finite : toBits binary32 x % 214
   pub too-far : 1148846080 < c → OutOfRange ≡ gridNumberOf x
   too-far r =
       sym (grid-value x s (units a) (2 ^ 149) (pow-pos 149) held
-      ∙ ap (λ (t : Bool). cond t (Value (signed s (closest (8 * units a) (2 ^ 149)))) OutOfRange) (lt-leb (8 * units a) (1000 * 2 ^ 149) (by (ltb a 2113929216) (ltb-true a 2113929216) (ltb-false a 2113929216))))
+      ∙ ap (λ (t : Bool). cond t (Value (signed s (nearestEven (8 * units a) (2 ^ 149)))) OutOfRange) (lt-leb (8 * units a) (1000 * 2 ^ 149) (by (ltb a 2113929216) (ltb-true a 2113929216) (ltb-false a 2113929216))))
     where
       by : (t : Bool) → (t ≡ true → a < 2113929216) → (t ≡ false → 2113929216 ≤ a) → 1000 * 2 ^ 149 < 8 * units a
       by true h k = lt-of-lt-of-le (units-lt 1148846080 c r) (le-of-eq (product-same (h refl) .1))
@@ -180,10 +181,10 @@ module _ (x : Float) (f : T (fits binary32 x)) (finite : toBits binary32 x % 214
     in-range : units c ≤ 1000 * 2 ^ 149
     in-range = units-le c 1148846080 r
 
-    pub grid-is : gridNumberOf x ≡ Value (signed (leb 2147483648 (toBits binary32 w)) (closest (units c) (2 ^ 149)))
+    pub grid-is : gridNumberOf x ≡ Value (signed (leb 2147483648 (toBits binary32 w)) (nearestEven (units c) (2 ^ 149)))
     grid-is =
         let e = product-same below-overflow in
         grid-value x s (units a) (2 ^ 149) (pow-pos 149) held
-        ∙ ap (λ (n : ℕ). cond (leb n (1000 * 2 ^ 149)) (Value (signed s (closest n (2 ^ 149)))) OutOfRange) (sym (e .1))
-        ∙ ap (λ (t : Bool). cond t (Value (signed s (closest (units c) (2 ^ 149)))) OutOfRange) (le-leb (units c) (1000 * 2 ^ 149) in-range)
-        ∙ ap (λ (t : Bool). Value (signed t (closest (units c) (2 ^ 149)))) (sym (e .0))
+        ∙ ap (λ (n : ℕ). cond (leb n (1000 * 2 ^ 149)) (Value (signed s (nearestEven n (2 ^ 149)))) OutOfRange) (sym (e .1))
+        ∙ ap (λ (t : Bool). cond t (Value (signed s (nearestEven (units c) (2 ^ 149)))) OutOfRange) (le-leb (units c) (1000 * 2 ^ 149) in-range)
+        ∙ ap (λ (t : Bool). Value (signed t (nearestEven (units c) (2 ^ 149)))) (sym (e .0))

@@ -1,60 +1,12 @@
--- The three cases of `closest`, and the number nearest to what a pattern below 1024 stands for. Assumes nothing.
-use mathlib.Core.Path.{_≡_, refl, sym, ap, _∙_, subst}
-use Prim.Native.Nat.{ℕ, zero, suc, _+_, _-_, _*_, _/_, _%_, _^_, _≤_, _<_, compare, Ordering, Ordering·lt, Ordering·eq, Ordering·gt}
-use native.Mathlib.Nat.{lt-irrefl, le-of-lt, not-le-of-lt, mul-assoc, mul-le-mul-left, mul-lt-mul-of-pos-right, lt-of-lt-of-le, zero-lt-suc, mod-lt, mod-eq-of-lt, div-eq-of-lt, div-le-self}
-use native.Mathlib.Numerals.{add-one}
+-- The number nearest to what a pattern below 1024 stands for. Assumes nothing.
+use mathlib.Core.Path.{_≡_, sym, ap, _∙_, subst}
+use Prim.Native.Nat.{ℕ, zero, suc, _+_, _-_, _*_, _/_, _%_, _^_, _≤_, _<_}
+use native.Mathlib.Nat.{mul-assoc, mul-le-mul-left, mul-lt-mul-of-pos-right, lt-of-lt-of-le, zero-lt-suc, mod-lt, mod-eq-of-lt, div-eq-of-lt, div-le-self}
 use native.Mathlib.Omega.{arith}
-use lib.Dec.{T, isLe, isEq, eqb, leb→le, le→leb, eqb→eq, eqb-refl}
 use lib.Pow.{pow-pos, pow-mono, pow-add}
-use lib.Ieee.{nearest}
-use lib.Ieee.Nearest.{closest, closest-same}
+use Rattle.grid.specs.Number.{nearestEven}
 use Rattle.grid.specs.Pattern.{significand, exponent, units}
-
-pub ord-lt : (a b : ℕ) → a < b → compare a b ≡ Ordering·lt
-ord-lt a b h = go (compare a b) (le→leb a b (le-of-lt h)) (eqb→eq a b)
-  where
-    go : (o : Ordering) → T (isLe o) → (T (isEq o) → a ≡ b) → o ≡ Ordering·lt
-    go Ordering·lt t e = refl
-    go Ordering·eq t e = absurd (lt-irrefl b (subst (λ (x : ℕ). x < b) (e tt) h))
-    go Ordering·gt t e = absurd t
-
-pub ord-gt : (a b : ℕ) → b < a → compare a b ≡ Ordering·gt
-ord-gt a b h = go (compare a b) (leb→le a b)
-  where
-    go : (o : Ordering) → (T (isLe o) → a ≤ b) → o ≡ Ordering·gt
-    go Ordering·lt t = absurd (not-le-of-lt h (t tt))
-    go Ordering·eq t = absurd (not-le-of-lt h (t tt))
-    go Ordering·gt t = refl
-
-pub ord-eq : (a b : ℕ) → a ≡ b → compare a b ≡ Ordering·eq
-ord-eq a b h = go (compare a b) (subst (λ (x : ℕ). T (eqb a x)) h (eqb-refl a))
-  where
-    go : (o : Ordering) → T (isEq o) → o ≡ Ordering·eq
-    go Ordering·lt t = absurd t
-    go Ordering·eq t = refl
-    go Ordering·gt t = absurd t
-
-pub down : (a b : ℕ) → a % b * 2 < b → a / b ≡ closest a b
-down a b h = sym (ap (nearest (a / b)) (ord-lt (a % b * 2) b h))
-
-pub up : (a b : ℕ) → b < a % b * 2 → a / b + 1 ≡ closest a b
-up a b h = add-one (a / b) ∙ sym (ap (nearest (a / b)) (ord-gt (a % b * 2) b h))
-
-same : (x y : ℕ) → x ≤ y → y ≤ x → y ≡ x
-same x y h k = omega arith
-
-pub tie : (a b : ℕ) → b ≤ a % b * 2 → a % b * 2 ≤ b → a / b + a / b % 2 ≡ closest a b
-tie a b h k = sym (ap (nearest (a / b)) (ord-eq (a % b * 2) b (same b (a % b * 2) h k)))
-
--- ---- what the code needs to fit
-pub twice : (a b : ℕ) → 0 < b → b < 2 ^ 31 → a % b * 2 < 2 ^ 32
-twice a b B h = let r : a % b < b = mod-lt a B in omega arith
-
-pub next : (a b : ℕ) → a < 2 ^ 31 → a / b + 1 < 2 ^ 32
-next a b h = let q : a / b ≤ a = div-le-self a b in omega arith
-
-pub even : (a b : ℕ) → a < 2 ^ 31 → a / b + a / b % 2 < 2 ^ 32
-even a b h = let q : a / b ≤ a = div-le-self a b in omega arith
+use Rattle.grid.proofs.Nearest.{down, nearest-same}
 
 -- ---- below a half
 pub digits-lt : (c : ℕ) → c % 8388608 < 8388608
@@ -80,10 +32,10 @@ units-small c h =
 whole-lt : (v u : ℕ) → v * 2 < u → v < u
 whole-lt v u h = omega arith
 
-pub below-half : (c : ℕ) → c < 1056964608 → 0 ≡ closest (units c) (2 ^ 149)
+pub below-half : (c : ℕ) → c < 1056964608 → 0 ≡ nearestEven (units c) (2 ^ 149)
 below-half c h = nothing (units c) (2 ^ 149) (mul-lt-mul-of-pos-right (units-small c h) (zero-lt-suc 1))
   where
-    nothing : (v u : ℕ) → v * 2 < u → 0 ≡ closest v u
+    nothing : (v u : ℕ) → v * 2 < u → 0 ≡ nearestEven v u
     nothing v u k = sym (div-eq-of-lt (whole-lt v u k)) ∙ down v u (subst (λ (r : ℕ). r * 2 < u) (sym (mod-eq-of-lt (whole-lt v u k))) k)
 
 -- ---- from a half to 1024
@@ -112,19 +64,32 @@ shift-le c h = omega arith
 one-times : (n : ℕ) → n ≤ 2 ^ 24 → 1 * n % 4294967296 ≡ n
 one-times n h = omega arith
 
-pub power : (c : ℕ) → 1056964608 ≤ c → 1 * 2 ^ (150 - c / 8388608) % 4294967296 ≡ 2 ^ (150 - c / 8388608)
+-- the code's 1 moved up by the places after the point, and the digits, which are so many such ones
+abbrev pub one : ℕ → ℕ
+one c = 1 * 2 ^ (150 - c / 8388608) % 4294967296
+
+abbrev pub digits : ℕ → ℕ
+digits c = 8388608 + c % 8388608
+
+power : (c : ℕ) → 1056964608 ≤ c → one c ≡ 2 ^ (150 - c / 8388608)
 power c h = one-times (2 ^ (150 - c / 8388608)) (pow-mono (shift-le c h))
 
-pub power-lt : (c : ℕ) → 1056964608 ≤ c → 2 ^ (150 - c / 8388608) < 2147483648
-power-lt c h = small (2 ^ (150 - c / 8388608)) (pow-mono (shift-le c h))
+pub one-pos : (c : ℕ) → 1056964608 ≤ c → 0 < one c
+one-pos c h = subst (λ (n : ℕ). 0 < n) (sym (power c h)) (pow-pos (150 - c / 8388608))
+
+pub twice-fits : (c : ℕ) → 1056964608 ≤ c → digits c % one c * 2 < 2 ^ 32
+twice-fits c h = small (digits c % one c) (one c) (mod-lt (digits c) (one-pos c h)) (subst (λ (n : ℕ). n ≤ 2 ^ 24) (sym (power c h)) (pow-mono (shift-le c h)))
   where
-    small : (n : ℕ) → n ≤ 2 ^ 24 → n < 2147483648
-    small n k = omega arith
+    small : (r n : ℕ) → r < n → n ≤ 2 ^ 24 → r * 2 < 2 ^ 32
+    small r n l k = omega arith
 
-pub digits-small : (c : ℕ) → 8388608 + c % 8388608 < 2147483648
-digits-small c = omega arith
+pub next-fits : (c : ℕ) → digits c / one c + 1 < 2 ^ 32
+next-fits c = small (c % 8388608) (digits c / one c) (digits-lt c) (div-le-self (digits c) (one c))
+  where
+    small : (t q : ℕ) → t < 8388608 → q ≤ 8388608 + t → q + 1 < 2 ^ 32
+    small t q h k = omega arith
 
-pub from-half : (c : ℕ) → 1056964608 ≤ c → c < 1149239296 → closest (8388608 + c % 8388608) (2 ^ (150 - c / 8388608)) ≡ closest (units c) (2 ^ 149)
+pub from-half : (c : ℕ) → 1056964608 ≤ c → c < 1149239296 → nearestEven (digits c) (one c) ≡ nearestEven (units c) (2 ^ 149)
 from-half c h k =
-    closest-same (8388608 + c % 8388608) (2 ^ (150 - c / 8388608)) (units c) (2 ^ 149) (pow-pos (150 - c / 8388608)) (pow-pos 149)
-    (scaled (c / 8388608) (c % 8388608) (field-ge c h) (field-le c k))
+    nearest-same (digits c) (one c) (units c) (2 ^ 149) (one-pos c h) (pow-pos 149)
+    (scaled (c / 8388608) (c % 8388608) (field-ge c h) (field-le c k) ∙ ap (λ (n : ℕ). units c * n) (sym (power c h)))

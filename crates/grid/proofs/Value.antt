@@ -9,10 +9,10 @@ use lib.Ieee.{Float, nan, inf, fin, binary32, up, down, odd, ofFields, ofBits, i
 use lib.Ieee.Bits.{cond-no}
 use lib.Ieee.Fits.{down-pos}
 use lib.Ieee.Exact.{HasValue, odd-sign}
-use lib.Ieee.Nearest.{closest, closest-same}
 use Rattle.grid.specs.declared.GridNumber.the-variants.{Value, OutOfRange}
-use Rattle.grid.specs.Number.{finite, numerator, denominator, negative, signed, inRange, roundEighths, gridNumberOf}
+use Rattle.grid.specs.Number.{finite, numerator, denominator, negative, signed, nearestEven, inRange, roundEighths, gridNumberOf}
 use Rattle.grid.specs.Pattern.{gridFraction, significand, exponent, units}
+use Rattle.grid.proofs.Nearest.{nearest-same}
 
 -- ---- NaN patterns
 pub nan-is : (x : Float) → isNan x ≡ true → x ≡ nan
@@ -65,11 +65,11 @@ within a b c d B e h = le-of-mul-le-mul-right (le-trans (le-of-eq (sym e)) (le-t
 
 pub step-same : (s : Bool) (a b c d : ℕ) → 0 < b → 0 < d → a * d ≡ c * b → gridFraction s a b ≡ gridFraction s c d
 step-same s a b c d B D e =
-    ap (λ (t : Bool). cond t (Value (signed s (closest a b))) OutOfRange)
+    ap (λ (t : Bool). cond t (Value (signed s (nearestEven a b))) OutOfRange)
     (bool-same (leb a (1000 * b)) (leb c (1000 * d))
     (λ (t : T (leb a (1000 * b))). le→leb c (1000 * d) (within a b c d B e (leb→le a (1000 * b) t)))
     (λ (t : T (leb c (1000 * d))). le→leb a (1000 * b) (within c d a b D (sym e) (leb→le c (1000 * d) t))))
-    ∙ ap (λ (n : ℕ). cond (leb c (1000 * d)) (Value (signed s n)) OutOfRange) (closest-same a b c d B D e)
+    ∙ ap (λ (n : ℕ). cond (leb c (1000 * d)) (Value (signed s n)) OutOfRange) (nearest-same a b c d B D e)
 
 pub grid-value : (x : Float) (s : Bool) (a c : ℕ) → 0 < c → HasValue x s a c → gridNumberOf x ≡ gridFraction s (8 * a) c
 unfolding gridNumberOf finite inRange roundEighths numerator denominator negative

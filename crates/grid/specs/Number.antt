@@ -1,11 +1,10 @@
 -- The grid number of a float, from its exact value v. A finite float is ± m * 2 ^ e, and 2 ^ e is the fraction up e / down e (`lib.Ieee`). Definitions only.
 use mathlib.Core.Path.{_≡_}
-use Prim.Native.Nat.{ℕ, _*_, _%_, _≤_}
+use Prim.Native.Nat.{ℕ, _+_, _*_, _/_, _%_, _≤_}
 use mathlib.Core.Bool.{Bool, true, false, cond}
 use lib.IntN.{ℤ, pos, negℤ, natAbs, _-ℤ_, _*ℤ_}
-use lib.Dec.{leb}
+use lib.Dec.{leb, ltb, eqb}
 use lib.Ieee.{Float, nan, inf, fin, up, down}
-use lib.Ieee.Nearest.{closest}
 use Rattle.grid.specs.declared.GridNumber.{GridNumber}
 use Rattle.grid.specs.declared.GridNumber.the-variants.{Value, NotFinite, OutOfRange}
 
@@ -41,10 +40,18 @@ unfoldable pub inRange : Float → Bool
 unfolding numerator denominator
 inRange v = leb (numerator v) (1000 * denominator v)
 
--- rule 1.10: the whole number nearest to 8v, at a half the even one (`closest`)
+-- rule 1.10: of a whole number and the next, the even one
+abbrev pub evenOf : ℕ → ℕ
+evenOf whole = cond (eqb (whole % 2) 0) whole (whole + 1)
+
+-- rule 1.10: the whole number nearest to a / b. Above the whole part a / b is less than half of b left, or more, or exactly half: then it is the even one
+abbrev pub nearestEven : ℕ → ℕ → ℕ
+nearestEven a b = cond (ltb (a % b * 2) b) (a / b) (cond (ltb b (a % b * 2)) (a / b + 1) (evenOf (a / b)))
+
+-- rule 1.10: the whole number nearest to 8v, at a half the even one, above and below zero alike
 unfoldable pub roundEighths : Float → ℤ
 unfolding numerator denominator negative
-roundEighths v = signed (negative v) (closest (numerator v) (denominator v))
+roundEighths v = signed (negative v) (nearestEven (numerator v) (denominator v))
 
 -- rules 4.8 and 4.9, in this order; where neither is due, the grid number
 unfoldable pub gridNumberOf : Float → GridNumber

@@ -2,10 +2,9 @@
 use Prim.Native.Nat.{ℕ, zero, suc, _+_, _*_, _/_, _%_, _^_}
 use mathlib.Core.Bool.{Bool, cond}
 use lib.Dec.{leb}
-use lib.Ieee.Nearest.{closest}
 use Rattle.grid.specs.declared.GridNumber.{GridNumber}
 use Rattle.grid.specs.declared.GridNumber.the-variants.{Value, NotFinite, OutOfRange}
-use Rattle.grid.specs.Number.{signed}
+use Rattle.grid.specs.Number.{signed, nearestEven}
 
 -- A finite pattern with no sign bit, of the exponent field e and the digits t, is significand e t * 2 ^ exponent e units of 2 ^ -149.
 abbrev pub significand : ℕ → ℕ → ℕ
@@ -21,7 +20,7 @@ units c = significand (c / 8388608) (c % 8388608) * 2 ^ exponent (c / 8388608)
 
 -- rules 1.9 and 1.10 for a value of the sign s and the size a / 8b
 abbrev pub gridFraction : Bool → ℕ → ℕ → GridNumber
-gridFraction s a b = cond (leb a (1000 * b)) (Value (signed s (closest a b))) OutOfRange
+gridFraction s a b = cond (leb a (1000 * b)) (Value (signed s (nearestEven a b))) OutOfRange
 
 -- rules 1.9, 1.10 and 4.8 from a pattern alone; that this is the grid number of its value: `bits-agree` of proofs/Agree.antt
 abbrev pub gridNumberOfBits : ℕ → GridNumber

@@ -1,9 +1,8 @@
 // Grid points, and the grid number of a float: a step of the grid is an eighth of a millimetre.
 ghost use mathlib.Core.Path.{_≡_};
-ghost use Prim.Native.Nat.{_^_, _<_};
+ghost use Prim.Native.Nat.{_%_, _^_, _<_};
 ghost use lib.Ieee.{binary32, ofBits};
-ghost use lib.Ieee.Nearest as Nearest;
-ghost use Rattle.grid.specs.Number.{gridNumberOf};
+ghost use Rattle.grid.specs.Number.{nearestEven, gridNumberOf};
 ghost use Rattle.grid.specs.Pattern.{units};
 ghost use Rattle.grid.specs.Point.{point, OnGrid, coordinateOnGrid, pointOnGrid};
 
@@ -70,32 +69,30 @@ pub fn float_from_bits(bits: u32) -> f32
     }
 }
 
-// The whole number nearest to a / b, at a tie the even one.
-fn closest(a: u32, b: u32) -> u32
-    requires { ⌜ (0 < b) × (b < 2 ^ 31) × (a < 2 ^ 31) ⌝ }
-    ensures { λ r. ⌜ r ≡ Nearest.closest a b ⌝ }
+// The size of the whole number nearest to a float of a size below 1024, from its bits. Their sign has no part in it: at a half the number is
+// the even one above and below zero alike.
+fn rounded(bits: u32) -> u32
+    requires { ⌜ bits % 0x8000_0000 < 0x4480_0000 ⌝ }
+    ensures { λ r. ⌜ r ≡ nearestEven (units (bits % 0x8000_0000)) (2 ^ 149) ⌝ }
 {
-    let quotient = a / b;
-    let twice = a % b * 2;
-    if twice < b {
-        quotient
-    } else if b < twice {
-        quotient + 1
-    } else {
-        quotient + quotient % 2
-    }
-}
-
-// The whole number nearest to a float below 1024, from its pattern without the sign.
-fn rounded(pattern: u32) -> u32
-    requires { ⌜ pattern < 0x4480_0000 ⌝ }
-    ensures { λ r. ⌜ r ≡ Nearest.closest (units pattern) (2 ^ 149) ⌝ }
-{
+    let pattern = bits % 0x8000_0000;
     if pattern < 0x3f00_0000 {
         return 0;
     }
     let shift = 150 - pattern / 0x80_0000;
-    closest(0x80_0000 + pattern % 0x80_0000, 1 << shift)
+    let one: u32 = 1 << shift;
+    let digits = 0x80_0000 + pattern % 0x80_0000;
+    let whole = digits / one;
+    let twice = digits % one * 2;
+    if twice < one {
+        whole
+    } else if one < twice {
+        whole + 1
+    } else if whole % 2 == 0 {
+        whole
+    } else {
+        whole + 1
+    }
 }
 
 // The grid number of a value in millimetres (rules 1.9 and 1.10). v * 8.0 is exact, or overflows to an infinity: its pattern is above
@@ -116,7 +113,7 @@ pub fn grid_number(v: f32) -> GridNumber
     if 0x447a_0000 < pattern {
         return GridNumber::OutOfRange;
     }
-    let number = rounded(pattern) as i64;
+    let number = rounded(bits) as i64;
     if bits < 0x8000_0000 {
         GridNumber::Value(number)
     } else {
