@@ -5,5 +5,6 @@ pub mod Demands
 pub mod Sizes
 pub mod Conversion
 pub mod Base
+pub mod OnePatch
 pub mod Worked
 pub mod Cases

@@ -1,16 +1,20 @@
--- In a file that is read, each coordinate of each vertex is the float it comes from, rounded to the nearest grid number (rules 1.6 to 1.10).
--- Assumes nothing.
+-- In a file that is read, each coordinate of each vertex is the float it comes from, rounded to the nearest grid number, at a half the even one (rules
+-- 1.6 to 1.10). No other vertex is so rounded: the file alone fixes the vertices. Assumes nothing.
 use mathlib.Core.Path.{_≡_, refl, sym, ap, _∙_, subst}
 use mathlib.Core.List.{List, List·Memᴰ, List·Memᴰ·head, List·Memᴰ·tail}
 use mathlib.Core.Logic.{⊎-elim}
 use Prim.Native.Nat.{ℕ, _<_}
 use native.Mathlib.Omega.{arith}
-use borrow.Author.Tests.{eq-eqb, ne-eqb}
+use borrow.Author.Tests.{ltb-true, ltb-false, eq-eqb, ne-eqb}
+use lib.Dec.{ltb}
+use lib.IntN.{ℤ}
 use lib.Ieee.{Float}
-use Rattle.lists.proofs.Choice.{yes, no, below-or-same}
+use Rattle.lists.proofs.Choice.{Truth, holds, fails, truth, yes, no, below-or-same}
 use Rattle.grid.specs.declared.GridPoint.{GridPoint}
 use Rattle.grid.specs.Number.{roundEighths}
+use Rattle.grid.specs.Point.{point}
 use Rattle.grid.proofs.HalfStep.{half-step, even-half}
+use Rattle.grid.proofs.Unique.{one-number}
 use Rattle.polygon.specs.Polygon as polygon
 use Rattle.reader.specs.File.{firstNumber, secondNumber, thirdNumber}
 use Rattle.reader.specs.Due.{kindAt, floatsAt, OnGridAt, HasVertex, a-point, a-level-point}
@@ -57,3 +61,25 @@ module _ (s : List ℕ) where
   -- rules 1.6 to 1.10, of every vertex of every file that is read
   pub vertices-rounded : readingOf s .status ≡ Complete → (i : ℕ) → i < readingOf s .polygon .n → Rounded s i (polygon.vertexAt (readingOf s .polygon .vertices) i)
   vertices-rounded e i h = rounded i (polygon.vertexAt (readingOf s .polygon .vertices) i) (read-vertices s e i h)
+
+  -- ---- nothing is left free
+  rounds-once : {v : Float} {g h : ℤ} → RoundsTo v g → RoundsTo v h → g ≡ h
+  rounds-once {v} {g} {h} a b = one-number v g h (a .half-step) (a .even-half) (b .half-step) (b .even-half)
+
+  -- the height comes from one position
+  from-once : {i : ℕ} {p q : GridPoint} → (a : Rounded s i p) (b : Rounded s i q) → a .from ≡ b .from
+  from-once {i} a b = by (truth (ltb (a .from) (b .from))) (truth (ltb (b .from) (a .from)))
+    where
+      by : Truth (ltb (a .from) (b .from)) → Truth (ltb (b .from) (a .from)) → a .from ≡ b .from
+      by (holds l) g = absurd (a .last (b .from) (ltb-true _ _ l) (b .up-to) (b .point))
+      by (fails l) (holds g) = absurd (b .last (a .from) (ltb-true _ _ g) (a .up-to) (a .point))
+      by (fails l) (fails g) = let h = ltb-false (a .from) (b .from) l in let k = ltb-false (b .from) (a .from) g in omega arith
+
+  rounded-once : {i : ℕ} {p q : GridPoint} → Rounded s i p → Rounded s i q → p ≡ q
+  rounded-once a b =
+      let z = rounds-once (subst (λ (j : ℕ). RoundsTo (thirdNumber s (recordStart s j)) _) (from-once a b) (a .z)) (b .z) in
+      λ i. point (rounds-once (a .x) (b .x) i) (rounds-once (a .y) (b .y) i) (z i)
+
+  -- rules 1.6 to 1.10 allow one vertex at each position, the one that is read
+  pub vertices-fixed : readingOf s .status ≡ Complete → (i : ℕ) → i < readingOf s .polygon .n → (p : GridPoint) → Rounded s i p → p ≡ polygon.vertexAt (readingOf s .polygon .vertices) i
+  vertices-fixed e i h p a = rounded-once a (vertices-rounded e i h)

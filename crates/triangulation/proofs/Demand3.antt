@@ -88,7 +88,8 @@ sum-ones [] = refl
 sum-ones (x ∷ s) = omega (arith, sum-ones s)
 
 module _ (job : Job) (good : Valid job) where
-  members : (s : List ℕ) → Triangulates job s → (k : ℕ) → Mem k s → k < job .size
+  -- the members of a tiling are candidates
+  pub members : (s : List ℕ) → Triangulates job s → (k : ℕ) → Mem k s → k < job .size
   members s h k m = omega (arith, upFrom-mem 0 (job .size) k (subset-mem (upFrom 0 (job .size)) s (h .0) k m))
 
   pub preorder-length : (s : List ℕ) → Triangulates job s → length (preorder job s) ≡ job .n - 2

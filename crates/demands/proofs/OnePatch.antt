@@ -1,0 +1,88 @@
+-- The file alone fixes the patch (rule 3.10): two answers to one file, over any tables that are long enough, have the same outcome, total and triangles,
+-- whatever the tables held. Assumes nothing.
+use mathlib.Core.Path.{_≡_, refl, sym, _∙_, subst}
+use mathlib.Core.List.{List, [], List·Memᴰ, List·Memᴰ·not-nil}
+use mathlib.Core.Logic.{_⊎_, inl, inr}
+use Prim.Native.Nat.{ℕ, _<_}
+use lib.ListN.{length, length-map}
+use Rattle.lists.proofs.Writing.{filled-at}
+use Rattle.polygon.specs.declared.Polygon.{Polygon}
+use Rattle.polygon.specs.Polygon.{Valid}
+use Rattle.reader.specs.File.{Bytes}
+use Rattle.reader.specs.Order.{Place, First, NoneDue}
+use Rattle.delaunay.specs.Candidates.{candidatesOf}
+use Rattle.weights.specs.Weights.{ownWeight}
+use Rattle.triangulation.specs.Triangulations.{Answer, none, patch, best}
+use Rattle.triangulation.specs.Demand3.{Optimal}
+use Rattle.triangulation.proofs.Demand3.{members, demand3, handed-back}
+use Rattle.triangulator.specs.declared.Outcome.the-variants.{None, Refused}
+use Rattle.triangulator.specs.Call.{settled}
+use Rattle.triangulator.proofs.Settling.{part-patch, part-empty}
+use Rattle.pipeline.specs.Patching.{Tables, Patching, refused, weightsIn, jobIn, patchedBy, patched, patchFile}
+use Rattle.pipeline.proofs.Values.{valid-job}
+use Rattle.demands.specs.Demand1.{polygonIn, CallDue, by-reader, twelve, thirteen}
+use Rattle.demands.specs.OnePatch.{LongEnough, handedBack, SamePatch}
+use Rattle.demands.proofs.Demand1.{first-or-none, refused-first, accepted}
+
+-- nothing is a member where nothing is handed back
+nothing : {A : Type 0} {l : List ℕ} {k : ℕ} → l ≡ [] → List·Memᴰ k l → A
+nothing {k = k} e m = absurd (List·Memᴰ·not-nil (subst (λ (l : List ℕ). List·Memᴰ k l) e m))
+
+same-refused : (k : ℕ) (s t : Tables) → SamePatch (refused k s) (refused k t)
+same-refused k s t =
+    let e = part-empty (Refused k) (s .triangles) refl in
+    record { outcome = refl; total = refl; triangles = e ∙ sym (part-empty (Refused k) (t .triangles) refl); vertices = λ j m. nothing e m; weights = λ j m. nothing e m }
+
+-- the answer to a polygon on which no number is due
+module _ (p : Polygon) (valid : Valid p) (s t : Tables) where
+  answered : Answer → Tables → Patching
+  answered a lent = patchedBy (settled a (length (candidatesOf p)) (lent .triangles) (lent .work)) (weightsIn p) p lent
+
+  -- the triangles of a patch are candidates
+  below : {total : ℕ} {l : List ℕ} → Optimal (jobIn p) total l → (k : ℕ) → List·Memᴰ k l → k < length (candidatesOf p)
+  below {total} {l} o k m = let b = handed-back (jobIn p) (valid-job p valid) total l o in members (jobIn p) (valid-job p valid) (b .right .set) (b .right .tiles) k (b .once .only k m)
+
+  same-answer : (a : Answer) → ((total : ℕ) (l : List ℕ) → a ≡ patch total l → Optimal (jobIn p) total l) → SamePatch (answered a s) (answered a t)
+  unfolding answered
+  same-answer none o =
+      let e = part-empty None (s .triangles) refl in
+      record { outcome = refl; total = refl; triangles = e ∙ sym (part-empty None (t .triangles) refl); vertices = λ j m. nothing e m; weights = λ j m. nothing e m }
+  same-answer (patch total l) o =
+      let e = part-patch l (s .triangles) total in
+      let within : (k : ℕ) → List·Memᴰ k (handedBack (answered (patch total l) s)) → k < length (candidatesOf p) = λ k m. below (o total l refl) k (subst (λ (x : List ℕ). List·Memᴰ k x) e m) in
+      let weighed : (k : ℕ) → k < length (candidatesOf p) → k < length (weightsIn p) = λ k h. subst (λ (n : ℕ). k < n) (sym (length-map (candidatesOf p) (ownWeight p))) h in
+      record {
+        outcome = refl;
+        total = refl;
+        triangles = e ∙ sym (part-patch l (t .triangles) total);
+        vertices = λ k m. filled-at (candidatesOf p) (s .candidates) k [] (within k m) ∙ sym (filled-at (candidatesOf p) (t .candidates) k [] (within k m));
+        weights = λ k m. filled-at (weightsIn p) (s .weights) k 0 (weighed k (within k m)) ∙ sym (filled-at (weightsIn p) (t .weights) k 0 (weighed k (within k m)));
+      }
+
+  same-patched : SamePatch (patched p s) (patched p t)
+  unfolding answered
+  same-patched = same-answer (best (jobIn p)) (demand3 (jobIn p) (valid-job p valid) .patch-is)
+
+module _ (file : List ℕ) where
+  -- 13 aside, a number is due by the file alone
+  due-again : {s t : Tables} {p : Place} {k : ℕ} → LongEnough file s → CallDue file s p k → CallDue file t p k
+  due-again h (by-reader d) = by-reader d
+  due-again h (twelve d) = twelve d
+  due-again h (thirteen d) = absurd (h d)
+
+  first-again : {s t : Tables} {k : ℕ} → LongEnough file s → LongEnough file t → First (CallDue file s) k → First (CallDue file t) k
+  first-again h g f = record { place = f .place; is-due = due-again h (f .is-due); none-before = λ p j q d. f .none-before p j q (due-again g d) }
+
+  none-again : {s t : Tables} → LongEnough file t → NoneDue (CallDue file s) → NoneDue (CallDue file t)
+  none-again g n = record { none = λ p k d. n .none p k (due-again g d) }
+
+  -- one file, one patch
+  pub file-fixes-patch : Bytes file → (s t : Tables) → LongEnough file s → LongEnough file t → SamePatch (patchFile file s) (patchFile file t)
+  file-fixes-patch bytes s t h g = by (first-or-none file bytes s)
+    where
+      by : ((k : ℕ) × First (CallDue file s) k) ⊎ NoneDue (CallDue file s) → SamePatch (patchFile file s) (patchFile file t)
+      by (inl (k, f)) = rw (refused-first file bytes s k f, refused-first file bytes t k (first-again h g f)) (same-refused k s t)
+      by (inr n) =
+          let a = accepted file bytes s n in
+          let b = accepted file bytes t (none-again g n) in
+          rw (a .call-is, b .call-is) (same-patched (polygonIn file) (a .polygon-valid) s t)

@@ -1,0 +1,17 @@
+-- `grid_vectors::bits_of` is safe and ends. Assumes nothing.
+use borrow.Author.Needs.{needs}
+use Rattle.grid.proofs.Signs.{no-nan-left}
+use Rattle.grid_vectors.proofs.bits_of.Statement.{statement}
+use Rattle.grid_vectors.proofs.bits_of.Tie as tie
+
+returns : tie.Need-returns
+returns c = search needs
+
+float-to-bits-result : tie.Need-float-to-bits-result
+float-to-bits-result c = no-nan-left _ (c .if1 .left)
+
+returns-2 : tie.Need-returns-2
+returns-2 c = search needs
+
+pub bits-of-spec : {M : Type 1} → statement M
+bits-of-spec = tie.close (tie.spec returns float-to-bits-result returns-2)

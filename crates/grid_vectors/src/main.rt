@@ -1,0 +1,103 @@
+// The grid number at every half from -999.5 to 999.5, and at the floats next to each. A line has 8v, where v is the float in millimetres, and the
+// grid numbers of the next float below v, of v, and of the next float above it. What `stdout` holds was worked out from rule 1.10 in exact fractions.
+use grid::GridNumber;
+use grid::GridPoint;
+
+const STANDARD_OUTPUT: i32 = 1;
+
+const SIGN: u32 = 0x8000_0000;
+
+// How many halves there are on each side of zero.
+const HALVES: u32 = 1000;
+
+// 0.0625 mm is half a step of the grid, and 0.125 mm a step: sums of them up to 125 mm are exact.
+const HALF: f32 = 0.0625;
+
+const STEP: f32 = 0.125;
+
+const LOWEST_HALF: f32 = -124.9375;
+
+// The bits of a float that is no NaN, as to_bits asks.
+fn bits_of(v: f32) -> u32 {
+    if v != v {
+        return 0;
+    }
+    f32::to_bits(v)
+}
+
+// The next float above one that is not 0, and the next below: away from zero the bits rise.
+fn above(bits: u32) -> u32 {
+    if bits < SIGN {
+        std::num::wrapping_add_u32(bits, 1)
+    } else {
+        std::num::wrapping_sub_u32(bits, 1)
+    }
+}
+
+fn below(bits: u32) -> u32 {
+    if bits < SIGN {
+        std::num::wrapping_sub_u32(bits, 1)
+    } else {
+        std::num::wrapping_add_u32(bits, 1)
+    }
+}
+
+fn print_number(n: i64) {
+    if n < GridPoint::LOWEST {
+        io::write_all(STANDARD_OUTPUT, b"below the grid");
+    } else if n < 0 {
+        io::write_all(STANDARD_OUTPUT, b"-");
+        io::print_decimal(STANDARD_OUTPUT, (-n) as u64);
+    } else {
+        io::print_decimal(STANDARD_OUTPUT, n as u64);
+    }
+}
+
+fn print_grid_number(bits: u32) {
+    io::write_all(STANDARD_OUTPUT, b" ");
+    let number = grid::grid_number(grid::float_from_bits(bits));
+    match number {
+        GridNumber::Value(n) => print_number(n),
+        GridNumber::NotFinite => {
+            io::write_all(STANDARD_OUTPUT, b"not finite");
+        }
+        GridNumber::OutOfRange => {
+            io::write_all(STANDARD_OUTPUT, b"out of range");
+        }
+    }
+}
+
+// The size of 8v is whole + 0.5.
+fn print_line(whole: u32, v: f32) {
+    let bits = bits_of(v);
+    if SIGN <= bits {
+        io::write_all(STANDARD_OUTPUT, b"-");
+    }
+    io::print_decimal(STANDARD_OUTPUT, whole as u64);
+    io::write_all(STANDARD_OUTPUT, b".5:");
+    print_grid_number(below(bits));
+    print_grid_number(bits);
+    print_grid_number(above(bits));
+    io::write_all(STANDARD_OUTPUT, b"\n");
+}
+
+fn print_below_zero() {
+    let mut v = LOWEST_HALF;
+    for i in 1..=HALVES {
+        print_line(HALVES - i, v);
+        v = v + STEP;
+    }
+}
+
+fn print_above_zero() {
+    let mut v = HALF;
+    for whole in 0..HALVES {
+        print_line(whole, v);
+        v = v + STEP;
+    }
+}
+
+fn main() {
+    print_below_zero();
+    print_above_zero();
+}
