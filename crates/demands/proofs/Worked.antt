@@ -12,7 +12,7 @@ use Rattle.terms.specs.Entries.{triple}
 use Rattle.lists.specs.Lists.{filled, either, upFrom, everyFrom, someFrom}
 use Rattle.lists.proofs.Choice.{yes, no}
 use Rattle.grid.specs.Point.{point}
-use Rattle.grid.specs.Number.{finite, numerator, denominator, negative, inRange, roundEighths}
+use Rattle.grid.specs.Number.{finite, numerator, denominator, negative, inRange, roundEighths, gridNumberOf}
 use Rattle.polygon.specs.declared.Polygon.{Polygon}
 use Rattle.polygon.specs.Polygon.{origin, codeOf, repeatedVertex, firstDue, verticesCodeFrom}
 use Rattle.polygon.specs.declared.normal.Normal.{Normal}
@@ -170,7 +170,7 @@ file-N = call-is slopes weights-N fileN number-N polygon-N code-N best-N
 
 -- ---- the list
 others-hold : map (λ c. c .computed) (drop 3 worked) ≡ map (λ c. c .expected) (drop 3 worked)
-unfolding triangulated jobCode listsCode everyFrom candidateFits ascends before rowFits namesPair hangs rowBefore bestKey key isTriangulation totalWeight preorderFrom countBetween countOutside rootDigits lengthOf ratioOf bendOf
+unfolding gridNumberOf ofBits finite numerator denominator negative inRange roundEighths triangulated jobCode listsCode everyFrom candidateFits ascends before rowFits namesPair hangs rowBefore bestKey key isTriangulation totalWeight preorderFrom countBetween countOutside rootDigits lengthOf ratioOf bendOf
 others-hold = refl
 
 pub worked-hold : map (λ c. c .computed) worked ≡ map (λ c. c .expected) worked

@@ -1,9 +1,13 @@
--- The worked cases of rules 6.1 to 6.6 in one list: what the definitions give, and what it should be. Definitions only.
+-- The worked cases of rules 6.1 to 6.7 in one list: what the definitions give, and what it should be. Definitions only.
 use mathlib.Core.List.{List, [], _∷_, map}
 use Prim.Native.Nat.{ℕ}
-use lib.IntN.{pos, negsuc}
+use lib.IntN.{ℤ, pos, negsuc}
+use lib.Ieee.{binary32, ofBits}
 use lib.ListN.{replicate}
 use Rattle.terms.specs.Entries.{triple}
+use Rattle.grid.specs.declared.GridNumber.{GridNumber}
+use Rattle.grid.specs.declared.GridNumber.the-variants as grid-number
+use Rattle.grid.specs.Number.{gridNumberOf}
 use Rattle.geometry.specs.declared.Vector.{Vector}
 use Rattle.geometry.specs.Faces.{bendOf, bendBetween}
 use Rattle.reader.specs.Reading.{polygonOf}
@@ -13,12 +17,13 @@ use Rattle.triangulator.specs.Call.{Result, result}
 use Rattle.triangulator.specs.Cases.{lists, answered, single, ties}
 use Rattle.pipeline.specs.Patching.{Tables, tables, Patching, patching, jobIn, patchFile}
 
--- what a case computes: what the one call, or the call for a direct job, answers and leaves; tilings; a bend
+-- what a case computes: what the one call, or the call for a direct job, answers and leaves; tilings; a bend; a grid number
 pub data Value : Type 0 where
   of-file : Patching → Value
   of-job : Result → Value
   of-tilings : List (List ℕ) → Value
   of-bend : ℕ → Value
+  of-float : GridNumber → Value
 
 pub record Case : Type 0 where
   pub computed : Value
@@ -62,6 +67,10 @@ downward = record { x = pos 0; y = pos 0; z = negsuc 63 }
 abbrev pub sideward : Vector
 sideward = record { x = pos 48; y = pos 0; z = pos 0 }
 
+-- the float of these bits has this grid number
+abbrev pub rounds : ℕ → ℤ → Case
+rounds bits number = case (of-float (gridNumberOf (ofBits binary32 bits))) (of-float (grid-number.Value number))
+
 abbrev pub worked : List Case
 worked =
     -- rule 6.1: P from its bytes through the one call; and its tilings, which are two
@@ -93,4 +102,11 @@ worked =
     ∷ case (of-bend (bendBetween upward sideward)) (of-bend 1000)
     ∷ case (of-bend (bendBetween upward downward)) (of-bend 2000)
     ∷ case (of-bend (bendOf (negsuc 0) 100 100)) (of-bend 1001)
+    -- rule 6.7: 0.0625, 0.1875, -0.0625, -0.1875, 124.9375 and -124.9375 mm
+    ∷ rounds 0x3d80_0000 (pos 0)
+    ∷ rounds 0x3e40_0000 (pos 2)
+    ∷ rounds 0xbd80_0000 (pos 0)
+    ∷ rounds 0xbe40_0000 (negsuc 1)
+    ∷ rounds 0x42f9_e000 (pos 1000)
+    ∷ rounds 0xc2f9_e000 (negsuc 999)
     ∷ []
