@@ -6,11 +6,12 @@ use common::{bytes_of, example, run};
 use rim::patch::{close, Triangle};
 use std::collections::HashMap;
 
-const RIMS: [&str; 7] = [
+const RIMS: [&str; 8] = [
     "p.rim",
     "saddle12.rim",
     "ring64.rim",
     "gap.rim",
+    "halves.rim",
     "ridge.rim",
     "ridge-normals.rim",
     "skew64.rim",
@@ -19,11 +20,12 @@ const RIMS: [&str; 7] = [
 /// Each example is what the tool makes today. `./rim` with the words writes it again.
 #[test]
 fn examples_are_up_to_date() {
-    let cases: [(&[&str], &str, &str); 9] = [
+    let cases: [(&[&str], &str, &str); 10] = [
         (&["make"], "gap.txt", "gap.rim"),
         (&["draw"], "gap.rim", "gap.svg"),
         (&["stl"], "gap.rim", "gap.stl"),
         (&["obj"], "gap.rim", "gap.obj"),
+        (&["make"], "halves.txt", "halves.rim"),
         (&["make", "--bend", "16"], "ridge.txt", "ridge.rim"),
         (&["draw"], "ridge.rim", "ridge.svg"),
         (&["make", "--bend", "16"], "ridge-normals.txt", "ridge-normals.rim"),
