@@ -20,7 +20,7 @@ bits-agree b = go (leb 2139095040 (b % 2147483648)) (leb→le 2139095040 (b % 21
     go true h k = bits-not-finite b (h tt)
     go false h k = grid-value (ofBits binary32 b) (leb 2147483648 b) (units (b % 2147483648)) (2 ^ 149) (pow-pos 149) (bits-value b (k tt))
 
--- 125.0, the next above, the largest finite float (its product overflows), 0.0625 (a tie, to 0), -0.3125 (a tie, to -2), the least
+-- 125.0, the next above, the largest finite float (its product overflows), 0.0625 (a half, to 0), -0.3125 (a half, to -2), the least
 -- subnormal, minus zero, an infinity
 at-125 : gridNumberOfBits 0x42fa_0000 ≡ Value (pos 1000)
 at-125 = refl
@@ -31,11 +31,11 @@ above-125 = refl
 largest : gridNumberOfBits 0x7f7f_ffff ≡ OutOfRange
 largest = refl
 
-tie-to-0 : gridNumberOfBits 0x3d80_0000 ≡ Value (pos 0)
-tie-to-0 = refl
+half-to-0 : gridNumberOfBits 0x3d80_0000 ≡ Value (pos 0)
+half-to-0 = refl
 
-tie-to-2 : gridNumberOfBits 0xbea0_0000 ≡ Value (negsuc 1)
-tie-to-2 = refl
+half-to-minus-2 : gridNumberOfBits 0xbea0_0000 ≡ Value (negsuc 1)
+half-to-minus-2 = refl
 
 least : gridNumberOfBits 1 ≡ Value (pos 0)
 least = refl

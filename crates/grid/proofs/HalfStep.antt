@@ -17,11 +17,11 @@ use Rattle.grid.specs.Point.{OnGrid}
 use Rattle.grid.proofs.Nearest.{Cases, below-half, above-half, half-even, half-odd, cases, nearest-mono}
 
 -- ---- g is at most half a step from a / b
-pub record Near (a b g : ℕ) : Type 0 where
-  pub low : 2 * (g * b) ≤ 2 * a + b
-  pub high : 2 * a ≤ 2 * (g * b) + b
+record Near (a b g : ℕ) : Type 0 where
+  low : 2 * (g * b) ≤ 2 * a + b
+  high : 2 * a ≤ 2 * (g * b) + b
 
-pub next-times : (q b : ℕ) → (q + 1) * b ≡ q * b + b
+next-times : (q b : ℕ) → (q + 1) * b ≡ q * b + b
 next-times q b = ap (λ (n : ℕ). n * b) (add-one q) ∙ suc-mul q b
 
 at-whole : (a b q r : ℕ) → q * b + r ≡ a → r * 2 ≤ b → Near a b q
@@ -30,7 +30,7 @@ at-whole a b q r e h = record { low = omega arith; high = omega arith }
 at-next : (a b q r : ℕ) → q * b + r ≡ a → r < b → b ≤ r * 2 → Near a b (q + 1)
 at-next a b q r e l h = let s : (q + 1) * b ≡ q * b + b = next-times q b in record { low = omega arith; high = omega arith }
 
-pub near : (a b : ℕ) → 0 < b → Near a b (nearestEven a b)
+near : (a b : ℕ) → 0 < b → Near a b (nearestEven a b)
 near a b B = by (cases a b)
   where
     e : a / b * b + a % b ≡ a
@@ -51,13 +51,21 @@ natAbs-neg (pos zero) = refl
 natAbs-neg (pos (suc n)) = refl
 natAbs-neg (negsuc n) = refl
 
-difference-le : (x y k : ℕ) → 2 * x ≤ 2 * y + k → 2 * y ≤ 2 * x + k → 2 * natAbs (pos x -ℤ pos y) ≤ k
-difference-le x zero k h l = omega arith
-difference-le x (suc y) k h l = go (ltb x (suc y)) (ltb-true x (suc y)) (ltb-false x (suc y))
+-- the difference of two numbers is what the lesser lacks
+pub apart : (x y : ℕ) → (x + natAbs (pos x -ℤ pos y) ≡ y) ⊎ (y + natAbs (pos x -ℤ pos y) ≡ x)
+apart x zero = inr (omega arith)
+apart x (suc y) = by (ltb x (suc y)) (ltb-true x (suc y)) (ltb-false x (suc y))
   where
-    go : (t : Bool) → (t ≡ true → x < suc y) → (t ≡ false → suc y ≤ x) → 2 * natAbs (cond t (negsuc (suc y - suc x)) (pos (x - suc y))) ≤ k
-    go true a b = let c = a refl in omega arith
-    go false a b = let c = b refl in omega arith
+    by : (t : Bool) → (t ≡ true → x < suc y) → (t ≡ false → suc y ≤ x) → let d = natAbs (cond t (negsuc (suc y - suc x)) (pos (x - suc y))) in (x + d ≡ suc y) ⊎ (suc y + d ≡ x)
+    by true h k = let l = h refl in inl (omega arith)
+    by false h k = let l = k refl in inr (omega arith)
+
+difference-le : (x y k : ℕ) → 2 * x ≤ 2 * y + k → 2 * y ≤ 2 * x + k → 2 * natAbs (pos x -ℤ pos y) ≤ k
+difference-le x y k h l = by (apart x y)
+  where
+    by : (x + natAbs (pos x -ℤ pos y) ≡ y) ⊎ (y + natAbs (pos x -ℤ pos y) ≡ x) → 2 * natAbs (pos x -ℤ pos y) ≤ k
+    by (inl e) = omega arith
+    by (inr e) = omega arith
 
 pub neg-times : (g b : ℕ) → negℤ (pos g) *ℤ pos b ≡ negℤ (pos (g * b))
 neg-times zero b = pos-*ℤ-pos 0 b ∙ ap pos (none b) ∙ ap (λ (n : ℕ). negℤ (pos n)) (sym (none b))
@@ -90,14 +98,6 @@ half-step v f =
     record { near = subst (λ (k : ℕ). 2 * k ≤ b) (sym (signed-distance (negative v) g b a)) (difference-le (g * b) a b (n .low) (n .high)) }
 
 -- ---- at a half it is even
-pub apart : (x y : ℕ) → (x + natAbs (pos x -ℤ pos y) ≡ y) ⊎ (y + natAbs (pos x -ℤ pos y) ≡ x)
-apart x zero = inr (omega arith)
-apart x (suc y) = by (ltb x (suc y)) (ltb-true x (suc y)) (ltb-false x (suc y))
-  where
-    by : (t : Bool) → (t ≡ true → x < suc y) → (t ≡ false → suc y ≤ x) → let d = natAbs (cond t (negsuc (suc y - suc x)) (pos (x - suc y))) in (x + d ≡ suc y) ⊎ (suc y + d ≡ x)
-    by true h k = let l = h refl in inl (omega arith)
-    by false h k = let l = k refl in inr (omega arith)
-
 -- a is q times b and r over: half a step from q, or from the next, is where twice r is b
 half-of : (a b q r d : ℕ) → q * b + r ≡ a → 2 * d ≡ b → (q * b + d ≡ a) ⊎ (a + d ≡ q * b) → r * 2 ≡ b
 half-of a b q r d e h (inl p) = omega arith

@@ -44,9 +44,12 @@ inRange v = leb (numerator v) (1000 * denominator v)
 abbrev pub evenOf : ℕ → ℕ
 evenOf whole = cond (eqb (whole % 2) 0) whole (whole + 1)
 
--- rule 1.10: the whole number nearest to a / b. Above the whole part a / b is less than half of b left, or more, or exactly half: then it is the even one
+-- rule 1.10: the whole number nearest to a / b: its whole part where less than half is left, the next number where more, at a half the even one of the two
 abbrev pub nearestEven : ℕ → ℕ → ℕ
-nearestEven a b = cond (ltb (a % b * 2) b) (a / b) (cond (ltb b (a % b * 2)) (a / b + 1) (evenOf (a / b)))
+nearestEven a b =
+    let whole = a / b in
+    let twice = a % b * 2 in
+    cond (ltb twice b) whole (cond (ltb b twice) (whole + 1) (evenOf whole))
 
 -- rule 1.10: the whole number nearest to 8v, at a half the even one, above and below zero alike
 unfoldable pub roundEighths : Float → ℤ

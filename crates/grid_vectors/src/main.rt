@@ -10,12 +10,10 @@ const SIGN: u32 = 0x8000_0000;
 // How many halves there are on each side of zero.
 const HALVES: u32 = 1000;
 
-// 0.0625 mm is half a step of the grid, and 0.125 mm a step: sums of them up to 125 mm are exact.
-const HALF: f32 = 0.0625;
+// The lowest half and a step of the grid, in millimetres: sums of them up to 125 mm are exact.
+const LOWEST: f32 = -124.9375;
 
 const STEP: f32 = 0.125;
-
-const LOWEST_HALF: f32 = -124.9375;
 
 // The bits of a float that is no NaN, as to_bits asks.
 fn bits_of(v: f32) -> u32 {
@@ -81,23 +79,19 @@ fn print_line(whole: u32, v: f32) {
     io::write_all(STANDARD_OUTPUT, b"\n");
 }
 
-fn print_below_zero() {
-    let mut v = LOWEST_HALF;
-    for i in 1..=HALVES {
-        print_line(HALVES - i, v);
-        v = v + STEP;
-    }
-}
-
-fn print_above_zero() {
-    let mut v = HALF;
-    for whole in 0..HALVES {
-        print_line(whole, v);
-        v = v + STEP;
+// Half number i has the whole part 999 at both ends, and 0 on both sides of zero.
+fn whole_part(i: u32) -> u32 {
+    if i < HALVES {
+        HALVES - 1 - i
+    } else {
+        i - HALVES
     }
 }
 
 fn main() {
-    print_below_zero();
-    print_above_zero();
+    let mut v = LOWEST;
+    for i in 0..2 * HALVES {
+        print_line(whole_part(i), v);
+        v = v + STEP;
+    }
 }

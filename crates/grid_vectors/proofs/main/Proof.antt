@@ -1,24 +1,26 @@
--- `grid_vectors::print_above_zero` is safe and ends. Assumes nothing.
+-- `grid_vectors::main` is safe and ends. Assumes nothing.
 use Prim.Native.Nat.{_-_, _≤_}
 use borrow.Author.Needs.{needs}
-use Rattle.grid_vectors.proofs.print_above_zero.Statement.{statement}
-use Rattle.grid_vectors.proofs.print_above_zero.Tie as tie
-use Rattle.grid_vectors.proofs.print_line.Reads as print-line-reads
+use Rattle.grid_vectors.proofs.main.Statement.{statement}
+use Rattle.grid_vectors.proofs.main.Tie as tie
 
 abbrev Inv-loop : tie.InvT-loop
-Inv-loop v₀ whole₀ v whole = whole ≤ 1000
+Inv-loop v₀ i₀ v i = i ≤ 2000
 
 abbrev μ-loop : tie.MeasureT-loop
-μ-loop v₀ whole₀ v whole = 1000 - whole
+μ-loop v₀ i₀ v i = 2000 - i
 
 loop-holds : tie.Need-loop-holds Inv-loop μ-loop
 loop-holds c = search needs
 
+whole-part-requires : tie.Need-whole-part-requires Inv-loop μ-loop
+whole-part-requires c κs = search needs
+
 print-line-requires : tie.Need-print-line-requires Inv-loop μ-loop
 print-line-requires c κs = search needs
 
-add-whole : tie.Need-add-whole Inv-loop μ-loop
-add-whole c = search needs
+add-i : tie.Need-add-i Inv-loop μ-loop
+add-i c = search needs
 
 loop-less : tie.Need-loop-less Inv-loop μ-loop
 loop-less c = search needs
@@ -29,15 +31,16 @@ loop-again c = search needs
 returns : tie.Need-returns Inv-loop μ-loop
 returns c = search needs
 
-pub print-above-zero-spec : {M : Type 1} → statement M
-print-above-zero-spec =
+pub main-spec : {M : Type 1} → statement M
+main-spec =
     tie.close
     (tie.spec
     Inv-loop
     μ-loop
     loop-holds
+    whole-part-requires
     print-line-requires
-    add-whole
+    add-i
     loop-less
     loop-again
     returns)
