@@ -111,7 +111,8 @@ patch_box_sizes_answer patch_box_sizes(const uint8_t *file, size_t file_len);
 
 /* The one call: closes the rim of a rim file. A number of 1 to 13 or 18, or a patch, or 'none'. Unless it refuses, it leaves the rim's lists in the first
  * places of the tables for candidates, weights and rows, and zeros in the work table, as many as there are candidates. A patch fills the triangle table
- * with the numbers of its candidates, in walk order. */
+ * with the numbers of its candidates, in walk order. The file alone fixes the patch: it does not depend on what the tables held, nor on their lengths
+ * where these suffice. */
 patch_box_patch_answer patch_box_rim(const uint8_t *file, size_t file_len,
                                      uint16_t *triangles, size_t triangles_len,
                                      patch_box_candidate *candidates, size_t candidates_len,

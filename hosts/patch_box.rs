@@ -176,7 +176,9 @@ pub fn sizes(file: &[u8]) -> Result<Sizes, Number> {
     Ok(Sizes { triangles, candidates, weights, rows, work })
 }
 
-/// The one call: closes the rim of a rim file. A number of 1 to 13 or 18 where it is refused.
+/// The one call: closes the rim of a rim file. A number of 1 to 13 or 18 where it is refused. The
+/// file alone fixes the patch: it does not depend on what the tables held, nor on their lengths
+/// where these suffice.
 pub fn rim(file: &[u8], tables: Tables) -> Result<Outcome, Number> {
     let Tables { triangles, candidates, weights, rows, work } = tables;
     // SAFETY: each pointer is a slice's own, with that slice's length; mutable slices are disjoint.
