@@ -9,7 +9,7 @@ use Rattle.triangulator.specs.Call.{totalOf, partOf}
 use Rattle.pipeline.specs.Patching.{Tables, Patching}
 use Rattle.demands.specs.Demand1.{polygonIn, TooShort}
 
--- no table is too short for the rim of the file (rule 4.13)
+-- no table is too short for the rim of the file (rule 4.13); for a file that the reader refuses, which has no rim, any tables will do
 abbrev pub LongEnough : List ℕ → Tables → Type 0
 LongEnough file t = TooShort (placesOf (polygonIn file)) t → ⊥
 
