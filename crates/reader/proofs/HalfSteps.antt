@@ -5,11 +5,10 @@ use mathlib.Core.List.{List, List·Memᴰ, List·Memᴰ·head, List·Memᴰ·tai
 use mathlib.Core.Logic.{⊎-elim}
 use Prim.Native.Nat.{ℕ, _<_}
 use native.Mathlib.Omega.{arith}
-use borrow.Author.Tests.{ltb-true, ltb-false, eq-eqb, ne-eqb}
-use lib.Dec.{ltb}
+use borrow.Author.Tests.{eq-eqb, ne-eqb}
 use lib.IntN.{ℤ}
 use lib.Ieee.{Float}
-use Rattle.lists.proofs.Choice.{Truth, holds, fails, truth, yes, no, below-or-same}
+use Rattle.lists.proofs.Choice.{yes, no, below-or-same, neither-below}
 use Rattle.grid.specs.declared.GridPoint.{GridPoint}
 use Rattle.grid.specs.Number.{roundEighths}
 use Rattle.grid.specs.Point.{point}
@@ -68,12 +67,8 @@ module _ (s : List ℕ) where
 
   -- the height comes from one position
   from-once : {i : ℕ} {p q : GridPoint} → (a : Rounded s i p) (b : Rounded s i q) → a .from ≡ b .from
-  from-once {i} a b = by (truth (ltb (a .from) (b .from))) (truth (ltb (b .from) (a .from)))
-    where
-      by : Truth (ltb (a .from) (b .from)) → Truth (ltb (b .from) (a .from)) → a .from ≡ b .from
-      by (holds l) g = absurd (a .last (b .from) (ltb-true _ _ l) (b .up-to) (b .point))
-      by (fails l) (holds g) = absurd (b .last (a .from) (ltb-true _ _ g) (a .up-to) (a .point))
-      by (fails l) (fails g) = let h = ltb-false (a .from) (b .from) l in let k = ltb-false (b .from) (a .from) g in omega arith
+  from-once a b =
+      neither-below (a .from) (b .from) (λ l. a .last (b .from) l (b .up-to) (b .point)) (λ l. b .last (a .from) l (a .up-to) (a .point))
 
   rounded-once : {i : ℕ} {p q : GridPoint} → Rounded s i p → Rounded s i q → p ≡ q
   rounded-once a b =
