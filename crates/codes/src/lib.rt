@@ -1,4 +1,4 @@
-// The numbers of rules 4.1 to 4.19, by who causes them.
+// The numbers of rules 4.1 to 4.20, by who causes them.
 
 // The writer of the file.
 pub const LENGTH: u32 = 1;
@@ -21,6 +21,8 @@ pub const OUT_OF_RANGE: u32 = 9;
 
 pub const NORMAL: u32 = 18;
 
+pub const OVER_LIMIT: u32 = 20;
+
 pub const TOO_FEW_VERTICES: u32 = 10;
 
 pub const VERTEX_REPEATED: u32 = 11;
@@ -31,7 +33,7 @@ pub const COSPHERICAL: u32 = 12;
 // The host program.
 pub const TABLE_TOO_SHORT: u32 = 13;
 
-// The lister of a direct job.
+// The lister of a direct job; the first of them also a caller that asks for another limit.
 pub const VERTEX_COUNT: u32 = 14;
 
 pub const CANDIDATE: u32 = 15;

@@ -9,8 +9,8 @@ use lib.ListN.{length}
 use lib.Dec.{leb}
 use borrow.Author.Tests.{leb-true}
 use Rattle.lists.proofs.Choice.{true-not-false, both-left, both-right, not-false-true}
-use Rattle.terms.specs.Limits.{minVertices, maxVertices}
-use Rattle.jobs.specs.Job.{countFits, enough, unless, listsCode, jobCode}
+use Rattle.terms.specs.Limits.{minVertices, maxVertices, countFits}
+use Rattle.jobs.specs.Job.{enough, unless, listsCode, jobCode}
 use Rattle.jobs.specs.Due.{order, few-vertices, many-vertices, few-triangles, little-work, few-weights, no-triangle, candidate-not-after, no-pair, row-not-after, heavy, heavy-row, FirstDue, Accepted}
 use Rattle.jobs.proofs.First.{unless-both, up-listed, firstOf, first-none, none-first, first-fails, fails-first}
 use Rattle.jobs.proofs.Order.{true-before, true-row-before}

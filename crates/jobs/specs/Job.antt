@@ -6,12 +6,8 @@ use Prim.Native.Nat.{ℕ, _-_}
 use lib.ListN.{length, getD}
 use lib.Dec.{eqb, ltb, leb}
 use Rattle.lists.specs.Lists.{every, both, either}
-use Rattle.terms.specs.Limits.{minVertices, maxVertices, maxWeight}
+use Rattle.terms.specs.Limits.{countFits, maxWeight}
 use Rattle.terms.specs.Entries.{entryAt, vertexA, vertexB, vertexC, outer, inner, rowWeight}
-
--- n is from 3 to 64 (rule 4.14)
-abbrev pub countFits : ℕ → Bool
-countFits n = both (leb minVertices n) (leb n maxVertices)
 
 -- a lent table has the places needed (rule 4.13)
 abbrev pub enough : ℕ → ℕ → Bool

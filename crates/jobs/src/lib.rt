@@ -10,13 +10,10 @@ ghost use Rattle.jobs.specs.Job.{countCode, listsCode, jobCode};
 pub fn count_code(n: usize) -> u32
     ensures { λ r. ⌜ r ≡ countCode n ⌝ }
 {
-    if n < terms::MIN_VERTICES {
-        return codes::VERTEX_COUNT;
+    if terms::count_fits(n) {
+        return 0;
     }
-    if terms::MAX_VERTICES < n {
-        return codes::VERTEX_COUNT;
-    }
-    0
+    codes::VERTEX_COUNT
 }
 
 // The first of 13 (for the weight table), 15, 16 and 17 that is due, or 0.

@@ -1,4 +1,5 @@
--- The polygon that is read: 3 to 64 vertices, each the one that its record gives, with its normal, all in range, no two vertices equal. Assumes nothing.
+-- The polygon that is read: from 3 vertices to the limit, each the one that its record gives, with its normal, all in range, no two vertices equal.
+-- Assumes nothing.
 use mathlib.Core.Path.{_≡_, refl, sym, subst}
 use mathlib.Core.Bool.{true}
 use mathlib.Core.List.{List}
@@ -23,7 +24,7 @@ use Rattle.reader.specs.declared.Vertex.the-variants.{At, Refused}
 use Rattle.reader.specs.declared.Status.the-variants.{Complete}
 use Rattle.reader.proofs.Vertices.{Vertexed, vertexed, refused-positive}
 use Rattle.reader.proofs.Lengths.{whole}
-use Rattle.reader.proofs.Answers.{count-within}
+use Rattle.reader.proofs.Answers.{count-within, limit-most}
 use Rattle.reader.proofs.Ends.{no-number, in-range}
 use Rattle.reader.proofs.RimVertices.{has-vertex, vertex-in-table}
 use Rattle.reader.proofs.Normals.{has-normal}
@@ -31,9 +32,9 @@ use Rattle.reader.proofs.Tables.{table-at}
 use Rattle.reader.proofs.FirstNumber.{Read, read-end}
 use Rattle.reader.proofs.Demand1.{complete-read}
 
-module _ (s : List ℕ) (r : Read s) where
+module _ (limit : ℕ) (s : List ℕ) (r : Read limit s) where
   fine : (i : ℕ) → i < vertexCount s → numberOf (vertexAt s i) ≡ 0
-  fine i h = no-number s (vertexCount s) (read-end s r) (whole s (r .right)) i h
+  fine i h = no-number limit s (vertexCount s) (read-end limit s r) (whole s (r .right)) i h
 
   is-vertex : (v : Vertex) → numberOf v ≡ 0 → ((k : ℕ) → v ≡ Refused k → 0 < k) → v ≡ At (pointOf v)
   is-vertex (At p) e h = refl
@@ -55,46 +56,53 @@ module _ (s : List ℕ) (r : Read s) where
   vertex-on-grid i h = subst PointOnGrid (sym (vertex-in-table s (vertexCount s) i h)) (vertexed-at i h (height-on-grid i (omega arith)) .on-grid)
 
   normal-fine : (i : ℕ) → i < vertexCount s → normalInRange (normalAt s i) ≡ true
-  normal-fine i h = in-range s (vertexCount s) (read-end s r) (whole s (r .right)) i h
+  normal-fine i h = in-range limit s (vertexCount s) (read-end limit s r) (whole s (r .right)) i h
 
   normal-in-table : (i : ℕ) → i < vertexCount s → NormalInRange (polygon-normals.normalAt (normalsOf s (vertexCount s)) i)
   normal-in-table i h =
       subst NormalInRange (sym (table-at (λ j. normalAt s j) noNormal (vertexCount s) i h))
       (normal-in-range (normalAt s i) (normal-fine i h))
 
+  few : vertexCount s ≤ limit
+  few = count-within limit (limit-most limit (r .fits)) s (r .chain-fine)
+
   valid : ((i : ℕ) → getD s i 0 < 256) → Valid (polygonOf s)
   valid bytes = record {
     area-factor = r .area;
     bend-factor = omega (arith, bytes (headerStart s + 6), bytes (headerStart s + 6 + 1));
-    most = count-within s (r .chain-fine);
+    most = omega (arith, limit-most limit (r .fits), few);
     on-grid = vertex-on-grid;
     normals-in-range = normal-in-table;
     least = r .enough;
     distinct = repeated-none (verticesOf s (vertexCount s)) (vertexCount s) (r .distinct);
   }
 
-module _ (s : List ℕ) (complete : readingOf s .status ≡ Complete) where
-  complete-polygon : readingOf s .polygon ≡ polygonOf s
-  complete-polygon = by (numberDue s) complete
+module _ (limit : ℕ) (s : List ℕ) (complete : readingOf limit s .status ≡ Complete) where
+  complete-polygon : readingOf limit s .polygon ≡ polygonOf s
+  complete-polygon = by (numberDue limit s) complete
     where
       by : (k : ℕ) → answer k (polygonOf s) .status ≡ Complete → answer k (polygonOf s) .polygon ≡ polygonOf s
       by zero e = refl
       by (suc k) e = absurd (let z : _≡_ {A = ℕ} 0 1 = cc in omega arith)
 
   -- the polygon is valid; the places of s are bytes
-  pub read-valid : ((i : ℕ) → getD s i 0 < 256) → Valid (readingOf s .polygon)
-  read-valid bytes = subst Valid (sym complete-polygon) (valid s (complete-read s complete) bytes)
+  pub read-valid : ((i : ℕ) → getD s i 0 < 256) → Valid (readingOf limit s .polygon)
+  read-valid bytes = subst Valid (sym complete-polygon) (valid limit s (complete-read limit s complete) bytes)
+
+  -- it has no more vertices than the limit (rules 4.5, 4.20)
+  pub read-within : readingOf limit s .polygon .n ≤ limit
+  read-within = subst (λ p. p .n ≤ limit) (sym complete-polygon) (few limit s (complete-read limit s complete))
 
   -- its vertices are those that the records of the chain give, in the chain's order (rule 1.8)
-  pub read-vertices : (i : ℕ) → i < readingOf s .polygon .n → HasVertex s i (polygon.vertexAt (readingOf s .polygon .vertices) i)
+  pub read-vertices : (i : ℕ) → i < readingOf limit s .polygon .n → HasVertex s i (polygon.vertexAt (readingOf limit s .polygon .vertices) i)
   read-vertices = subst (λ p. (i : ℕ) → i < p .n → HasVertex s i (polygon.vertexAt (p .vertices) i)) (sym complete-polygon)
-      (λ i h. subst (λ q. HasVertex s i q) (sym (vertex-in-table s (vertexCount s) i h)) (has-vertex s i (λ j l. fine s (complete-read s complete) j (omega arith))))
+      (λ i h. subst (λ q. HasVertex s i q) (sym (vertex-in-table s (vertexCount s) i h)) (has-vertex s i (λ j l. fine limit s (complete-read limit s complete) j (omega arith))))
 
   -- its normals are those that the same records give (rules 1.13, 1.14)
-  pub read-normals : (i : ℕ) → i < readingOf s .polygon .n → HasNormal s i (polygon-normals.normalAt (readingOf s .polygon .normals) i)
+  pub read-normals : (i : ℕ) → i < readingOf limit s .polygon .n → HasNormal s i (polygon-normals.normalAt (readingOf limit s .polygon .normals) i)
   read-normals = subst (λ p. (i : ℕ) → i < p .n → HasNormal s i (polygon-normals.normalAt (p .normals) i)) (sym complete-polygon)
-      (λ i h. subst (λ q. HasNormal s i q) (sym (table-at (λ j. normalAt s j) noNormal (vertexCount s) i h)) (has-normal s i (normal-fine s (complete-read s complete) i h)))
+      (λ i h. subst (λ q. HasNormal s i q) (sym (table-at (λ j. normalAt s j) noNormal (vertexCount s) i h)) (has-normal s i (normal-fine limit s (complete-read limit s complete) i h)))
 
   -- and these records are among those of the file
-  pub read-records : (i : ℕ) → i < readingOf s .polygon .n → InFile s (link s i)
-  read-records = subst (λ p. (i : ℕ) → i < p .n → InFile s (link s i)) (sym complete-polygon) (read-end s (complete-read s complete) .has .in-file)
+  pub read-records : (i : ℕ) → i < readingOf limit s .polygon .n → InFile s (link s i)
+  read-records = subst (λ p. (i : ℕ) → i < p .n → InFile s (link s i)) (sym complete-polygon) (read-end limit s (complete-read limit s complete) .has .in-file)

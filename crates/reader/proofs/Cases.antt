@@ -8,12 +8,13 @@ use lib.Ieee.{ofBits}
 use lib.ListN.{length, replicate}
 use Rattle.lists.specs.Lists.{upFrom, someFrom}
 use Rattle.grid.specs.Number.{finite, numerator, denominator, negative, inRange, roundEighths}
+use Rattle.terms.specs.Limits.{maxVertices}
 use Rattle.polygon.specs.Polygon.{repeatedVertex}
 use Rattle.lists.proofs.Choice.{true-not-false}
 use Rattle.reader.specs.File.{isEdition2, layoutOf, lengthWrong}
 use Rattle.reader.specs.Record.{recordAt, numbersCode, vertexOf, normalIn}
-use Rattle.reader.specs.Chain.{link, metBefore, heightBefore, positionCode, codeFrom, endFrom}
-use Rattle.reader.specs.Reading.{numberDue}
+use Rattle.reader.specs.Chain.{link, metBefore, heightBefore, linkCode, positionCode, codeFrom, endFrom}
+use Rattle.reader.specs.Reading.{fileCode, numberDue}
 
 -- the point (x, y, 0) with x and y of 0 mm or 1 mm, by the two high bytes of each, and a link
 abbrev pub point-then : ℕ → List ℕ → List ℕ → List ℕ
@@ -41,12 +42,12 @@ file last spare =
     ++ point-then 0 zero-mm one-mm ++ last
     ++ point-then 0 one-mm one-mm ++ spare
 
-pub spare-normal-taken : numberDue (file no-surface too-long) ≡ 0
-unfolding ofBits upFrom someFrom finite numerator denominator negative inRange roundEighths repeatedVertex layoutOf lengthWrong recordAt numbersCode vertexOf normalIn link metBefore heightBefore positionCode codeFrom endFrom numberDue
+pub spare-normal-taken : numberDue maxVertices (file no-surface too-long) ≡ 0
+unfolding ofBits upFrom someFrom finite numerator denominator negative inRange roundEighths repeatedVertex layoutOf lengthWrong recordAt numbersCode vertexOf normalIn link metBefore heightBefore linkCode positionCode codeFrom endFrom fileCode numberDue
 spare-normal-taken = refl
 
-pub chain-normal-refused : numberDue (file too-long no-surface) ≡ 18
-unfolding ofBits upFrom someFrom finite numerator denominator negative inRange roundEighths repeatedVertex layoutOf lengthWrong recordAt numbersCode vertexOf normalIn link metBefore heightBefore positionCode codeFrom endFrom numberDue
+pub chain-normal-refused : numberDue maxVertices (file too-long no-surface) ≡ 18
+unfolding ofBits upFrom someFrom finite numerator denominator negative inRange roundEighths repeatedVertex layoutOf lengthWrong recordAt numbersCode vertexOf normalIn link metBefore heightBefore linkCode positionCode codeFrom endFrom fileCode numberDue
 chain-normal-refused = refl
 
 -- ---- 120 bytes are seven records of edition 1, or five of edition 2
@@ -61,12 +62,12 @@ five =
     ++ point-then 0 zero-mm one-mm ++ no-surface
     ++ replicate 44 0
 
-pub seven-taken : numberDue seven ≡ 0
-unfolding ofBits upFrom someFrom finite numerator denominator negative inRange roundEighths repeatedVertex layoutOf lengthWrong recordAt numbersCode vertexOf normalIn link metBefore heightBefore positionCode codeFrom endFrom numberDue
+pub seven-taken : numberDue maxVertices seven ≡ 0
+unfolding ofBits upFrom someFrom finite numerator denominator negative inRange roundEighths repeatedVertex layoutOf lengthWrong recordAt numbersCode vertexOf normalIn link metBefore heightBefore linkCode positionCode codeFrom endFrom fileCode numberDue
 seven-taken = refl
 
-pub five-taken : numberDue five ≡ 0
-unfolding ofBits upFrom someFrom finite numerator denominator negative inRange roundEighths repeatedVertex layoutOf lengthWrong recordAt numbersCode vertexOf normalIn link metBefore heightBefore positionCode codeFrom endFrom numberDue
+pub five-taken : numberDue maxVertices five ≡ 0
+unfolding ofBits upFrom someFrom finite numerator denominator negative inRange roundEighths repeatedVertex layoutOf lengthWrong recordAt numbersCode vertexOf normalIn link metBefore heightBefore linkCode positionCode codeFrom endFrom fileCode numberDue
 five-taken = refl
 
 -- so no program tells the edition by the length

@@ -1,4 +1,4 @@
--- Two files of one rim, in whichever editions, are read alike: the same number is due, and the polygon is the same. Assumes nothing.
+-- Two files of one rim, in whichever editions, are read alike with any limit: the same number is due, and the polygon is the same. Assumes nothing.
 use mathlib.Core.Path.{_≡_, refl, sym, ap, _∙_}
 use mathlib.Core.Bool.{Bool, true, false, cond}
 use mathlib.Core.List.{List, [], _∷_}
@@ -11,13 +11,13 @@ use lib.Dec.{ltb, leb, eqb}
 use lib.Ieee.{binary32, ofBits}
 use Rattle.lists.specs.Lists.{either, over, filled}
 use Rattle.grid.specs.Number.{roundEighths}
-use Rattle.terms.specs.Limits.{minVertices, maxVertices, maxAreaFactor}
+use Rattle.terms.specs.Limits.{minVertices, maxVertices, maxAreaFactor, countFits}
 use Rattle.polygon.specs.Normal.{normal, noNormal, normalCode}
 use Rattle.polygon.specs.Polygon.{origin, firstDue, repeatedVertex}
 use Rattle.reader.specs.File.{u16At, u32At, signed16, i16At, isEdition2, recordSize1, recordSize, recordCount, offset, nextRecord, kind, thirdNumber}
 use Rattle.reader.specs.Record.{known, heightOf, recordAt, vertexOf, normalIn}
-use Rattle.reader.specs.Chain.{link, metBefore, heightBefore, vertexAt, numberOf, pointOf, normalAt, positionCode, codeFrom, endFrom, vertexCount, verticesOf, normalsOf}
-use Rattle.reader.specs.Reading.{numberDue, polygonOf, answer, readingOf}
+use Rattle.reader.specs.Chain.{link, metBefore, heightBefore, vertexAt, numberOf, pointOf, normalAt, overLimit, linkCode, positionCode, codeFrom, endFrom, vertexCount, verticesOf, normalsOf}
+use Rattle.reader.specs.Reading.{fileCode, numberDue, polygonOf, answer, readingOf}
 use Rattle.reader.specs.Editions.{SameRim}
 use Rattle.reader.specs.declared.Height.{Height}
 use Rattle.reader.specs.declared.Height.the-variants.{Known}
@@ -148,23 +148,23 @@ module _ {s t : List ℕ} (same : SameRim s t) where
   normal-at-agree : (i : ℕ) → normalAt s i ≡ normalAt t i
   normal-at-agree i = normal-agree (link s i) ∙ ap (λ (k : ℕ). normalIn t (offset t k)) (link-agree i)
 
-  code-agree : (i : ℕ) → positionCode s i ≡ positionCode t i
-  unfolding positionCode
-  code-agree i =
+  code-agree : (limit i : ℕ) → positionCode limit s i ≡ positionCode limit t i
+  unfolding positionCode linkCode
+  code-agree limit i =
       let r = same .count in
       let l = link-agree i in
       let m = met-agree i (link s i) ∙ ap (metBefore t i) (link-agree i) in
       let v = vertex-agree i in
       let n = normal-at-agree i in
-      λ j. cond (ltb (r j) (l j)) 3 (cond (m j) 4 (cond (leb maxVertices i) 5 (firstDue (numberOf (v j)) (normalCode (n j)))))
+      λ j. firstDue (cond (ltb (r j) (l j)) 3 (cond (m j) 4 (cond (leb limit i) (overLimit limit) 0))) (firstDue (numberOf (v j)) (normalCode (n j)))
 
-  codes-agree : (i k : ℕ) → codeFrom s i k ≡ codeFrom t i k
+  codes-agree : (limit i k : ℕ) → codeFrom limit s i k ≡ codeFrom limit t i k
   unfolding codeFrom
-  codes-agree i zero = refl
-  codes-agree i (suc k) =
+  codes-agree limit i zero = refl
+  codes-agree limit i (suc k) =
       let l = link-agree i in
-      let c = code-agree i in
-      let rest = codes-agree (suc i) k in
+      let c = code-agree limit i in
+      let rest = codes-agree limit (suc i) k in
       λ j. cond (eqb (l j) 0) 0 (cond (eqb (c j) 0) (rest j) (c j))
 
   end-agree : (i k : ℕ) → endFrom s i k ≡ endFrom t i k
@@ -183,19 +183,21 @@ module _ {s t : List ℕ} (same : SameRim s t) where
   normals-agree = λ j. filled (over 0 (count-agree j) (λ i. normal-at-agree i j ∷ [])) (replicate maxVertices noNormal)
 
   -- the same number is due
-  pub number-same : numberDue s ≡ numberDue t
-  unfolding numberDue
-  number-same =
+  pub number-same : (limit : ℕ) → numberDue limit s ≡ numberDue limit t
+  unfolding numberDue fileCode
+  number-same limit =
       let w = same .right ∙ sym (same .right′) in
       let a = same .area in
-      let c = codes-agree 0 (suc maxVertices) in
+      let c = codes-agree limit 0 (suc maxVertices) in
       λ j.
-      cond (w j) 1
+      cond (countFits limit)
+      (cond (w j) 1
       (cond (ltb maxAreaFactor (a j)) 2
       (firstDue (c j)
       (cond (ltb (count-agree j) minVertices) 10
       (cond (repeatedVertex (vertices-agree j) (count-agree j)) 11
-      0))))
+      0)))))
+      14
 
   -- the polygon is the same
   pub polygon-same : polygonOf s ≡ polygonOf t
@@ -205,5 +207,5 @@ module _ {s t : List ℕ} (same : SameRim s t) where
       λ j. record { n = count-agree j; «area_factor» = a j; «bend_factor» = b j; vertices = vertices-agree j; normals = normals-agree j }
 
   -- so the answer is
-  pub reading-same : readingOf s ≡ readingOf t
-  reading-same = λ j. answer (number-same j) (polygon-same j)
+  pub reading-same : (limit : ℕ) → readingOf limit s ≡ readingOf limit t
+  reading-same limit = λ j. answer (number-same limit j) (polygon-same j)

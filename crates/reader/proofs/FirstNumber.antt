@@ -6,154 +6,208 @@ use Prim.Native.Nat.{ℕ, zero, suc, _≤_, _<_}
 use native.Mathlib.Omega.{arith}
 use borrow.Author.Tests.{ltb-true, ltb-false}
 use lib.Dec.{ltb}
-use Rattle.lists.proofs.Choice.{true-not-false}
+use mathlib.Core.Logic.{_⊎_, inl, inr}
+use Rattle.lists.proofs.Choice.{true-not-false, below-or-same}
 use Rattle.grid.specs.declared.GridPoint.{GridPoint}
+use Rattle.terms.specs.Limits.{maxVertices, countFits}
 use Rattle.polygon.specs.Polygon.{firstDue, repeatedVertex}
 use Rattle.reader.specs.File.{areaFactor, lengthWrong}
-use Rattle.reader.specs.Chain.{link, vertexAt, pointOf, positionCode, chainCode, vertexCount, verticesOf}
-use Rattle.reader.specs.Order.{Place, header, position, rim, Precedes, in-header, header-position, header-rim, earlier-position, in-position, position-rim, in-rim, First, NoneDue}
-use Rattle.reader.specs.Due.{HasVertex, DueAt, length-wrong, area-factor, too-few, vertex-repeated}
-use Rattle.reader.specs.Reading.{numberDue}
+use Rattle.reader.specs.Chain.{link, vertexAt, pointOf, linkCode, recordCode, positionCode, chainCode, vertexCount, verticesOf}
+use Rattle.reader.specs.Order.{Place, request, header, link-to, record-at, rim, request-header, request-link, request-record, request-rim, header-link, header-record, header-rim, link-link, link-record, record-link, record-record, link-rim, record-rim, Precedes, by-place, by-number, First, NoneDue}
+use Rattle.reader.specs.Due.{HasVertex, DueAt, no-limit, length-wrong, area-factor, too-few, vertex-repeated}
+use Rattle.reader.specs.Reading.{fileCode, numberDue}
 use Rattle.reader.proofs.Lengths.{whole}
-use Rattle.reader.proofs.Positions.{shorter, due-given, record-reached}
-use Rattle.reader.proofs.Ends.{Stops, Ends, stops, ends, before-end, no-position, no-number}
+use Rattle.reader.proofs.Positions.{shorter, link-given, link-quiet, record-given, record-quiet, record-reached}
+use Rattle.reader.proofs.Ends.{Stops, on-link, on-record, Ends, stops, ends, before-end, no-link, no-record, no-number}
+use Rattle.reader.proofs.Answers.{limit-most}
 use Rattle.reader.proofs.RimVertices.{vertex-is, has-vertex, repeated, not-repeated}
 
-module _ (s : List ℕ) where
-  -- ---- 1 and 2
-  first-1 : lengthWrong s ≡ true → First (DueAt s) 1
-  first-1 wrong = record { place = header; is-due = length-wrong wrong; none-before = before }
+module _ (limit : ℕ) (s : List ℕ) where
+  -- ---- 14, 1 and 2
+  first-14 : countFits limit ≡ false → First (DueAt limit s) 14
+  first-14 wrong = record { place = request; is-due = no-limit wrong; none-before = before }
     where
-      number : (j : ℕ) → DueAt s header j → 0 < j
-      number _ (length-wrong h) = omega arith
-      number _ (area-factor l h) = omega arith
+      number : (j : ℕ) → j < 14 → DueAt limit s request j → ⊥
+      number _ l (no-limit h) = omega arith
 
-      before : (p : Place) (j : ℕ) → Precedes p j header 1 → DueAt s p j → ⊥
-      before _ j (in-header l) d = omega (arith, number j d)
+      before : (p : Place) (j : ℕ) → Precedes p j request 14 → DueAt limit s p j → ⊥
+      before _ j (by-number l) d = number j l d
 
-  module _ (right : lengthWrong s ≡ false) where
-    first-2 : 16 < areaFactor s → First (DueAt s) 2
-    first-2 over = record { place = header; is-due = area-factor (whole s right .header) over; none-before = before }
+  module _ (fits : countFits limit ≡ true) where
+    no-request : (k : ℕ) → DueAt limit s request k → ⊥
+    no-request _ (no-limit h) = true-not-false fits h
+
+    first-1 : lengthWrong s ≡ true → First (DueAt limit s) 1
+    first-1 wrong = record { place = header; is-due = length-wrong wrong; none-before = before }
       where
-        one : (j : ℕ) → j < 2 → DueAt s header j → ⊥
-        one _ l (length-wrong h) = true-not-false h right
-        one _ l (area-factor g h) = omega arith
+        number : (j : ℕ) → DueAt limit s header j → 0 < j
+        number _ (length-wrong h) = omega arith
+        number _ (area-factor l h) = omega arith
 
-        before : (p : Place) (j : ℕ) → Precedes p j header 2 → DueAt s p j → ⊥
-        before _ j (in-header l) d = one j l d
+        before : (p : Place) (j : ℕ) → Precedes p j header 1 → DueAt limit s p j → ⊥
+        before _ j (by-place request-header) d = no-request j d
+        before _ j (by-number l) d = omega (arith, number j d)
 
-    module _ (area : areaFactor s ≤ 16) where
-      no-header : (k : ℕ) → DueAt s header k → ⊥
-      no-header _ (length-wrong h) = true-not-false h right
-      no-header _ (area-factor l h) = omega arith
-
-      -- ---- 3 to 9 and 18
-      first-chain : (c : ℕ) → Stops s c → First (DueAt s) c
-      first-chain c stop = record { place = position (stop .at); is-due = stop .is-due; none-before = λ p j h d. before (stop .at) p j h d (stop .code) (stop .quiet) }
+    module _ (right : lengthWrong s ≡ false) where
+      first-2 : 16 < areaFactor s → First (DueAt limit s) 2
+      first-2 over = record { place = header; is-due = area-factor (whole s right .header) over; none-before = before }
         where
-          before : (i : ℕ) (p : Place) (j : ℕ) → Precedes p j (position i) c → DueAt s p j →
-              positionCode s i ≡ c → ((m : ℕ) → m < i → positionCode s m ≡ 0) → ⊥
-          before i _ j header-position d e quiet = no-header j d
-          before i _ j (earlier-position {h} l) d e quiet = omega (arith, due-given s h j d .some, quiet h l)
-          before i _ j (in-position l) d e quiet = omega (arith, due-given s i j d .most)
+          one : (j : ℕ) → j < 2 → DueAt limit s header j → ⊥
+          one _ l (length-wrong h) = true-not-false h right
+          one _ l (area-factor g h) = omega arith
 
-      -- ---- 10 and 11
-      module _ (n : ℕ) (end : Ends s n) where
-        first-rim : (k : ℕ) → DueAt s rim k → ((j : ℕ) → j < k → DueAt s rim j → ⊥) → First (DueAt s) k
-        first-rim k d none = record { place = rim; is-due = d; none-before = before }
-          where
-            before : (p : Place) (j : ℕ) → Precedes p j rim k → DueAt s p j → ⊥
-            before _ j header-rim e = no-header j e
-            before _ j (position-rim {i}) e = no-position s n end i j e
-            before _ j (in-rim l) e = none j l e
+          before : (p : Place) (j : ℕ) → Precedes p j header 2 → DueAt limit s p j → ⊥
+          before _ j (by-place request-header) d = no-request j d
+          before _ j (by-number l) d = one j l d
 
-        first-10 : n < 3 → First (DueAt s) 10
-        first-10 few = first-rim 10 (too-few n (end .has) (end .ended) few) none
-          where
-            none : (j : ℕ) → j < 10 → DueAt s rim j → ⊥
-            none _ l (too-few i has z h) = omega arith
-            none _ l (vertex-repeated i j p h has a b) = omega arith
+      module _ (area : areaFactor s ≤ 16) where
+        no-header : (k : ℕ) → DueAt limit s header k → ⊥
+        no-header _ (length-wrong h) = true-not-false h right
+        no-header _ (area-factor l h) = omega arith
 
-        -- the chain does not end before position 3
-        module _ (enough : 3 ≤ n) where
-          no-10 : (i : ℕ) → link s i ≡ 0 → i < 3 → ⊥
-          no-10 i z h = omega (arith, end .has .in-file i (omega arith) .numbered)
-
-          first-11 : repeatedVertex (verticesOf s n) n ≡ true → First (DueAt s) 11
-          first-11 same = first-rim 11 due none
+        -- ---- 3 to 9, 18 and 20
+        module _ (i : ℕ) (quiet : (j : ℕ) → j < i → positionCode limit s j ≡ 0) where
+          link-first : (c : ℕ) → linkCode limit s i ≡ c → DueAt limit s (link-to i) c → First (DueAt limit s) c
+          link-first c e due = record { place = link-to i; is-due = due; none-before = before }
             where
-              due : DueAt s rim 11
-              due =
-                  let r = repeated s n same in
-                  let below : r .i < r .j = r .before in
-                  let within : r .j < n = r .within in
-                  let fine = no-number s n end (whole s right) in
-                  vertex-repeated (r .i) (r .j) (pointOf (vertexAt s (r .i))) below (shorter (suc (r .j)) within (end .has))
-                  (has-vertex s (r .i) (λ m h. fine m (omega arith)))
-                  (subst (λ (p : GridPoint). HasVertex s (r .j) p) (sym (r .equal)) (has-vertex s (r .j) (λ m h. fine m (omega arith))))
+              before : (p : Place) (j : ℕ) → Precedes p j (link-to i) c → DueAt limit s p j → ⊥
+              before _ j (by-place request-link) d = no-request j d
+              before _ j (by-place header-link) d = no-header j d
+              before _ j (by-place (link-link {h} l)) d = link-quiet limit s h j (quiet h l) d
+              before _ j (by-place (record-link {h} l)) d = record-quiet limit s h j (quiet h l) d
+              before _ j (by-number l) d = omega (arith, link-given limit s i j d .most)
 
-              none : (j : ℕ) → j < 11 → DueAt s rim j → ⊥
-              none _ l (too-few i has z h) = no-10 i z h
+          record-first : (c : ℕ) → linkCode limit s i ≡ 0 → recordCode s i ≡ c → DueAt limit s (record-at i) c → First (DueAt limit s) c
+          record-first c fine e due = record { place = record-at i; is-due = due; none-before = before }
+            where
+              before-link : (h j : ℕ) → (h < i) ⊎ (h ≡ i) → DueAt limit s (link-to h) j → ⊥
+              before-link h j (inl l) d = link-quiet limit s h j (quiet h l) d
+              before-link h j (inr q) d = omega (arith, fine, link-given limit s i j (subst (λ (m : ℕ). DueAt limit s (link-to m) j) q d) .some)
+
+              before : (p : Place) (j : ℕ) → Precedes p j (record-at i) c → DueAt limit s p j → ⊥
+              before _ j (by-place request-record) d = no-request j d
+              before _ j (by-place header-record) d = no-header j d
+              before _ j (by-place (link-record {h} l)) d = before-link h j (below-or-same h i l) d
+              before _ j (by-place (record-record {h} l)) d = record-quiet limit s h j (quiet h l) d
+              before _ j (by-number l) d = omega (arith, record-given limit s i j d .most)
+
+        first-chain : (c : ℕ) → Stops limit s c → First (DueAt limit s) c
+        first-chain c (on-link i e due quiet) = link-first i quiet c e due
+        first-chain c (on-record i fine e due quiet) = record-first i quiet c fine e due
+
+        -- ---- 10 and 11
+        module _ (n : ℕ) (end : Ends limit s n) where
+          first-rim : (k : ℕ) → DueAt limit s rim k → ((j : ℕ) → j < k → DueAt limit s rim j → ⊥) → First (DueAt limit s) k
+          first-rim k d none = record { place = rim; is-due = d; none-before = before }
+            where
+              before : (p : Place) (j : ℕ) → Precedes p j rim k → DueAt limit s p j → ⊥
+              before _ j (by-place request-rim) e = no-request j e
+              before _ j (by-place header-rim) e = no-header j e
+              before _ j (by-place (link-rim {i})) e = no-link limit s n end i j e
+              before _ j (by-place (record-rim {i})) e = no-record limit s n end i j e
+              before _ j (by-number l) e = none j l e
+
+          first-10 : n < 3 → First (DueAt limit s) 10
+          first-10 few = first-rim 10 (too-few n (end .has) (end .ended) few) none
+            where
+              none : (j : ℕ) → j < 10 → DueAt limit s rim j → ⊥
+              none _ l (too-few i has z h) = omega arith
               none _ l (vertex-repeated i j p h has a b) = omega arith
 
-          none-due : repeatedVertex (verticesOf s n) n ≡ false → NoneDue (DueAt s)
-          none-due distinct = record { none = none }
-            where
-              no-rim : (k : ℕ) → DueAt s rim k → ⊥
-              no-rim _ (too-few i has z h) = no-10 i z h
-              no-rim _ (vertex-repeated i j p h has a b) =
-                  let r = record-reached j has in
-                  not-repeated s n i j distinct h (before-end s n end j (r .has) (r .goes-on)) (vertex-is s i p a ∙ sym (vertex-is s j p b))
+          -- the chain does not end before position 3
+          module _ (enough : 3 ≤ n) where
+            no-10 : (i : ℕ) → link s i ≡ 0 → i < 3 → ⊥
+            no-10 i z h = omega (arith, end .has .in-file i (omega arith) .numbered)
 
-              none : (p : Place) (k : ℕ) → DueAt s p k → ⊥
-              none header k d = no-header k d
-              none (position i) k d = no-position s n end i k d
-              none rim k d = no-rim k d
+            first-11 : repeatedVertex (verticesOf s n) n ≡ true → First (DueAt limit s) 11
+            first-11 same = first-rim 11 due none
+              where
+                due : DueAt limit s rim 11
+                due =
+                    let r = repeated s n same in
+                    let below : r .i < r .j = r .before in
+                    let within : r .j < n = r .within in
+                    let fine = no-number limit s n end (whole s right) in
+                    vertex-repeated (r .i) (r .j) (pointOf (vertexAt s (r .i))) below (shorter (suc (r .j)) within (end .has))
+                    (has-vertex s (r .i) (λ m h. fine m (omega arith)))
+                    (subst (λ (p : GridPoint). HasVertex s (r .j) p) (sym (r .equal)) (has-vertex s (r .j) (λ m h. fine m (omega arith))))
+
+                none : (j : ℕ) → j < 11 → DueAt limit s rim j → ⊥
+                none _ l (too-few i has z h) = no-10 i z h
+                none _ l (vertex-repeated i j p h has a b) = omega arith
+
+            none-due : repeatedVertex (verticesOf s n) n ≡ false → NoneDue (DueAt limit s)
+            none-due distinct = record { none = none }
+              where
+                no-rim : (k : ℕ) → DueAt limit s rim k → ⊥
+                no-rim _ (too-few i has z h) = no-10 i z h
+                no-rim _ (vertex-repeated i j p h has a b) =
+                    not-repeated s n i j distinct h (before-end limit s n end j (record-reached j has)) (vertex-is s i p a ∙ sym (vertex-is s j p b))
+
+                none : (p : Place) (k : ℕ) → DueAt limit s p k → ⊥
+                none request k d = no-request k d
+                none header k d = no-header k d
+                none (link-to i) k d = no-link limit s n end i k d
+                none (record-at i) k d = no-record limit s n end i k d
+                none rim k d = no-rim k d
 
   -- ---- the number of the tests, one after the other
   -- what the tests say of a file that is read
   pub record Read : Type 0 where
+    pub fits : countFits limit ≡ true
     pub right : lengthWrong s ≡ false
     pub area : areaFactor s ≤ 16
-    pub chain-fine : chainCode s ≡ 0
+    pub chain-fine : chainCode limit s ≡ 0
     pub enough : 3 ≤ vertexCount s
     pub distinct : repeatedVertex (verticesOf s (vertexCount s)) (vertexCount s) ≡ false
 
   data Given : ℕ → Type 0 where
-    first : {k : ℕ} → First (DueAt s) (suc k) → Given (suc k)
+    first : {k : ℕ} → First (DueAt limit s) (suc k) → Given (suc k)
     read : Read → Given 0
 
-  given : Given (numberDue s)
-  unfolding numberDue
-  given =
-      by (lengthWrong s) (ltb 16 (areaFactor s)) (chainCode s) (ltb (vertexCount s) 3) (repeatedVertex (verticesOf s (vertexCount s)) (vertexCount s)) refl refl refl refl refl
+  given-file : countFits limit ≡ true → Given (fileCode limit s)
+  unfolding fileCode
+  given-file f =
+      by (lengthWrong s) (ltb 16 (areaFactor s)) (chainCode limit s) (ltb (vertexCount s) 3) (repeatedVertex (verticesOf s (vertexCount s)) (vertexCount s)) refl refl refl refl refl
     where
-      by : (a b : Bool) (k : ℕ) (d r : Bool) → lengthWrong s ≡ a → ltb 16 (areaFactor s) ≡ b → chainCode s ≡ k → ltb (vertexCount s) 3 ≡ d →
-          repeatedVertex (verticesOf s (vertexCount s)) (vertexCount s) ≡ r → Given (cond a 1 (cond b 2 (firstDue k (cond d 10 (cond r 11 0)))))
-      by true b k d r p q t u v = first (first-1 p)
-      by false true k d r p q t u v = first (first-2 p (ltb-true 16 (areaFactor s) q))
-      by false false (suc k) d r p q t u v = first (first-chain p (ltb-false 16 (areaFactor s) q) (suc k) (stops s (whole s p) k t))
-      by false false zero true r p q t u v = first (first-10 p (ltb-false 16 (areaFactor s) q) (vertexCount s) (ends s (whole s p) t) (ltb-true (vertexCount s) 3 u))
-      by false false zero false true p q t u v =
-          first (first-11 p (ltb-false 16 (areaFactor s) q) (vertexCount s) (ends s (whole s p) t) (ltb-false (vertexCount s) 3 u) v)
-      by false false zero false false p q t u v = read (record { right = p; area = ltb-false 16 (areaFactor s) q; chain-fine = t; enough = ltb-false (vertexCount s) 3 u; distinct = v })
+      most : limit ≤ maxVertices
+      most = limit-most limit f
 
-  pub number-first : (k : ℕ) → numberDue s ≡ suc k → First (DueAt s) (suc k)
-  number-first k e = by (numberDue s) given e
+      by : (a b : Bool) (k : ℕ) (d r : Bool) → lengthWrong s ≡ a → ltb 16 (areaFactor s) ≡ b → chainCode limit s ≡ k → ltb (vertexCount s) 3 ≡ d →
+          repeatedVertex (verticesOf s (vertexCount s)) (vertexCount s) ≡ r → Given (cond a 1 (cond b 2 (firstDue k (cond d 10 (cond r 11 0)))))
+      by true b k d r p q t u v = first (first-1 f p)
+      by false true k d r p q t u v = first (first-2 f p (ltb-true 16 (areaFactor s) q))
+      by false false (suc k) d r p q t u v = first (first-chain f p (ltb-false 16 (areaFactor s) q) (suc k) (stops limit most s (whole s p) k t))
+      by false false zero true r p q t u v = first (first-10 f p (ltb-false 16 (areaFactor s) q) (vertexCount s) (ends limit most s (whole s p) t) (ltb-true (vertexCount s) 3 u))
+      by false false zero false true p q t u v =
+          first (first-11 f p (ltb-false 16 (areaFactor s) q) (vertexCount s) (ends limit most s (whole s p) t) (ltb-false (vertexCount s) 3 u) v)
+      by false false zero false false p q t u v =
+          read (record { fits = f; right = p; area = ltb-false 16 (areaFactor s) q; chain-fine = t; enough = ltb-false (vertexCount s) 3 u; distinct = v })
+
+  given : Given (numberDue limit s)
+  unfolding numberDue
+  given = by (countFits limit) refl
     where
-      by : (j : ℕ) → Given j → j ≡ suc k → First (DueAt s) (suc k)
-      by _ (first f) d = subst (λ (c : ℕ). First (DueAt s) c) d f
+      by : (b : Bool) → countFits limit ≡ b → Given (cond b (fileCode limit s) 14)
+      by true e = given-file e
+      by false e = first (first-14 e)
+
+  pub number-first : (k : ℕ) → numberDue limit s ≡ suc k → First (DueAt limit s) (suc k)
+  number-first k e = by (numberDue limit s) given e
+    where
+      by : (j : ℕ) → Given j → j ≡ suc k → First (DueAt limit s) (suc k)
+      by _ (first f) d = subst (λ (c : ℕ). First (DueAt limit s) c) d f
       by _ (read r) d = absurd (omega (arith, d))
 
-  pub no-number-read : numberDue s ≡ 0 → Read
-  no-number-read e = by (numberDue s) given e
+  pub no-number-read : numberDue limit s ≡ 0 → Read
+  no-number-read e = by (numberDue limit s) given e
     where
       by : (j : ℕ) → Given j → j ≡ 0 → Read
       by _ (first f) d = absurd (omega (arith, d))
       by _ (read r) d = r
 
-  pub read-end : Read → Ends s (vertexCount s)
-  read-end r = ends s (whole s (r .right)) (r .chain-fine)
+  pub read-end : Read → Ends limit s (vertexCount s)
+  read-end r = ends limit (limit-most limit (r .fits)) s (whole s (r .right)) (r .chain-fine)
 
-  pub read-none : Read → NoneDue (DueAt s)
-  read-none r = none-due (r .right) (r .area) (vertexCount s) (read-end r) (r .enough) (r .distinct)
+  pub read-none : Read → NoneDue (DueAt limit s)
+  read-none r = none-due (r .fits) (r .right) (r .area) (vertexCount s) (read-end r) (r .enough) (r .distinct)

@@ -58,8 +58,9 @@ module _ (s : List ℕ) where
   }
 
   -- rules 1.6 to 1.10, of every vertex of every file that is read
-  pub vertices-rounded : readingOf s .status ≡ Complete → (i : ℕ) → i < readingOf s .polygon .n → Rounded s i (polygon.vertexAt (readingOf s .polygon .vertices) i)
-  vertices-rounded e i h = rounded i (polygon.vertexAt (readingOf s .polygon .vertices) i) (read-vertices s e i h)
+  pub vertices-rounded : (limit : ℕ) → readingOf limit s .status ≡ Complete → (i : ℕ) → i < readingOf limit s .polygon .n →
+      Rounded s i (polygon.vertexAt (readingOf limit s .polygon .vertices) i)
+  vertices-rounded limit e i h = rounded i (polygon.vertexAt (readingOf limit s .polygon .vertices) i) (read-vertices limit s e i h)
 
   -- ---- nothing is left free
   rounds-once : {v : Float} {g h : ℤ} → RoundsTo v g → RoundsTo v h → g ≡ h
@@ -76,5 +77,6 @@ module _ (s : List ℕ) where
       λ i. point (rounds-once (a .x) (b .x) i) (rounds-once (a .y) (b .y) i) (z i)
 
   -- rules 1.6 to 1.10 allow one vertex at each position, the one that is read
-  pub vertices-fixed : readingOf s .status ≡ Complete → (i : ℕ) → i < readingOf s .polygon .n → (p : GridPoint) → Rounded s i p → p ≡ polygon.vertexAt (readingOf s .polygon .vertices) i
-  vertices-fixed e i h p a = rounded-once a (vertices-rounded e i h)
+  pub vertices-fixed : (limit : ℕ) → readingOf limit s .status ≡ Complete → (i : ℕ) → i < readingOf limit s .polygon .n → (p : GridPoint) → Rounded s i p →
+      p ≡ polygon.vertexAt (readingOf limit s .polygon .vertices) i
+  vertices-fixed limit e i h p a = rounded-once a (vertices-rounded limit e i h)

@@ -14,7 +14,7 @@ use Rattle.polygon.proofs.Normals.{normal-in-range, normal-in-range-test}
 use Rattle.reader.specs.File.{isEdition2, offset}
 use Rattle.reader.specs.Record.{heldNormal, normalIn}
 use Rattle.reader.specs.Chain.{link, normalAt}
-use Rattle.reader.specs.Order.{Place, position}
+use Rattle.reader.specs.Order.{Place, record-at}
 use Rattle.reader.specs.Due.{normalNumbersOf, normalNumbersAt, HasRecords, HasNormal, held, none, DueAt, normal-out-of-range}
 
 -- a number that is out of range
@@ -85,8 +85,8 @@ module _ (s : List ℕ) (i : ℕ) where
   normal-given c m f = not-true-false (normalInRange (normalAt s i)) (λ h. f (number-in-range s (offset s (link s i)) h c m))
 
   -- and where the normal is, 18 is due
-  pub normal-due : HasRecords s (suc i) → normalInRange (normalAt s i) ≡ false → DueAt s (position i) 18
-  normal-due has h =
+  pub normal-due : (limit : ℕ) → HasRecords s (suc i) → normalInRange (normalAt s i) ≡ false → DueAt limit s (record-at i) 18
+  normal-due limit has h =
       let o = outside s (offset s (link s i)) h in
       normal-out-of-range i (o .number) has (o .member) (o .fails)
 
@@ -104,6 +104,6 @@ module _ (s : List ℕ) (i : ℕ) where
       by false e = subst (λ (q : Normal). HasNormal s i q) (sym (normal-1 s at e)) (none i e)
 
 -- rule 4.18: 18 is due on no file of edition 1
-pub no-18-in-edition-1 : (s : List ℕ) → isEdition2 s ≡ false → (p : Place) → DueAt s p 18 → ⊥
-no-18-in-edition-1 s e _ (normal-out-of-range i c has m f) =
+pub no-18-in-edition-1 : (limit : ℕ) (s : List ℕ) → isEdition2 s ≡ false → (p : Place) → DueAt limit s p 18 → ⊥
+no-18-in-edition-1 limit s e _ (normal-out-of-range i c has m f) =
     List·Memᴰ·not-nil (subst (λ (l : List ℤ). List·Memᴰ c l) (numbers-1 s (offset s (link s i)) e) m)

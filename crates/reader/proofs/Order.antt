@@ -6,7 +6,7 @@ use Prim.Native.Nat.{ℕ, suc, _<_}
 use native.Mathlib.Omega.{arith}
 use borrow.Author.Tests.{ltb-true, ltb-false}
 use lib.Dec.{ltb}
-use Rattle.reader.specs.Order.{Place, header, position, rim, Precedes, in-header, header-position, header-rim, earlier-position, in-position, position-rim, in-rim, First, NoneDue}
+use Rattle.reader.specs.Order.{Place, request, header, link-to, record-at, rim, Before, request-header, request-link, request-record, request-rim, header-link, header-record, header-rim, link-link, link-record, record-link, record-record, link-rim, record-rim, Precedes, by-place, by-number, First, NoneDue}
 
 -- of two numbers one comes first, or they are one number
 data Ordered (p : Place) (j : ℕ) (q : Place) (k : ℕ) : Type 0 where
@@ -23,18 +23,38 @@ apart {C} j k below above equal = by (ltb j k) (ltb k j) refl refl
     by false true p q = above (ltb-true k j q)
     by false false p q = equal (omega (arith, ltb-false j k p, ltb-false k j q))
 
+one-place : {p : Place} (j k : ℕ) → Ordered p j p k
+one-place j k = apart j k (λ l. earlier (by-number l)) (λ l. later (by-number l)) same
+
 ordered : (p : Place) (j : ℕ) (q : Place) (k : ℕ) → Ordered p j q k
-ordered header j header k = apart j k (λ l. earlier (in-header l)) (λ l. later (in-header l)) same
-ordered header j (position i) k = earlier header-position
-ordered header j rim k = earlier header-rim
-ordered (position h) j header k = later header-position
-ordered (position h) j (position i) k =
-    apart h i (λ l. earlier (earlier-position l)) (λ l. later (earlier-position l))
-    (λ e. apart j k (λ l. earlier (rw e (in-position l))) (λ l. later (rw e (in-position l))) same)
-ordered (position h) j rim k = earlier position-rim
-ordered rim j header k = later header-rim
-ordered rim j (position i) k = later position-rim
-ordered rim j rim k = apart j k (λ l. earlier (in-rim l)) (λ l. later (in-rim l)) same
+ordered request j request k = one-place j k
+ordered request j header k = earlier (by-place request-header)
+ordered request j (link-to i) k = earlier (by-place request-link)
+ordered request j (record-at i) k = earlier (by-place request-record)
+ordered request j rim k = earlier (by-place request-rim)
+ordered header j request k = later (by-place request-header)
+ordered header j header k = one-place j k
+ordered header j (link-to i) k = earlier (by-place header-link)
+ordered header j (record-at i) k = earlier (by-place header-record)
+ordered header j rim k = earlier (by-place header-rim)
+ordered (link-to h) j request k = later (by-place request-link)
+ordered (link-to h) j header k = later (by-place header-link)
+ordered (link-to h) j (link-to i) k = apart h i (λ l. earlier (by-place (link-link l))) (λ l. later (by-place (link-link l))) (λ e. rw e (one-place j k))
+ordered (link-to h) j (record-at i) k =
+    apart h i (λ l. earlier (by-place (link-record (omega arith)))) (λ l. later (by-place (record-link l))) (λ e. earlier (by-place (link-record (omega arith))))
+ordered (link-to h) j rim k = earlier (by-place link-rim)
+ordered (record-at h) j request k = later (by-place request-record)
+ordered (record-at h) j header k = later (by-place header-record)
+ordered (record-at h) j (link-to i) k =
+    apart h i (λ l. earlier (by-place (record-link l))) (λ l. later (by-place (link-record (omega arith)))) (λ e. later (by-place (link-record (omega arith))))
+ordered (record-at h) j (record-at i) k =
+    apart h i (λ l. earlier (by-place (record-record l))) (λ l. later (by-place (record-record l))) (λ e. rw e (one-place j k))
+ordered (record-at h) j rim k = earlier (by-place record-rim)
+ordered rim j request k = later (by-place request-rim)
+ordered rim j header k = later (by-place header-rim)
+ordered rim j (link-to i) k = later (by-place link-rim)
+ordered rim j (record-at i) k = later (by-place record-rim)
+ordered rim j rim k = one-place j k
 
 module _ {due : Place → ℕ → Type 0} where
   -- at most one number is the first

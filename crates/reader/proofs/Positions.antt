@@ -1,22 +1,22 @@
--- One position of the chain: the number that is given there is due there, and no smaller one is. Assumes nothing.
+-- One position of the chain: the number that is given on its link or on its record is due there, and no smaller one is. Assumes nothing.
 use mathlib.Core.Path.{_≡_, refl, sym, ap, _∙_, subst}
 use mathlib.Core.Bool.{Bool, true, false, cond}
 use mathlib.Core.List.{List}
 use mathlib.Core.Logic.{⊎-elim}
 use Prim.Native.Nat.{ℕ, zero, suc, _≤_, _<_}
 use native.Mathlib.Omega.{arith}
-use borrow.Author.Tests.{ltb-true, ltb-false, leb-true, leb-false, eqb-true, eq-eqb, lt-ltb, le-leb}
+use borrow.Author.Tests.{ltb-true, ltb-false, leb-true, leb-false, eqb-true, eqb-false, eq-eqb, ne-eqb, lt-ltb, le-leb}
 use lib.Dec.{ltb, leb, eqb}
 use Rattle.lists.proofs.Choice.{yes, no, true-not-false, either-left, either-right, either-cases, below-or-same}
 use Rattle.terms.specs.Limits.{maxVertices}
 use Rattle.polygon.specs.Normal.{normalInRange, normalCode}
 use Rattle.polygon.specs.Polygon.{firstDue}
-use Rattle.polygon.proofs.Codes.{due-here, due-on}
+use Rattle.polygon.proofs.Codes.{due-here, due-on, due-neither}
 use Rattle.reader.specs.File.{recordCount}
-use Rattle.reader.specs.Chain.{metBefore, vertexAt, numberOf, normalAt, positionCode}
+use Rattle.reader.specs.Chain.{metBefore, vertexAt, numberOf, normalAt, overLimit, linkCode, recordCode, positionCode}
 use Rattle.reader.specs.Chain as chain
-use Rattle.reader.specs.Order.{position}
-use Rattle.reader.specs.Due.{InFile, HasRecords, DueAt, link-over, met-again, too-many, kind-unknown, no-height, not-finite, tail-not-zero, out-of-range, normal-out-of-range}
+use Rattle.reader.specs.Order.{link-to, record-at}
+use Rattle.reader.specs.Due.{InFile, HasRecords, DueAt, link-over, met-again, too-many, over-limit, kind-unknown, no-height, not-finite, tail-not-zero, out-of-range, normal-out-of-range}
 use Rattle.reader.proofs.Layouts.{record-within}
 use Rattle.reader.proofs.Lengths.{Whole}
 use Rattle.reader.proofs.Floats.{UpTo}
@@ -48,82 +48,85 @@ met-found s (suc j) k e =
     (either-cases (eqb (chain.link s j) k) (metBefore s j k) e)
 
 -- ---- no number of a record, and none of its normal
-neither : (j : ℕ) {k : ℕ} → firstDue j k ≡ 0 → (j ≡ 0) × (k ≡ 0)
-neither zero e = (refl, e)
-neither (suc j) e = absurd (omega (arith, e))
-
 quiet : (b : Bool) → _≡_ {A = ℕ} (cond b 0 18) 0 → b ≡ true
 quiet true e = refl
 quiet false e = absurd (omega (arith, e))
 
-module _ (s : List ℕ) (i : ℕ) where
-  -- ---- a number that is due at the position: the one that is given is at most that
-  -- the first of the record's number and of its normal's
-  abbrev recordCode : ℕ
-  recordCode = firstDue (numberOf (vertexAt s i)) (normalCode (normalAt s i))
+-- ---- a number that is due at a position: the one that is given there is at most that
+over-least : (limit : ℕ) → 5 ≤ overLimit limit
+over-least limit = by (eqb limit maxVertices)
+  where
+    by : (b : Bool) → 5 ≤ cond b 5 20
+    by true = omega arith
+    by false = omega arith
 
-  -- the link is judged before the record
-  link-first : (k c : ℕ) → 5 ≤ k → recordCode ≡ c → UpTo k c → UpTo k (positionCode s i)
-  unfolding positionCode
-  link-first k c h n u = by (ltb (recordCount s) (chain.link s i)) (metBefore s i (chain.link s i)) (leb maxVertices i) refl refl refl
-    where
-      upto : (b : ℕ) → positionCode s i ≡ b → UpTo k b → UpTo k (positionCode s i)
-      upto b e w = record { some = omega (arith, w .some); most = omega (arith, w .most) }
+module _ (limit : ℕ) (s : List ℕ) (i : ℕ) where
+  link-is : {k : ℕ} (c : ℕ) → linkCode limit s i ≡ c → 0 < c → c ≤ k → UpTo k (linkCode limit s i)
+  link-is c e h l = record { some = omega arith; most = omega arith }
 
-      by : (x y z : Bool) → ltb (recordCount s) (chain.link s i) ≡ x → metBefore s i (chain.link s i) ≡ y → leb maxVertices i ≡ z → UpTo k (positionCode s i)
-      by true y z p q r = upto 3 (yes 3 _ p) (record { some = omega arith; most = omega arith })
-      by false true z p q r = upto 4 (no 3 _ p ∙ yes 4 _ q) (record { some = omega arith; most = omega arith })
-      by false false true p q r = upto 5 (no 3 _ p ∙ no 4 _ q ∙ yes 5 _ r) (record { some = omega arith; most = h })
-      by false false false p q r = upto c (no 3 _ p ∙ no 4 _ q ∙ no 5 _ r ∙ n) u
+  over-given : recordCount s < chain.link s i → UpTo 3 (linkCode limit s i)
+  unfolding linkCode
+  over-given h = link-is 3 (yes 3 _ (lt-ltb (recordCount s) (chain.link s i) h)) (omega arith) (omega arith)
 
-  -- the record's number before its normal's
-  record-first : (k : ℕ) → 5 ≤ k → UpTo k (numberOf (vertexAt s i)) → UpTo k (positionCode s i)
-  record-first k h u = link-first k (numberOf (vertexAt s i)) h (due-here (normalCode (normalAt s i)) refl (λ z. omega (arith, u .some))) u
-
-  normal-first : normalInRange (normalAt s i) ≡ false → UpTo 18 (positionCode s i)
-  normal-first f = by (numberOf (vertexAt s i)) refl
-    where
-      by : (c : ℕ) → numberOf (vertexAt s i) ≡ c → UpTo 18 (positionCode s i)
-      by zero e =
-          link-first 18 18 (omega arith) (due-on (normalCode (normalAt s i)) e ∙ no 0 18 f) (record { some = omega arith; most = omega arith })
-      by (suc c) e = record-first 18 (omega arith) (record { some = omega arith; most = omega (arith, record-most s i) })
-
-  over-given : recordCount s < chain.link s i → UpTo 3 (positionCode s i)
-  unfolding positionCode
-  over-given h = let e : positionCode s i ≡ 3 = yes 3 _ (lt-ltb (recordCount s) (chain.link s i) h) in record { some = omega arith; most = omega arith }
-
-  met-given : metBefore s i (chain.link s i) ≡ true → UpTo 4 (positionCode s i)
-  unfolding positionCode
+  met-given : metBefore s i (chain.link s i) ≡ true → UpTo 4 (linkCode limit s i)
+  unfolding linkCode
   met-given m = by (ltb (recordCount s) (chain.link s i)) refl
     where
-      by : (x : Bool) → ltb (recordCount s) (chain.link s i) ≡ x → UpTo 4 (positionCode s i)
-      by true p = let e : positionCode s i ≡ 3 = yes 3 _ p in record { some = omega arith; most = omega arith }
-      by false p = let e : positionCode s i ≡ 4 = no 3 _ p ∙ yes 4 _ m in record { some = omega arith; most = omega arith }
+      by : (x : Bool) → ltb (recordCount s) (chain.link s i) ≡ x → UpTo 4 (linkCode limit s i)
+      by true p = link-is 3 (yes 3 _ p) (omega arith) (omega arith)
+      by false p = link-is 4 (no 3 _ p ∙ yes 4 _ m) (omega arith) (omega arith)
 
-  many-given : maxVertices ≤ i → UpTo 5 (positionCode s i)
-  unfolding positionCode
+  many-given : limit ≤ i → UpTo (overLimit limit) (linkCode limit s i)
+  unfolding linkCode
   many-given h = by (ltb (recordCount s) (chain.link s i)) (metBefore s i (chain.link s i)) refl refl
     where
-      by : (x y : Bool) → ltb (recordCount s) (chain.link s i) ≡ x → metBefore s i (chain.link s i) ≡ y → UpTo 5 (positionCode s i)
-      by true y p q = let e : positionCode s i ≡ 3 = yes 3 _ p in record { some = omega arith; most = omega arith }
-      by false true p q = let e : positionCode s i ≡ 4 = no 3 _ p ∙ yes 4 _ q in record { some = omega arith; most = omega arith }
+      by : (x y : Bool) → ltb (recordCount s) (chain.link s i) ≡ x → metBefore s i (chain.link s i) ≡ y → UpTo (overLimit limit) (linkCode limit s i)
+      by true y p q = link-is 3 (yes 3 _ p) (omega arith) (omega (arith, over-least limit))
+      by false true p q = link-is 4 (no 3 _ p ∙ yes 4 _ q) (omega arith) (omega (arith, over-least limit))
       by false false p q =
-          let e : positionCode s i ≡ 5 = no 3 _ p ∙ no 4 _ q ∙ yes 5 _ (le-leb maxVertices i h) in
-          record { some = omega arith; most = omega arith }
+          link-is (overLimit limit) (no 3 _ p ∙ no 4 _ q ∙ yes (overLimit limit) _ (le-leb limit i h)) (omega (arith, over-least limit)) (omega arith)
 
--- the number that is given at a position is at most one that is due there
-pub due-given : (s : List ℕ) (i k : ℕ) → DueAt s (position i) k → UpTo k (positionCode s i)
-due-given s _ _ (link-over i has h) = over-given s i h
-due-given s _ _ (met-again j i h has e) = met-given s i (met-marked s j i (chain.link s i) h e)
-due-given s _ _ (too-many has) = many-given s maxVertices (omega arith)
-due-given s _ _ (kind-unknown i has a b) = record-first s i 6 (omega arith) (let e = kind-given s i a b in record { some = omega arith; most = omega arith })
-due-given s _ _ (no-height i has k none) = record-first s i 7 (omega arith) (let e = height-given s i k none in record { some = omega arith; most = omega arith })
-due-given s _ _ (not-finite i v has m f) = record-first s i 8 (omega arith) (finite-given s i v m f)
-due-given s _ _ (tail-not-zero i has k t) = record-first s i 8 (omega arith) (tail-given s i k t)
-due-given s _ _ (out-of-range i v has m f) = record-first s i 9 (omega arith) (range-given s i v m f)
-due-given s _ _ (normal-out-of-range i c has m f) = normal-first s i (normal-given s i c m f)
+module _ (s : List ℕ) (i : ℕ) where
+  -- the record's number before its normal's
+  record-first : (k : ℕ) → UpTo k (numberOf (vertexAt s i)) → UpTo k (recordCode s i)
+  record-first k u =
+      let e : recordCode s i ≡ numberOf (vertexAt s i) = due-here (normalCode (normalAt s i)) refl (λ z. omega (arith, u .some)) in
+      record { some = omega (arith, u .some); most = omega (arith, u .most) }
 
--- a number is due only at a position that a link leads to
+  normal-first : normalInRange (normalAt s i) ≡ false → UpTo 18 (recordCode s i)
+  normal-first f = by (numberOf (vertexAt s i)) refl
+    where
+      by : (c : ℕ) → numberOf (vertexAt s i) ≡ c → UpTo 18 (recordCode s i)
+      by zero e = let d : recordCode s i ≡ 18 = due-on (normalCode (normalAt s i)) e ∙ no 0 18 f in record { some = omega arith; most = omega arith }
+      by (suc c) e = record-first 18 (record { some = omega arith; most = omega (arith, record-most s i) })
+
+module _ (limit : ℕ) (s : List ℕ) where
+  pub link-given : (i k : ℕ) → DueAt limit s (link-to i) k → UpTo k (linkCode limit s i)
+  link-given _ _ (link-over i has h) = over-given limit s i h
+  link-given _ _ (met-again j i h has e) = met-given limit s i (met-marked s j i (chain.link s i) h e)
+  link-given _ _ (too-many has m) =
+      subst (λ (k : ℕ). UpTo k (linkCode limit s limit)) (yes 5 20 (eq-eqb limit maxVertices m)) (many-given limit s limit (omega arith))
+  link-given _ _ (over-limit has m) =
+      subst (λ (k : ℕ). UpTo k (linkCode limit s limit)) (no 5 20 (ne-eqb limit maxVertices m)) (many-given limit s limit (omega arith))
+
+  pub record-given : (i k : ℕ) → DueAt limit s (record-at i) k → UpTo k (recordCode s i)
+  record-given _ _ (kind-unknown i has a b) = record-first s i 6 (let e = kind-given s i a b in record { some = omega arith; most = omega arith })
+  record-given _ _ (no-height i has k none) = record-first s i 7 (let e = height-given s i k none in record { some = omega arith; most = omega arith })
+  record-given _ _ (not-finite i v has m f) = record-first s i 8 (finite-given s i v m f)
+  record-given _ _ (tail-not-zero i has k t) = record-first s i 8 (tail-given s i k t)
+  record-given _ _ (out-of-range i v has m f) = record-first s i 9 (range-given s i v m f)
+  record-given _ _ (normal-out-of-range i c has m f) = normal-first s i (normal-given s i c m f)
+
+  -- so where no number is given at a position, none is due on its link and none on its record
+  pub link-quiet : (i k : ℕ) → positionCode limit s i ≡ 0 → DueAt limit s (link-to i) k → ⊥
+  unfolding positionCode
+  link-quiet i k e d = omega (arith, link-given i k d .some, due-neither (linkCode limit s i) (recordCode s i) e .0)
+
+  pub record-quiet : (i k : ℕ) → positionCode limit s i ≡ 0 → DueAt limit s (record-at i) k → ⊥
+  unfolding positionCode
+  record-quiet i k e d = omega (arith, record-given i k d .some, due-neither (linkCode limit s i) (recordCode s i) e .1)
+
+-- ---- a number is due only at a position that a link leads to
 pub record Reached (s : List ℕ) (i : ℕ) : Type 0 where
   pub has : HasRecords s i
   pub goes-on : 0 < chain.link s i
@@ -134,18 +137,23 @@ shorter n h has = record { has-header = has .has-header; in-file = λ i l. has .
 pub record-reached : {s : List ℕ} (i : ℕ) → HasRecords s (suc i) → Reached s i
 record-reached i has = record { has = shorter i (omega arith) has; goes-on = has .in-file i (omega arith) .numbered }
 
-pub due-reached : (s : List ℕ) (i k : ℕ) → DueAt s (position i) k → Reached s i
-due-reached s _ _ (link-over i has h) = record { has = has; goes-on = omega arith }
-due-reached s _ _ (met-again j i h has e) = record { has = has; goes-on = omega (arith, has .in-file j h .numbered) }
-due-reached s _ _ (too-many has) = record-reached maxVertices has
-due-reached s _ _ (kind-unknown i has a b) = record-reached i has
-due-reached s _ _ (no-height i has k none) = record-reached i has
-due-reached s _ _ (not-finite i v has m f) = record-reached i has
-due-reached s _ _ (tail-not-zero i has k t) = record-reached i has
-due-reached s _ _ (out-of-range i v has m f) = record-reached i has
-due-reached s _ _ (normal-out-of-range i c has m f) = record-reached i has
+module _ {limit : ℕ} (s : List ℕ) where
+  pub link-due-reached : (i k : ℕ) → DueAt limit s (link-to i) k → Reached s i
+  link-due-reached _ _ (link-over i has h) = record { has = has; goes-on = omega arith }
+  link-due-reached _ _ (met-again j i h has e) = record { has = has; goes-on = omega (arith, has .in-file j h .numbered) }
+  link-due-reached _ _ (too-many has m) = record-reached limit has
+  link-due-reached _ _ (over-limit has m) = record-reached limit has
 
-module _ (s : List ℕ) (whole : Whole s) (i : ℕ) (r : Reached s i) where
+  pub record-due-reached : (i k : ℕ) → DueAt limit s (record-at i) k → Reached s i
+  record-due-reached _ _ (kind-unknown i has a b) = record-reached i has
+  record-due-reached _ _ (no-height i has k none) = record-reached i has
+  record-due-reached _ _ (not-finite i v has m f) = record-reached i has
+  record-due-reached _ _ (tail-not-zero i has k t) = record-reached i has
+  record-due-reached _ _ (out-of-range i v has m f) = record-reached i has
+  record-due-reached _ _ (normal-out-of-range i c has m f) = record-reached i has
+
+-- ---- the number that is given is due
+module _ (limit : ℕ) (s : List ℕ) (whole : Whole s) (i : ℕ) (r : Reached s i) where
   -- the record that the link leads to
   next-has : chain.link s i ≤ recordCount s → metBefore s i (chain.link s i) ≡ false → HasRecords s (suc i)
   next-has l new = record {
@@ -161,53 +169,72 @@ module _ (s : List ℕ) (whole : Whole s) (i : ℕ) (r : Reached s i) where
       here : InFile s (chain.link s i)
       here = record { numbered = r .goes-on; counted = l; bytes = record-within s (chain.link s i) (r .goes-on) l (whole .records) }
 
-  -- the number of the record, or of its normal, is due
-  record-given : HasRecords s (suc i) → (c j : ℕ) → numberOf (vertexAt s i) ≡ j → firstDue j (normalCode (normalAt s i)) ≡ suc c → DueAt s (position i) (suc c)
-  record-given has c (suc j) d e = record-due s i has c (d ∙ e)
-  record-given has c zero d e = by (normalInRange (normalAt s i)) refl
+  -- the record is one too many: 5 or 20
+  many-due : i ≡ limit → HasRecords s (suc i) → DueAt limit s (link-to i) (overLimit limit)
+  many-due e has = by (eqb limit maxVertices) refl
     where
-      by : (b : Bool) → normalInRange (normalAt s i) ≡ b → DueAt s (position i) (suc c)
-      by true r = absurd (omega (arith, sym (yes 0 18 r) ∙ e))
-      by false r = subst (λ (k : ℕ). DueAt s (position i) k) (sym (no 0 18 r) ∙ e) (normal-due s i has r)
+      all : HasRecords s (suc limit)
+      all = subst (λ (m : ℕ). HasRecords s (suc m)) e has
 
-  -- the number that is given is due; position i is at most the last that may be
-  pub given-due : (c : ℕ) → i ≤ maxVertices → positionCode s i ≡ suc c → DueAt s (position i) (suc c)
-  unfolding positionCode
-  given-due c within e = by (ltb (recordCount s) (chain.link s i)) (metBefore s i (chain.link s i)) (leb maxVertices i) refl refl refl
+      by : (b : Bool) → eqb limit maxVertices ≡ b → DueAt limit s (link-to i) (cond b 5 20)
+      by true p = subst (λ (m : ℕ). DueAt limit s (link-to m) 5) (sym e) (too-many all (eqb-true limit maxVertices p))
+      by false p = subst (λ (m : ℕ). DueAt limit s (link-to m) 20) (sym e) (over-limit all (eqb-false limit maxVertices p))
+
+  -- position i is at most the last that may be
+  pub given-link : (c : ℕ) → i ≤ limit → linkCode limit s i ≡ suc c → DueAt limit s (link-to i) (suc c)
+  unfolding linkCode
+  given-link c within e = by (ltb (recordCount s) (chain.link s i)) (metBefore s i (chain.link s i)) (leb limit i) refl refl refl
     where
-      by : (x y z : Bool) → ltb (recordCount s) (chain.link s i) ≡ x → metBefore s i (chain.link s i) ≡ y → leb maxVertices i ≡ z → DueAt s (position i) (suc c)
-      by true y z p q t = subst (λ (k : ℕ). DueAt s (position i) k) (sym (yes 3 _ p) ∙ e) (link-over i (r .has) (ltb-true (recordCount s) (chain.link s i) p))
-      by false true z p q t =
-          let m = met-found s i (chain.link s i) q in
-          subst (λ (k : ℕ). DueAt s (position i) k) (sym (no 3 _ p ∙ yes 4 _ q) ∙ e) (met-again (m .at) i (m .before) (r .has) (m .same))
+      given : {k : ℕ} → linkCode limit s i ≡ k → DueAt limit s (link-to i) k → DueAt limit s (link-to i) (suc c)
+      given f d = subst (λ (k : ℕ). DueAt limit s (link-to i) k) (sym f ∙ e) d
+
+      by : (x y z : Bool) → ltb (recordCount s) (chain.link s i) ≡ x → metBefore s i (chain.link s i) ≡ y → leb limit i ≡ z → DueAt limit s (link-to i) (suc c)
+      by true y z p q t = given (yes 3 _ p) (link-over i (r .has) (ltb-true (recordCount s) (chain.link s i) p))
+      by false true z p q t = let m = met-found s i (chain.link s i) q in given (no 3 _ p ∙ yes 4 _ q) (met-again (m .at) i (m .before) (r .has) (m .same))
       by false false true p q t =
-          let last : maxVertices ≡ i = omega (arith, leb-true maxVertices i t) in
-          let has : HasRecords s (suc i) = next-has (ltb-false (recordCount s) (chain.link s i) p) q in
-          subst (λ (k : ℕ). DueAt s (position i) k) (sym (no 3 _ p ∙ no 4 _ q ∙ yes 5 _ t) ∙ e)
-          (subst (λ (m : ℕ). DueAt s (position m) 5) last (too-many (subst (λ (m : ℕ). HasRecords s (suc m)) (sym last) has)))
-      by false false false p q t =
-          record-given (next-has (ltb-false (recordCount s) (chain.link s i) p) q) c (numberOf (vertexAt s i)) refl (sym (no 3 _ p ∙ no 4 _ q ∙ no 5 _ t) ∙ e)
+          let last : i ≡ limit = omega (arith, leb-true limit i t) in
+          given (no 3 _ p ∙ no 4 _ q ∙ yes (overLimit limit) _ t) (many-due last (next-has (ltb-false (recordCount s) (chain.link s i) p) q))
+      by false false false p q t = absurd (omega (arith, sym (no 3 _ p ∙ no 4 _ q ∙ no (overLimit limit) _ t) ∙ e))
 
-  -- where no number is given, the chain has the record, within the limit, and the record has a vertex and a normal in range
-  pub record Passing : Type 0 where
+  -- where no number is given on the link, the chain has the record, within the limit
+  pub record Linked : Type 0 where
     pub next : HasRecords s (suc i)
-    pub within : i < maxVertices
+    pub within : i < limit
+
+  pub linked : linkCode limit s i ≡ 0 → Linked
+  unfolding linkCode
+  linked e = by (ltb (recordCount s) (chain.link s i)) (metBefore s i (chain.link s i)) (leb limit i) refl refl refl
+    where
+      by : (x y z : Bool) → ltb (recordCount s) (chain.link s i) ≡ x → metBefore s i (chain.link s i) ≡ y → leb limit i ≡ z → Linked
+      by true y z p q t = absurd (omega (arith, sym (yes 3 _ p) ∙ e))
+      by false true z p q t = absurd (omega (arith, sym (no 3 _ p ∙ yes 4 _ q) ∙ e))
+      by false false true p q t = absurd (omega (arith, over-least limit, sym (no 3 _ p ∙ no 4 _ q ∙ yes (overLimit limit) _ t) ∙ e))
+      by false false false p q t = record { next = next-has (ltb-false (recordCount s) (chain.link s i) p) q; within = leb-false limit i t }
+
+  -- the number of the record, or of its normal
+  pub given-record : (c : ℕ) → linkCode limit s i ≡ 0 → recordCode s i ≡ suc c → DueAt limit s (record-at i) (suc c)
+  given-record c l e = number (numberOf (vertexAt s i)) refl e
+    where
+      has : HasRecords s (suc i)
+      has = linked l .next
+
+      number : (j : ℕ) → numberOf (vertexAt s i) ≡ j → firstDue j (normalCode (normalAt s i)) ≡ suc c → DueAt limit s (record-at i) (suc c)
+      number (suc j) d e = record-due s i limit has c (d ∙ e)
+      number zero d e = by (normalInRange (normalAt s i)) refl
+        where
+          by : (b : Bool) → normalInRange (normalAt s i) ≡ b → DueAt limit s (record-at i) (suc c)
+          by true r = absurd (omega (arith, sym (yes 0 18 r) ∙ e))
+          by false r = subst (λ (k : ℕ). DueAt limit s (record-at i) k) (sym (no 0 18 r) ∙ e) (normal-due s i limit has r)
+
+  -- where no number is given at the position, the record has besides a vertex and a normal in range
+  pub record Passing : Type 0 where
+    pub on : Linked
     pub no-number : numberOf (vertexAt s i) ≡ 0
     pub in-range : normalInRange (normalAt s i) ≡ true
 
-  pub passing : positionCode s i ≡ 0 → Passing
+  pub passing : positionCode limit s i ≡ 0 → Passing
   unfolding positionCode
-  passing e = by (ltb (recordCount s) (chain.link s i)) (metBefore s i (chain.link s i)) (leb maxVertices i) refl refl refl
-    where
-      by : (x y z : Bool) → ltb (recordCount s) (chain.link s i) ≡ x → metBefore s i (chain.link s i) ≡ y → leb maxVertices i ≡ z → Passing
-      by true y z p q t = absurd (omega (arith, sym (yes 3 _ p) ∙ e))
-      by false true z p q t = absurd (omega (arith, sym (no 3 _ p ∙ yes 4 _ q) ∙ e))
-      by false false true p q t = absurd (omega (arith, sym (no 3 _ p ∙ no 4 _ q ∙ yes 5 _ t) ∙ e))
-      by false false false p q t =
-          let n = neither (numberOf (vertexAt s i)) (sym (no 3 _ p ∙ no 4 _ q ∙ no 5 _ t) ∙ e) in
-          record {
-            next = next-has (ltb-false (recordCount s) (chain.link s i) p) q;
-            within = leb-false maxVertices i t;
-            no-number = n .0;
-            in-range = quiet (normalInRange (normalAt s i)) (n .1);
-          }
+  passing e =
+      let n = due-neither (linkCode limit s i) (recordCode s i) e in
+      let m = due-neither (numberOf (vertexAt s i)) (normalCode (normalAt s i)) (n .1) in
+      record { on = linked (n .0); no-number = m .0; in-range = quiet (normalInRange (normalAt s i)) (m .1) }

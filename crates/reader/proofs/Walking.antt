@@ -16,7 +16,6 @@ use lib.Dec.{ltb, eqb}
 use mathlib.Core.Logic.{⊎-elim}
 use Rattle.lists.specs.Lists.{either}
 use Rattle.lists.proofs.Choice.{yes, no, below-or-same}
-use Rattle.terms.specs.Limits.{maxVertices}
 use Rattle.polygon.specs.Normal.{noNormal, normalInRange, normalCode}
 use Rattle.polygon.specs.Polygon.{origin, firstDue}
 use Rattle.polygon.specs.declared.normal.Normal.{Normal}
@@ -26,28 +25,29 @@ use Rattle.grid.specs.Point.{OnGrid}
 use Rattle.grid.specs.Number.{roundEighths}
 use Rattle.reader.specs.File.{u16At, firstRecord, recordCount, maxRecords, recordNumbers, offset, kind, thirdNumber}
 use Rattle.reader.specs.Record.{known, heightOf, recordAt, vertexOf, normalIn}
-use Rattle.reader.specs.Chain.{link, metBefore, heightBefore, vertexAt, numberOf, normalAt, positionCode}
+use Rattle.reader.specs.Chain.{link, metBefore, heightBefore, vertexAt, numberOf, normalAt, overLimit, linkCode, recordCode, positionCode}
 use Rattle.reader.specs.Steps.{Walking, Stepped}
 use Rattle.reader.specs.declared.Progress.{Progress}
 use Rattle.reader.specs.declared.Height.{Height}
 use Rattle.reader.specs.declared.Height.the-variants.{Unknown, Known}
 use Rattle.reader.specs.declared.Vertex.the-variants.{At, Refused}
 use Rattle.reader.proofs.Vertices.{Vertexed, vertexed, refused-positive}
+use Rattle.reader.proofs.Answers.{over-positive}
 
 pub positive : (k : ℕ) → (k ≡ 0 → ⊥) → 0 < k
 positive zero h = absurd (h refl)
 positive (suc k) h = omega arith
 
-pub below-limit : {n : ℕ} → n ≤ maxVertices → (n ≡ maxVertices → ⊥) → n < maxVertices
-below-limit {n} h d = ⊎-elim (λ l. l) (λ e. absurd (d e)) (below-or-same n maxVertices h)
+pub below-limit : {n limit : ℕ} → n ≤ limit → (n ≡ limit → ⊥) → n < limit
+below-limit {n} {limit} h d = ⊎-elim (λ l. l) (λ e. absurd (d e)) (below-or-same n limit h)
 
 abbrev progress : List Bool → Height → GridPoint → Normal → ℕ → ℕ → Progress
 progress met height vertex normal n next = record { code = 0; met = met; height = height; vertex = vertex; normal = normal; n = n; link = next }
 
 -- before the first position no record is met
-pub walking-start : (s : List ℕ) (first : ℕ) → first ≡ firstRecord s → Walking s (progress (replicate recordNumbers false) Unknown origin noNormal 0 first)
+pub walking-start : (limit : ℕ) (s : List ℕ) (first : ℕ) → first ≡ firstRecord s → Walking limit s (progress (replicate recordNumbers false) Unknown origin noNormal 0 first)
 unfolding link metBefore heightBefore
-walking-start s first e = record {
+walking-start limit s first e = record {
   here = e;
   marks = length-replicate recordNumbers false;
   marked = λ k h. none recordNumbers k;
@@ -69,9 +69,9 @@ on-grid-fits (negsuc k) g = record { sfits = omega (arith, g .size) }
 held : (z : ℤ) → OnGrid z → toZ w64 (ofZ w64 z) ≡ z
 held z g = toZ-ofZ (on-grid-fits z g)
 
-module _ {s : List ℕ} {w : Progress} (v : Walking s w) where
+module _ {limit : ℕ} {s : List ℕ} {w : Progress} (v : Walking limit s w) where
   -- a number is due here
-  pub stopped-by : {r : Progress} (k : ℕ) → 0 < k → positionCode s (w .n) ≡ k → r .code ≡ k → Stepped s w r
+  pub stopped-by : {r : Progress} (k : ℕ) → 0 < k → positionCode limit s (w .n) ≡ k → r .code ≡ k → Stepped limit s w r
   stopped-by {r} k h e c = record {
     number = c ∙ sym e;
     walking = λ z. absurd (omega arith);
@@ -80,9 +80,14 @@ module _ {s : List ℕ} {w : Progress} (v : Walking s w) where
     normal-is = λ z. absurd (omega arith);
   }
 
-  pub link-due : recordCount s < w .link → positionCode s (w .n) ≡ 3
+  -- a number of the link comes first
+  link-stops : (k : ℕ) → 0 < k → linkCode limit s (w .n) ≡ k → positionCode limit s (w .n) ≡ k
   unfolding positionCode
-  link-due h = yes 3 _ (lt-ltb (recordCount s) (link s (w .n)) (omega (arith, v .here)))
+  link-stops k h e = due-here (recordCode s (w .n)) (sym e) (λ z. omega arith)
+
+  pub link-due : recordCount s < w .link → positionCode limit s (w .n) ≡ 3
+  unfolding linkCode
+  link-due h = link-stops 3 (omega arith) (yes 3 _ (lt-ltb (recordCount s) (link s (w .n)) (omega (arith, v .here))))
 
   module _ (known-record : w .link ≤ recordCount s) (few : recordCount s ≤ maxRecords) where
     link-fine : ltb (recordCount s) (link s (w .n)) ≡ false
@@ -91,19 +96,21 @@ module _ {s : List ℕ} {w : Progress} (v : Walking s w) where
     met-here : getD (w .met) (w .link) false ≡ metBefore s (w .n) (link s (w .n))
     met-here = v .marked (w .link) (omega arith) ∙ ap (λ (k : ℕ). metBefore s (w .n) k) (v .here)
 
-    pub repeated-due : getD (w .met) (w .link) false ≡ true → positionCode s (w .n) ≡ 4
-    unfolding positionCode
-    repeated-due h = no 3 _ link-fine ∙ yes 4 _ (sym met-here ∙ h)
+    pub repeated-due : getD (w .met) (w .link) false ≡ true → positionCode limit s (w .n) ≡ 4
+    unfolding linkCode
+    repeated-due h = link-stops 4 (omega arith) (no 3 _ link-fine ∙ yes 4 _ (sym met-here ∙ h))
 
     module _ (new : getD (w .met) (w .link) false ≡ false) where
-      pub too-many-due : w .n ≡ maxVertices → positionCode s (w .n) ≡ 5
-      unfolding positionCode
-      too-many-due h = no 3 _ link-fine ∙ no 4 _ (sym met-here ∙ new) ∙ yes 5 _ (le-leb maxVertices (w .n) (omega arith))
+      pub over-due : w .n ≡ limit → positionCode limit s (w .n) ≡ overLimit limit
+      unfolding linkCode
+      over-due h =
+          link-stops (overLimit limit) (over-positive limit)
+          (no 3 _ link-fine ∙ no 4 _ (sym met-here ∙ new) ∙ yes (overLimit limit) _ (le-leb limit (w .n) (omega arith)))
 
-      module _ (room : w .n < maxVertices) (at : ℕ) (place : at ≡ offset s (w .link)) where
-        record-code : positionCode s (w .n) ≡ firstDue (numberOf (vertexAt s (w .n))) (normalCode (normalAt s (w .n)))
-        unfolding positionCode
-        record-code = no 3 _ link-fine ∙ no 4 _ (sym met-here ∙ new) ∙ no 5 _ (lt-leb maxVertices (w .n) room)
+      module _ (room : w .n < limit) (at : ℕ) (place : at ≡ offset s (w .link)) where
+        record-code : positionCode limit s (w .n) ≡ firstDue (numberOf (vertexAt s (w .n))) (normalCode (normalAt s (w .n)))
+        unfolding positionCode linkCode
+        record-code = due-on (recordCode s (w .n)) (no 3 _ link-fine ∙ no 4 _ (sym met-here ∙ new) ∙ no (overLimit limit) _ (lt-leb limit (w .n) room))
 
         starts : at ≡ offset s (link s (w .n))
         starts = place ∙ ap (λ (k : ℕ). offset s k) (v .here)
@@ -114,7 +121,7 @@ module _ {s : List ℕ} {w : Progress} (v : Walking s w) where
             ∙ ap (λ (h : Height). vertexOf (recordAt s (offset s (link s (w .n))) (known h)) (heightOf h)) (v .level)
 
         -- the record here is refused
-        pub record-stops : {r : Progress} (k : ℕ) → vertexOf (recordAt s at (known (w .height))) (heightOf (w .height)) ≡ Refused k → r .code ≡ k → Stepped s w r
+        pub record-stops : {r : Progress} (k : ℕ) → vertexOf (recordAt s at (known (w .height))) (heightOf (w .height)) ≡ Refused k → r .code ≡ k → Stepped limit s w r
         record-stops k e c =
             let some = refused-positive s at (known (w .height)) (heightOf (w .height)) k e in
             stopped-by k some (record-code ∙ due-here (normalCode (normalAt s (w .n))) (sym (ap numberOf (sym vertex-here ∙ e))) (λ z. omega arith)) c
@@ -143,18 +150,18 @@ module _ {s : List ℕ} {w : Progress} (v : Walking s w) where
           normal-here : q ≡ normalAt s (w .n)
           normal-here = has-normal ∙ ap (λ (i : ℕ). normalIn s i) starts
 
-          normal-code : {b : Bool} → normalInRange q ≡ b → positionCode s (w .n) ≡ cond b 0 18
+          normal-code : {b : Bool} → normalInRange q ≡ b → positionCode limit s (w .n) ≡ cond b 0 18
           normal-code f =
               record-code ∙ due-on (normalCode (normalAt s (w .n))) (ap numberOf (sym vertex-here ∙ has-vertex))
               ∙ ap normalCode (sym normal-here) ∙ ap (λ (b : Bool). cond b 0 18) f
 
           -- the normal is refused
-          pub normal-stops : {r : Progress} → normalInRange q ≡ false → r .code ≡ 18 → Stepped s w r
+          pub normal-stops : {r : Progress} → normalInRange q ≡ false → r .code ≡ 18 → Stepped limit s w r
           normal-stops f c = stopped-by 18 (omega arith) (normal-code f) c
 
           -- the walk goes on
           pub record-passes : (next : ℕ) → normalInRange q ≡ true → next ≡ u16At s at →
-              Stepped s w (progress (set (w .met) (w .link) true) (Known (toZ w64 (ofZ w64 (p .z)))) p q (w .n + 1) next)
+              Stepped limit s w (progress (set (w .met) (w .link) true) (Known (toZ w64 (ofZ w64 (p .z)))) p q (w .n + 1) next)
           unfolding link
           record-passes next f d =
               let x : Vertexed s at (w .height) p = vertexed s at (w .height) p (v .on-grid) has-vertex in

@@ -50,20 +50,32 @@ pointOf (Refused k) = origin
 abbrev pub normalAt : List ℕ → ℕ → Normal
 normalAt s i = normalIn s (offset s (link s i))
 
--- the first number due at position i, 0 where none is (rule 4.31): 3, 4, 5 on the link that leads there, then 6 to 9 on the record, then 18 on its normal
-unfoldable pub positionCode : List ℕ → ℕ → ℕ
-positionCode s i =
+-- the number of a record that is one too many: 5 at the largest limit, 20 at any other (rules 4.5, 4.20)
+abbrev pub overLimit : ℕ → ℕ
+overLimit limit = cond (eqb limit maxVertices) 5 20
+
+-- the first number due on the link that leads to position i, 0 where none is (rule 4.31): 3, 4, then 5 or 20
+unfoldable pub linkCode : ℕ → List ℕ → ℕ → ℕ
+linkCode limit s i =
     cond (ltb (recordCount s) (link s i)) 3
     (cond (metBefore s i (link s i)) 4
-    (cond (leb maxVertices i) 5
-    (firstDue (numberOf (vertexAt s i)) (normalCode (normalAt s i)))))
+    (cond (leb limit i) (overLimit limit)
+    0))
+
+-- the first number due on the record at position i (rule 4.31): 6 to 9, then 18 on its normal
+abbrev pub recordCode : List ℕ → ℕ → ℕ
+recordCode s i = firstDue (numberOf (vertexAt s i)) (normalCode (normalAt s i))
+
+-- the first number due at position i (rule 4.31): on the link that leads there, then on the record
+unfoldable pub positionCode : ℕ → List ℕ → ℕ → ℕ
+positionCode limit s i = firstDue (linkCode limit s i) (recordCode s i)
 
 -- the first number due from position i on, of k positions, 0 where the chain ends before (rule 4.31)
-unfoldable pub codeFrom : List ℕ → ℕ → ℕ → ℕ
-codeFrom s i zero = 0
-codeFrom s i (suc k) =
-    let rest = codeFrom s (suc i) k in
-    cond (eqb (link s i) 0) 0 (cond (eqb (positionCode s i) 0) rest (positionCode s i))
+unfoldable pub codeFrom : ℕ → List ℕ → ℕ → ℕ → ℕ
+codeFrom limit s i zero = 0
+codeFrom limit s i (suc k) =
+    let rest = codeFrom limit s (suc i) k in
+    cond (eqb (link s i) 0) 0 (cond (eqb (positionCode limit s i) 0) rest (positionCode limit s i))
 
 -- the first position from i on, of k positions, whose link is 0 and ends the chain (rule 1.5)
 unfoldable pub endFrom : List ℕ → ℕ → ℕ → ℕ
@@ -72,9 +84,9 @@ endFrom s i (suc k) =
     let rest = endFrom s (suc i) k in
     cond (eqb (link s i) 0) i rest
 
--- a link after the last vertex that may be is refused unless it is 0, so that one position more is all (rule 4.5)
-abbrev pub chainCode : List ℕ → ℕ
-chainCode s = codeFrom s 0 (suc maxVertices)
+-- under every limit a link after the last vertex that may be is refused unless it is 0, so that one position more is all (rules 4.5, 4.20)
+abbrev pub chainCode : ℕ → List ℕ → ℕ
+chainCode limit s = codeFrom limit s 0 (suc maxVertices)
 
 -- how many vertices the rim has (rule 1.8)
 abbrev pub vertexCount : List ℕ → ℕ

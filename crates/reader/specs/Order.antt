@@ -1,21 +1,35 @@
 -- Where a number can be due on a rim file, which of two comes first, and what the first number due is. Definitions only.
-use Prim.Native.Nat.{ℕ, _<_}
+use Prim.Native.Nat.{ℕ, _≤_, _<_}
 
--- a number is due on the header, at a position of the chain, or on the rim as a whole (rule 4.31)
+-- a number is due on the limit that the caller asks for, on the header, on the link that leads to a position of the chain, on the record there, or on the
+-- rim as a whole (rule 4.31)
 pub data Place : Type 0 where
+  request : Place
   header : Place
-  position : ℕ → Place
+  link-to : ℕ → Place
+  record-at : ℕ → Place
   rim : Place
 
--- number j at one place comes before number k at another (rule 4.31): the header, then the positions in turn, then the rim; at one place by the number
+-- one place comes before another (rule 4.31): the limit, the header, at each position in turn the link and then the record, the rim
+pub data Before : Place → Place → Type 0 where
+  request-header : Before request header
+  request-link : {i : ℕ} → Before request (link-to i)
+  request-record : {i : ℕ} → Before request (record-at i)
+  request-rim : Before request rim
+  header-link : {i : ℕ} → Before header (link-to i)
+  header-record : {i : ℕ} → Before header (record-at i)
+  header-rim : Before header rim
+  link-link : {h i : ℕ} → h < i → Before (link-to h) (link-to i)
+  link-record : {h i : ℕ} → h ≤ i → Before (link-to h) (record-at i)
+  record-link : {h i : ℕ} → h < i → Before (record-at h) (link-to i)
+  record-record : {h i : ℕ} → h < i → Before (record-at h) (record-at i)
+  link-rim : {i : ℕ} → Before (link-to i) rim
+  record-rim : {i : ℕ} → Before (record-at i) rim
+
+-- number j at one place comes before number k at another (rule 4.31): by the place, and at one place by the number
 pub data Precedes : Place → ℕ → Place → ℕ → Type 0 where
-  in-header : {j k : ℕ} → j < k → Precedes header j header k
-  header-position : {i j k : ℕ} → Precedes header j (position i) k
-  header-rim : {j k : ℕ} → Precedes header j rim k
-  earlier-position : {h i j k : ℕ} → h < i → Precedes (position h) j (position i) k
-  in-position : {i j k : ℕ} → j < k → Precedes (position i) j (position i) k
-  position-rim : {i j k : ℕ} → Precedes (position i) j rim k
-  in-rim : {j k : ℕ} → j < k → Precedes rim j rim k
+  by-place : {p q : Place} {j k : ℕ} → Before p q → Precedes p j q k
+  by-number : {p : Place} {j k : ℕ} → j < k → Precedes p j p k
 
 -- k is the first of the numbers that are due (rule 4.31): it is due at a place, and no number that comes before it is
 pub record First (due : Place → ℕ → Type 0) (k : ℕ) : Type 0 where

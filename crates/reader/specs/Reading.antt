@@ -1,9 +1,9 @@
--- The reader's answer: the polygon, or the first number due of 1 to 11 and 18. Definitions only.
+-- The reader's answer: the polygon, or the first number due of 1 to 11, 14, 18 and 20. Definitions only.
 use Prim.Native.Nat.{ℕ, zero, suc}
 use mathlib.Core.Bool.{cond}
 use mathlib.Core.List.{List}
 use lib.Dec.{ltb}
-use Rattle.terms.specs.Limits.{minVertices, maxAreaFactor}
+use Rattle.terms.specs.Limits.{minVertices, maxAreaFactor, countFits}
 use Rattle.polygon.specs.Polygon.{emptyPolygon, firstDue, repeatedVertex}
 use Rattle.polygon.specs.declared.Polygon.{Polygon}
 use Rattle.reader.specs.File.{areaFactor, bendFactor, lengthWrong}
@@ -12,15 +12,19 @@ use Rattle.reader.specs.declared.Status.{Status}
 use Rattle.reader.specs.declared.Status.the-variants.{Complete, Refused}
 use Rattle.reader.specs.declared.Reading.{Reading}
 
--- the first number due of 1 to 11 and 18, 0 where none is (rule 4.31)
-unfoldable pub numberDue : List ℕ → ℕ
-numberDue s =
+-- the first number due on a file, 0 where none is (rule 4.31): of 1 to 11, 18 and 20
+unfoldable pub fileCode : ℕ → List ℕ → ℕ
+fileCode limit s =
     cond (lengthWrong s) 1
     (cond (ltb maxAreaFactor (areaFactor s)) 2
-    (firstDue (chainCode s)
+    (firstDue (chainCode limit s)
     (cond (ltb (vertexCount s) minVertices) 10
     (cond (repeatedVertex (verticesOf s (vertexCount s)) (vertexCount s)) 11
     0))))
+
+-- with the limit that the caller asks for (rules 4.14, 4.31): first 14, where it is not from 3 to 64
+unfoldable pub numberDue : ℕ → List ℕ → ℕ
+numberDue limit s = cond (countFits limit) (fileCode limit s) 14
 
 -- the polygon of a file on which no number is due (rules 1.8, 1.14)
 abbrev pub polygonOf : List ℕ → Polygon
@@ -46,5 +50,5 @@ abbrev pub answer : ℕ → Polygon → Reading
 answer zero p = record { status = Complete; polygon = p }
 answer (suc k) p = refusal (suc k)
 
-abbrev pub readingOf : List ℕ → Reading
-readingOf s = answer (numberDue s) (polygonOf s)
+abbrev pub readingOf : ℕ → List ℕ → Reading
+readingOf limit s = answer (numberDue limit s) (polygonOf s)

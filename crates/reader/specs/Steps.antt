@@ -46,18 +46,18 @@ placed x y z =
 
 -- ---- the walk
 -- no number is due before position n of the chain, and the walk w is there: its marks, its height and its link are those of the positions before n
-pub record Walking (s : List ℕ) (w : Progress) : Type 0 where
+pub record Walking (limit : ℕ) (s : List ℕ) (w : Progress) : Type 0 where
   pub here : w .link ≡ link s (w .n)
   pub marks : length (w .met) ≡ recordNumbers
   pub marked : (k : ℕ) → k < recordNumbers → getD (w .met) k false ≡ metBefore s (w .n) k
   pub level : w .height ≡ heightBefore s (w .n)
   pub on-grid : OnGrid (heightOf (w .height))
-  pub within : w .n ≤ maxVertices
+  pub within : w .n ≤ limit
 
 -- the walk after one position: stopped by the number due there, or past its vertex and its normal
-pub record Stepped (s : List ℕ) (w r : Progress) : Type 0 where
-  pub number : r .code ≡ positionCode s (w .n)
-  pub walking : r .code ≡ 0 → Walking s r
+pub record Stepped (limit : ℕ) (s : List ℕ) (w r : Progress) : Type 0 where
+  pub number : r .code ≡ positionCode limit s (w .n)
+  pub walking : r .code ≡ 0 → Walking limit s r
   pub next : r .code ≡ 0 → r .n ≡ w .n + 1
   pub vertex-is : r .code ≡ 0 → vertexAt s (w .n) ≡ At (r .vertex)
   pub normal-is : r .code ≡ 0 → r .normal ≡ normalAt s (w .n)
@@ -70,5 +70,5 @@ abbrev pub walked : ℕ → ℕ → List ℕ → Chain
 walked zero n s = record { code = 0; n = n; vertices = verticesOf s n; normals = normalsOf s n }
 walked (suc k) n s = stoppedAt (suc k)
 
-abbrev pub chainOf : List ℕ → Chain
-chainOf s = walked (chainCode s) (vertexCount s) s
+abbrev pub chainOf : ℕ → List ℕ → Chain
+chainOf limit s = walked (chainCode limit s) (vertexCount s) s

@@ -1,4 +1,4 @@
-// The rim reader: from the bytes of a rim file to its polygon, or the first number due of 1 to 11 and 18.
+// The rim reader: from the bytes of a rim file to its polygon, of no more vertices than a limit, or the first number due.
 mod bytes;
 pub mod edition;
 pub mod normal;
@@ -6,6 +6,8 @@ mod records;
 mod walk;
 
 ghost use mathlib.Core.Path.{_≡_};
+ghost use mathlib.Core.Bool.{true};
+ghost use Rattle.terms.specs.Limits.{countFits};
 ghost use Rattle.reader.specs.Reading.{refusal, readingOf, statusNumber, numberDue};
 use grid::GridPoint;
 use polygon::Polygon;
@@ -104,9 +106,10 @@ fn refused(code: u32) -> Reading
     }
 }
 
-// The polygon of a rim file, or the first number due of 1 to 11 and 18. Any bytes are taken.
-pub fn read_polygon(file: &[u8]) -> Reading
-    ensures { λ r. ⌜ (r ≡ readingOf (now (file .entry))) × (statusNumber (r .status) ≡ numberDue (now (file .entry))) ⌝ }
+// The polygon of a rim file, or the first number due of 1 to 11, 18 and 20.
+fn read_within(limit: usize, file: &[u8]) -> Reading
+    requires { ⌜ countFits limit ≡ true ⌝ }
+    ensures { λ r. ⌜ r ≡ readingOf limit (now (file .entry)) ⌝ }
 {
     let layout = edition::layout(file);
     if edition::length_wrong(file, layout) {
@@ -116,7 +119,7 @@ pub fn read_polygon(file: &[u8]) -> Reading
     if terms::MAX_AREA_FACTOR < area_factor {
         return refused(codes::AREA_FACTOR);
     }
-    let chain = walk::follow_chain(file, layout);
+    let chain = walk::follow_chain(limit, file, layout);
     let code = chain.code;
     if code != 0 {
         return refused(code);
@@ -141,4 +144,15 @@ pub fn read_polygon(file: &[u8]) -> Reading
             normals,
         },
     }
+}
+
+// The polygon of a rim file of at most so many vertices, or the first number due of 1 to 11, 18 and 20. Any bytes are taken, and a limit from 3 to 64; any
+// other is refused with 14.
+pub fn read_polygon(limit: usize, file: &[u8]) -> Reading
+    ensures { λ r. ⌜ (r ≡ readingOf limit (now (file .entry))) × (statusNumber (r .status) ≡ numberDue limit (now (file .entry))) ⌝ }
+{
+    if !terms::count_fits(limit) {
+        return refused(codes::VERTEX_COUNT);
+    }
+    read_within(limit, file)
 }

@@ -1,7 +1,10 @@
 // The walk along the chain of records.
 ghost use mathlib.Core.Path.{_≡_};
 ghost use mathlib.Core.Bool.{false};
+ghost use Prim.Native.Nat.{ℕ, _≤_};
+ghost use Rattle.terms.specs.Limits.{maxVertices};
 ghost use Rattle.reader.specs.File.{layoutOf, lengthWrong};
+ghost use Rattle.reader.specs.Chain.{overLimit};
 ghost use Rattle.reader.specs.Steps.{Walking, Stepped, chainOf, stoppedAt};
 use crate::Chain;
 use crate::Height;
@@ -28,10 +31,20 @@ fn stopped(code: u32) -> Chain
     }
 }
 
-// The walk before the first position: no record is met.
+// The number of a record that is one too many.
+fn over_limit(limit: usize) -> u32
+    ensures { λ r. ⌜ r ≡ overLimit limit ⌝ }
+{
+    if limit == terms::MAX_VERTICES {
+        return codes::TOO_MANY_VERTICES;
+    }
+    codes::OVER_LIMIT
+}
+
+// The walk before the first position, whatever the limit: no record is met.
 fn start(file: &[u8], layout: Layout) -> Progress
     requires { ⌜ (layout ≡ layoutOf (now file)) × (lengthWrong (now file) ≡ false) ⌝ }
-    ensures { λ r. ⌜ (Walking (now (file .entry)) r) × (r .n ≡ 0) ⌝ }
+    ensures { λ r. ⌜ ((limit : ℕ) → Walking limit (now (file .entry)) r) × (r .n ≡ 0) ⌝ }
 {
     let met = [false; crate::MARKS];
     Progress {
@@ -54,9 +67,9 @@ fn stop(walk: Progress, code: u32) -> Progress
 }
 
 // One position of the chain: the walk past its record, or stopped by the first number due there.
-fn step(file: &[u8], layout: Layout, walk: Progress) -> Progress
-    requires { ⌜ (layout ≡ layoutOf (now file)) × (lengthWrong (now file) ≡ false) × (Walking (now file) walk) × (walk .link ≡ 0 → ⊥) ⌝ }
-    ensures { λ r. ⌜ Stepped (now (file .entry)) walk r ⌝ }
+fn step(limit: usize, file: &[u8], layout: Layout, walk: Progress) -> Progress
+    requires { ⌜ (layout ≡ layoutOf (now file)) × (lengthWrong (now file) ≡ false) × (Walking limit (now file) walk) × (walk .link ≡ 0 → ⊥) × (limit ≤ maxVertices) ⌝ }
+    ensures { λ r. ⌜ Stepped limit (now (file .entry)) walk r ⌝ }
 {
     let link = walk.link;
     let n = walk.n;
@@ -69,8 +82,8 @@ fn step(file: &[u8], layout: Layout, walk: Progress) -> Progress
     if met[link] {
         return stop(walk, codes::RECORD_REPEATED);
     }
-    if n == terms::MAX_VERTICES {
-        return stop(walk, codes::TOO_MANY_VERTICES);
+    if n == limit {
+        return stop(walk, over_limit(limit));
     }
     let at = edition::record_start(layout, link);
     match records::vertex_at(file, at, height) {
@@ -94,17 +107,17 @@ fn step(file: &[u8], layout: Layout, walk: Progress) -> Progress
     }
 }
 
-// The vertices of the chain and their normals, or the first number due along it.
-pub fn follow_chain(file: &[u8], layout: Layout) -> Chain
-    requires { ⌜ (layout ≡ layoutOf (now file)) × (lengthWrong (now file) ≡ false) ⌝ }
-    ensures { λ r. ⌜ r ≡ chainOf (now (file .entry)) ⌝ }
+// The vertices of a chain of at most so many and their normals, or the first number due along it.
+pub fn follow_chain(limit: usize, file: &[u8], layout: Layout) -> Chain
+    requires { ⌜ (layout ≡ layoutOf (now file)) × (lengthWrong (now file) ≡ false) × (limit ≤ maxVertices) ⌝ }
+    ensures { λ r. ⌜ r ≡ chainOf limit (now (file .entry)) ⌝ }
 {
     let mut vertices = [GridPoint { x: 0, y: 0, z: 0 }; terms::MAX_VERTICES];
     let mut normals = [Normal { x: 0, y: 0, z: 0 }; terms::MAX_VERTICES];
     let mut walk = start(file, layout);
     while walk.link != 0 {
         let n = walk.n;
-        walk = step(file, layout, walk);
+        walk = step(limit, file, layout, walk);
         let code = walk.code;
         if code != 0 {
             return stopped(code);

@@ -5,7 +5,8 @@ use Prim.Native.Nat.{ℕ, _≤_}
 use native.Mathlib.Omega.{arith}
 use borrow.Author.Tests.{leb-true, le-leb, lt-leb}
 use Rattle.lists.proofs.Choice.{yes, no, both-left}
-use Rattle.jobs.specs.Job.{countFits, countCode, jobCode}
+use Rattle.terms.specs.Limits.{countFits}
+use Rattle.jobs.specs.Job.{countCode, jobCode}
 use Rattle.jobs.proofs.First.{unless-zero, unless-fails}
 use borrow.Author.Needs.{needs}
 use Rattle.jobs.proofs.job_code.Statement.{statement}

@@ -9,19 +9,19 @@ use Rattle.reader.proofs.walk.follow_chain.Statement.{statement}
 use Rattle.reader.proofs.walk.follow_chain.Tie as tie
 
 abbrev Inv-loop : tie.InvT-loop
-Inv-loop file layout vertices₀ normals₀ walk₀ vertices normals walk = Following file vertices normals walk
+Inv-loop limit file layout vertices₀ normals₀ walk₀ vertices normals walk = Following limit file vertices normals walk
 
 abbrev μ-loop : tie.MeasureT-loop
-μ-loop file layout vertices₀ normals₀ walk₀ vertices normals walk = suc maxVertices - walk .n
+μ-loop limit file layout vertices₀ normals₀ walk₀ vertices normals walk = suc maxVertices - walk .n
 
 start-requires : tie.Need-start-requires Inv-loop μ-loop
-start-requires c κs = c .before .pre
+start-requires c κs = (c .before .pre .0, c .before .pre .1)
 
 loop-holds : tie.Need-loop-holds Inv-loop μ-loop
-loop-holds c = following-start (c .start .ensures .0) (c .start .ensures .1)
+loop-holds c = following-start (c .before .before .pre .2) (c .start .ensures .0 _) (c .start .ensures .1)
 
 step-requires : tie.Need-step-requires Inv-loop μ-loop
-step-requires c κs = (c .before .before .before .before .before .pre .0, c .before .before .before .before .before .pre .1, c .before .before .loop .inv .walking, c .if1 .taken)
+step-requires c κs = (c .before .before .before .before .before .pre .0, c .before .before .before .before .before .pre .1, c .before .before .loop .inv .walking, c .if1 .taken, c .before .before .before .before .before .pre .2)
 
 stopped-requires : tie.Need-stopped-requires Inv-loop μ-loop
 stopped-requires c κs = search needs
@@ -32,13 +32,13 @@ returns c =
     c .stopped .ensures ∙ following-stopped (at .loop .inv) (c .before .before .before .if1 .taken) (c .before .before .step .ensures) (c .before .if2 .taken)
 
 mul-vertices : tie.Need-mul-vertices Inv-loop μ-loop
-mul-vertices c = let w = c .before .before .before .before .before .loop .inv .walking in record { fits = omega (arith, w .within) }
+mul-vertices c = let f = c .before .before .before .before .before .loop .inv in record { fits = omega (arith, f .walking .within, f .small) }
 
 array-set-from-vertices : tie.Need-array-set-from-vertices Inv-loop μ-loop
 array-set-from-vertices c = room (c .before .before .before .before .before .loop .inv) (c .before .before .before .if1 .taken) (c .before .before .step .ensures) (c .before .if2 .left)
 
 mul-normals : tie.Need-mul-normals Inv-loop μ-loop
-mul-normals c = let w = c .before .before .before .before .before .before .loop .inv .walking in record { fits = omega (arith, w .within) }
+mul-normals c = let f = c .before .before .before .before .before .before .loop .inv in record { fits = omega (arith, f .walking .within, f .small) }
 
 array-set-from-normals : tie.Need-array-set-from-normals Inv-loop μ-loop
 array-set-from-normals c = room (c .before .before .before .before .before .before .loop .inv) (c .before .before .before .before .if1 .taken) (c .before .before .before .step .ensures) (c .before .before .if2 .left)
@@ -47,7 +47,7 @@ loop-less : tie.Need-loop-less Inv-loop μ-loop
 loop-less c =
     let at = c .before .before .before .before .before .before in
     let e = c .before .before .before .step .ensures in
-    omega (arith, e .next (c .before .before .if2 .left), at .loop .inv .walking .within)
+    omega (arith, e .next (c .before .before .if2 .left), at .loop .inv .walking .within, at .loop .inv .small)
 
 loop-again : tie.Need-loop-again Inv-loop μ-loop
 loop-again c = following-next (c .before .before .before .before .before .before .loop .inv) (c .before .before .before .before .if1 .taken) (c .before .before .before .step .ensures) (c .before .before .if2 .left)

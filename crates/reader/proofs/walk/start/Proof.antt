@@ -20,7 +20,7 @@ cast-t8 c = search needs
 returns : tie.Need-returns
 returns c =
     let s = now (c .before .before .args .file) in
-    (walking-start s _ (c .u16-at .ensures .0 ∙ ap (λ (h : ℕ). u16At s h) (header-as s (c .before .before .pre .0))), refl)
+    ((λ limit. walking-start limit s _ (c .u16-at .ensures .0 ∙ ap (λ (h : ℕ). u16At s h) (header-as s (c .before .before .pre .0)))), refl)
 
 pub start-spec : {M : Type 1} → statement M
 start-spec = tie.close (tie.spec u16-at-requires cast-t8 returns)

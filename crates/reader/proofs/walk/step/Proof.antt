@@ -4,9 +4,11 @@ use native.Mathlib.Omega.{arith}
 use mathlib.Core.Path.{sym, _∙_}
 use denote.Ref.{now}
 use Rattle.lists.proofs.Choice.{fails-via, holds-via}
+use Rattle.reader.specs.Chain.{overLimit}
+use Rattle.reader.proofs.Answers.{over-positive}
 use Rattle.reader.proofs.Layouts.{bounds, header-as, size-as, start-as}
 use Rattle.reader.proofs.Lengths.{whole, record-held}
-use Rattle.reader.proofs.Walking.{positive, below-limit, stopped-by, link-due, repeated-due, too-many-due, record-stops, normal-stops, record-passes}
+use Rattle.reader.proofs.Walking.{positive, below-limit, stopped-by, link-due, repeated-due, over-due, record-stops, normal-stops, record-passes}
 use Rattle.reader.proofs.walk.step.Statement.{statement}
 use Rattle.reader.proofs.walk.step.Tie as tie
 
@@ -38,16 +40,19 @@ returns-2 c =
     (repeated-due (s .pre .2) (omega (arith, past .before .record-count .ensures .0, past .if1 .left)) (whole _ (s .pre .1) .few) (c .before .if2 .taken))
     (c .stop2 .ensures)
 
+over-limit-requires : tie.Need-over-limit-requires
+over-limit-requires c κs = search needs
+
 stop-requires-3 : tie.Need-stop-requires-3
 stop-requires-3 c κs = search needs
 
 returns-3 : tie.Need-returns-3
 returns-3 c =
-    let past = c .before .before .before in
+    let past = c .before .before .before .before in
     let s = past .before .before .before .before in
-    stopped-by (s .pre .2) 5 (omega arith)
-    (too-many-due (s .pre .2) (omega (arith, past .before .record-count .ensures .0, past .if1 .left)) (whole _ (s .pre .1) .few) (c .before .before .if2 .left) (c .before .if3 .taken))
-    (c .stop3 .ensures)
+    stopped-by (s .pre .2) (overLimit (s .args .limit)) (over-positive (s .args .limit))
+    (over-due (s .pre .2) (omega (arith, past .before .record-count .ensures .0, past .if1 .left)) (whole _ (s .pre .1) .few) (c .before .before .before .if2 .left) (c .before .before .if3 .taken))
+    (c .stop3 .ensures ∙ c .before .over-limit .ensures)
 
 record-start-requires : tie.Need-record-start-requires
 record-start-requires c κs =
@@ -101,8 +106,8 @@ array-write-met c =
     let w = whole _ (s .pre .1) in
     omega (arith, w .few, past .before .record-count .ensures .0, past .if1 .left)
 
-add-t25 : tie.Need-add-t25
-add-t25 c = search needs
+add-t27 : tie.Need-add-t27
+add-t27 c = search needs
 
 u16-at-requires : tie.Need-u16-at-requires
 u16-at-requires c κs =
@@ -110,8 +115,8 @@ u16-at-requires c κs =
     let s = past .before .before .before .before in
     omega (arith, c .before .before .before .before .before .before .before .before .record-start .ensures, bounds (now (s .args .file)) .least, record-held _ (s .pre .0) (whole _ (s .pre .1)) (s .args .walk .link) (positive _ (s .pre .3)) (omega (arith, past .before .record-count .ensures .0, past .if1 .left)))
 
-cast-t27 : tie.Need-cast-t27
-cast-t27 c = search needs
+cast-t29 : tie.Need-cast-t29
+cast-t29 c = search needs
 
 returns-5 : tie.Need-returns-5
 returns-5 c =
@@ -142,6 +147,7 @@ step-spec =
     array-read-if2
     stop-requires-2
     returns-2
+    over-limit-requires
     stop-requires-3
     returns-3
     record-start-requires
@@ -154,8 +160,8 @@ step-spec =
     stop-requires-5
     returns-4
     array-write-met
-    add-t25
+    add-t27
     u16-at-requires
-    cast-t27
+    cast-t29
     returns-5
     returns-6)
