@@ -147,7 +147,7 @@ pub struct Places {
 }
 
 impl Places {
-    /// The tables of the bench program (rule 5.3).
+    /// The tables of the bench program (rule 5.3) and of the trim program.
     pub const BENCH: Places =
         Places { triangles: 62, candidates: 1024, weights: 1024, rows: 4096, work: 1024 };
 
@@ -212,7 +212,10 @@ pub struct Job {
 
 /// What the library does, and each reference too.
 pub trait Calls {
-    fn name(&self) -> &'static str;
+    fn name(&self) -> String;
+
+    /// The same calls with a limit asked for, which a direct job and a conversion do not have.
+    fn within(&self, limit: usize) -> Box<dyn Calls>;
 
     /// The one call over all three stages.
     fn patch_rim(&self, file: &[u8], tables: &mut Tables) -> PatchAnswer;
@@ -226,7 +229,7 @@ pub trait Calls {
     /// The reader and the finder; the triangle and work tables are not lent.
     fn find_candidates(&self, file: &[u8], tables: &mut Tables) -> FindAnswer;
 
-    /// The places that the tables of a file need, or the number due of 1 to 12 and 18.
+    /// The places that the tables of a file need, or the number due, which is never 13.
     fn sizes(&self, file: &[u8]) -> Result<Places, u32>;
 
     /// Conversion between editions: the file in the other one, in the first places of a table.

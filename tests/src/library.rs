@@ -1,7 +1,7 @@
 //! The library itself, through the calls of hosts in Rust.
 
 use crate::calls::Calls;
-use crate::fast::Fast;
+use crate::fast::FAST;
 use crate::law::BY_SETS;
 
 #[cfg(feature = "library")]
@@ -11,7 +11,10 @@ mod linked {
     };
     use patch_box::{Number, Outcome};
 
-    pub struct Library;
+    /// The calls with a limit, or those without one.
+    pub struct Library {
+        pub limit: Option<usize>,
+    }
 
     fn patch_answer(result: Result<Outcome, Number>) -> PatchAnswer {
         match result {
@@ -22,8 +25,12 @@ mod linked {
     }
 
     impl Calls for Library {
-        fn name(&self) -> &'static str {
-            "library"
+        fn name(&self) -> String {
+            self.limit.map_or("library".into(), |limit| format!("library within {limit}"))
+        }
+
+        fn within(&self, limit: usize) -> Box<dyn Calls> {
+            Box::new(Library { limit: Some(limit) })
         }
 
         fn patch_rim(&self, file: &[u8], tables: &mut Tables) -> PatchAnswer {
@@ -34,7 +41,10 @@ mod linked {
                 rows: tables.rows.table(),
                 work: tables.work.table(),
             };
-            patch_answer(patch_box::rim(file, tables))
+            patch_answer(match self.limit {
+                None => patch_box::rim(file, tables),
+                Some(limit) => patch_box::rim_within(limit, file, tables),
+            })
         }
 
         fn patch_job(&self, n: usize, tables: &mut Tables) -> PatchAnswer {
@@ -49,7 +59,11 @@ mod linked {
         }
 
         fn read_rim(&self, file: &[u8]) -> ReadAnswer {
-            match patch_box::read(file) {
+            let read = match self.limit {
+                None => patch_box::read(file),
+                Some(limit) => patch_box::read_within(limit, file),
+            };
+            match read {
                 Err(number) => ReadAnswer { number: number.code(), vertices: 0 },
                 Ok(vertices) => ReadAnswer { number: 0, vertices },
             }
@@ -59,7 +73,11 @@ mod linked {
             let candidates = tables.candidates.table();
             let weights = tables.weights.table();
             let rows = tables.rows.table();
-            match patch_box::find(file, candidates, weights, rows) {
+            let found = match self.limit {
+                None => patch_box::find(file, candidates, weights, rows),
+                Some(limit) => patch_box::find_within(limit, file, candidates, weights, rows),
+            };
+            match found {
                 Err(number) => FindAnswer { number: number.code(), candidates: 0, rows: 0 },
                 Ok(patch_box::Found { candidates, rows }) => {
                     FindAnswer { number: 0, candidates, rows }
@@ -68,8 +86,12 @@ mod linked {
         }
 
         fn sizes(&self, file: &[u8]) -> Result<Places, u32> {
-            let sizes = patch_box::sizes(file).map_err(Number::code)?;
-            let patch_box::Sizes { triangles, candidates, weights, rows, work } = sizes;
+            let sizes = match self.limit {
+                None => patch_box::sizes(file),
+                Some(limit) => patch_box::sizes_within(limit, file),
+            };
+            let patch_box::Sizes { triangles, candidates, weights, rows, work } =
+                sizes.map_err(Number::code)?;
             Ok(Places { triangles, candidates, weights, rows, work })
         }
 
@@ -86,7 +108,7 @@ mod linked {
 
 #[cfg(feature = "library")]
 pub fn library() -> Option<&'static dyn Calls> {
-    Some(&linked::Library)
+    Some(&linked::Library { limit: None })
 }
 
 /// The library, where the package is built with it.
@@ -97,10 +119,15 @@ pub fn library() -> Option<&'static dyn Calls> {
 
 /// What the tests judge: the library, and the fast reference where it is not linked.
 pub fn under_test() -> &'static dyn Calls {
-    library().unwrap_or(&Fast)
+    library().unwrap_or(&FAST)
 }
 
 /// The plain search, the fast reference and what is under test.
 pub fn each() -> [&'static dyn Calls; 3] {
-    [&BY_SETS, &Fast, under_test()]
+    [&BY_SETS, &FAST, under_test()]
+}
+
+/// The same three with a limit.
+pub fn each_within(limit: usize) -> [Box<dyn Calls>; 3] {
+    each().map(|calls| calls.within(limit))
 }

@@ -3,7 +3,7 @@
 
 use outside_tests::calls::{Calls, Job, PatchAnswer, Places, Tables, Triangle};
 use outside_tests::fast::weights::Weights;
-use outside_tests::fast::{self, Fast};
+use outside_tests::fast::{self, FAST};
 use outside_tests::jobs::job_of;
 use outside_tests::law::finder::own_weight;
 use outside_tests::law::{self, reader::Rim};
@@ -85,7 +85,7 @@ fn rim(n: usize, random: &mut Random) -> Vec<Point> {
     let shape = random.one_of(&[Shape::Saddle, Shape::NoisyCircle, Shape::Scattered]);
     let size = random.one_of(&[60, 1000]);
     let points = shape.points(n, size, random);
-    match Fast.sizes(&RimFile::plain(&points, 1, 1).bytes()) {
+    match FAST.sizes(&RimFile::plain(&points, 1, 1).bytes()) {
         Ok(sizes) if sizes.candidates > 0 => points,
         _ => rim(n, random),
     }

@@ -2,7 +2,7 @@
 
 use outside_tests::calls::{Job, Places, Tables};
 use outside_tests::comparison::{compare_job, compare_rim};
-use outside_tests::fast::Fast;
+use outside_tests::fast::FAST;
 use outside_tests::jobs::random_job;
 use outside_tests::law::finder::{centre, squared_distance};
 use outside_tests::law::grid::{grid_number, GridNumber};
@@ -94,7 +94,7 @@ fn all_triples_have_as_many_tilings_as_the_catalan_numbers() {
 fn two_against_sets(job: &Job) {
     let places = [job.n - 2, job.candidates.len()];
     compare_job(&BY_SETS, &BY_INTERVALS, job, places);
-    compare_job(&BY_SETS, &Fast, job, places);
+    compare_job(&BY_SETS, &FAST, job, places);
 }
 
 #[test]
@@ -120,7 +120,7 @@ fn rims_by_sets_by_intervals_and_fast() {
             let points = random.one_of(&Shape::ALL).points(n, 60, &mut random);
             let file = RimFile::varied(&points, [1, 1], &mut random).bytes();
             compare_rim(&BY_SETS, &BY_INTERVALS, &file, &tables);
-            compare_rim(&BY_SETS, &Fast, &file, &tables);
+            compare_rim(&BY_SETS, &FAST, &file, &tables);
         }
     }
 }

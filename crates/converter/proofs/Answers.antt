@@ -7,6 +7,7 @@ use native.Mathlib.Omega.{arith}
 use lib.ListN.{length}
 use Rattle.lists.specs.Lists.{filled}
 use Rattle.polygon.specs.Polygon.{firstDue}
+use Rattle.terms.specs.Limits.{maxVertices}
 use Rattle.reader.specs.File.{lengthWrong}
 use Rattle.reader.specs.Reading.{polygonOf, answer, readingOf, statusNumber}
 use Rattle.reader.specs.Reading as reader
@@ -48,18 +49,18 @@ module _ (file out : List ℕ) where
   call-values e = ap (λ (x : Converting). valuesOf (x .answer)) e ∙ by-values (numberDue file out)
 
   -- the call, by the reader's answer
-  pub call-refused : {k : ℕ} → readingOf file .status ≡ status.Refused k → converting (Refused k) out ≡ convertCall file out
+  pub call-refused : {k : ℕ} → readingOf maxVertices file .status ≡ status.Refused k → converting (Refused k) out ≡ convertCall file out
   unfolding convertCall
-  call-refused {k} e = by (reader.numberDue file) refl e
+  call-refused {k} e = by (reader.numberDue maxVertices file) refl e
     where
-      by : (n : ℕ) → reader.numberDue file ≡ n → answer n (polygonOf file) .status ≡ status.Refused k → converting (Refused k) out ≡ convertCall file out
+      by : (n : ℕ) → reader.numberDue maxVertices file ≡ n → answer n (polygonOf file) .status ≡ status.Refused k → converting (Refused k) out ≡ convertCall file out
       by zero d f = absurd (let z : _≡_ {A = ℕ} 0 1 = cc in omega arith)
       by (suc j) d f =
           let g : k ≡ suc j = cc in
           ap (λ (i : ℕ). converting (Refused i) out) g
           ∙ sym (ap (λ (i : ℕ). convertBy (firstDue i (conversionNumber file out)) file out) d)
 
-  pub call-read : reader.numberDue file ≡ 0 → convertBy (conversionNumber file out) file out ≡ convertCall file out
+  pub call-read : reader.numberDue maxVertices file ≡ 0 → convertBy (conversionNumber file out) file out ≡ convertCall file out
   unfolding convertCall
   call-read e = sym (ap (λ (i : ℕ). convertBy (firstDue i (conversionNumber file out)) file out) e)
 
@@ -69,8 +70,8 @@ module _ (file out : List ℕ) where
   promised e = (e, call-values e)
 
 -- a file that is read
-pub read-zero : (file : List ℕ) → readingOf file .status ≡ status.Complete → reader.numberDue file ≡ 0
-read-zero file e = sym (number-is file) ∙ ap statusNumber e
+pub read-zero : (file : List ℕ) → readingOf maxVertices file .status ≡ status.Complete → reader.numberDue maxVertices file ≡ 0
+read-zero file e = sym (number-is maxVertices file) ∙ ap statusNumber e
 
-pub right-length : (file : List ℕ) → reader.numberDue file ≡ 0 → lengthWrong file ≡ false
-right-length file e = no-number-read file e .right
+pub right-length : (file : List ℕ) → reader.numberDue maxVertices file ≡ 0 → lengthWrong file ≡ false
+right-length file e = no-number-read maxVertices file e .right

@@ -11,6 +11,7 @@ use lib.ListN.{length}
 use Rattle.lists.proofs.Writing.{filled-first}
 use Rattle.polygon.specs.Polygon.{firstDue}
 use Rattle.polygon.proofs.Codes.{due-neither}
+use Rattle.terms.specs.Limits.{maxVertices}
 use Rattle.reader.specs.File.{Bytes, isEdition2}
 use Rattle.reader.specs.Editions.{SameRim}
 use Rattle.reader.specs.Reading.{readingOf}
@@ -26,11 +27,11 @@ use Rattle.converter.proofs.Numbers.{call-by, number-given}
 
 -- ---- a call that takes its file
 module _ (file out : List ℕ) (taken : numberOf (convertCall file out .answer) ≡ 0) where
-  due-none : (reader.numberDue file ≡ 0) × (conversionNumber file out ≡ 0)
-  due-none = due-neither (reader.numberDue file) _ (sym (number-given file out) ∙ taken)
+  due-none : (reader.numberDue maxVertices file ≡ 0) × (conversionNumber file out ≡ 0)
+  due-none = due-neither (reader.numberDue maxVertices file) _ (sym (number-given file out) ∙ taken)
 
-  read : Read file
-  read = no-number-read file (due-none .0)
+  read : Read maxVertices file
+  read = no-number-read maxVertices file (due-none .0)
 
   kept : normalLost file ≡ false
   kept = not-lost (ltb (length out) (length (converted file))) (normalLost file) (due-none .1)
@@ -48,9 +49,9 @@ module _ (file out : List ℕ) (taken : numberOf (convertCall file out .answer) 
   pub same-rim : SameRim (handedOver (convertCall file out)) file
   same-rim = subst (λ (t : List ℕ). SameRim t file) (sym handed-over) (converted-rim file read kept)
 
-  -- so that the reader answers alike
-  pub same-reading : readingOf (handedOver (convertCall file out)) ≡ readingOf file
-  same-reading = reading-same same-rim
+  -- so that the reader answers alike, with any limit
+  pub same-reading : (limit : ℕ) → readingOf limit (handedOver (convertCall file out)) ≡ readingOf limit file
+  same-reading limit = reading-same same-rim limit
 
   -- ---- and back
   module _ (bytes : Bytes file) (out′ : List ℕ) (room : length file ≤ length out′) where
@@ -59,7 +60,7 @@ module _ (file out : List ℕ) (taken : numberOf (convertCall file out .answer) 
         let rim = converted-rim file read kept in
         let short = le-ltb (length out′) (length (converted (converted file))) (omega (arith, ap length (there-and-back file read bytes kept))) in
         let lost = nothing-lost (converted file) (λ k h l. rim .normals k h l ∙ none-lost file kept k h (omega (arith, rim .count))) in
-        let number = number-same rim ∙ due-none .0 in
+        let number = number-same rim maxVertices ∙ due-none .0 in
         λ i. firstDue (number i) (conversionCode (short i) (lost i))
 
     -- what was handed over is taken again, wherever there is room

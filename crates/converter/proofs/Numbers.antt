@@ -16,9 +16,10 @@ use Rattle.polygon.specs.Normal.{noNormal, isNone}
 use Rattle.polygon.specs.Polygon.{firstDue}
 use Rattle.polygon.specs.declared.normal.Normal.{Normal}
 use Rattle.polygon.proofs.Normals.{none-is}
+use Rattle.terms.specs.Limits.{maxVertices}
 use Rattle.reader.specs.File.{isEdition2, recordCount, offset}
 use Rattle.reader.specs.Record.{heldNormal, normalIn}
-use Rattle.reader.specs.Order.{Place, rim, Precedes, in-rim, First, NoneDue}
+use Rattle.reader.specs.Order.{Place, rim, Precedes, by-number, First, NoneDue}
 use Rattle.reader.specs.Due.{InFile, DueAt, too-few, vertex-repeated}
 use Rattle.reader.specs.Reading as reader
 use Rattle.reader.proofs.Layouts.{record-within}
@@ -34,7 +35,7 @@ use Rattle.converter.proofs.Answers.{right-length}
 
 -- ---- 19, as a test and as a statement
 module _ (file out : List ℕ) where
-  pub lost-due : reader.numberDue file ≡ 0 → normalLost file ≡ true → ConvertDue file out rim 19
+  pub lost-due : reader.numberDue maxVertices file ≡ 0 → normalLost file ≡ true → ConvertDue file out rim 19
   unfolding normalLost
   lost-due e lost = due (some-found 1 (suc (recordCount file)) (λ k. not (isNone (normalIn file (offset file k)))) lost)
     where
@@ -62,14 +63,14 @@ module _ (file out : List ℕ) where
 
 -- ---- the reader's numbers come first
 module _ (file out : List ℕ) where
-  rim-most : (n : ℕ) → DueAt file rim n → n ≤ 11
+  rim-most : (n : ℕ) → DueAt maxVertices file rim n → n ≤ 11
   rim-most _ (too-few i has e l) = omega arith
   rim-most _ (vertex-repeated i j p l has a b) = omega arith
 
-  later : (q : Place) (n j : ℕ) → DueAt file q n → Precedes rim j q n → 11 < j → ⊥
-  later _ n j d (in-rim l) h = omega (arith, rim-most n d)
+  later : (q : Place) (n j : ℕ) → DueAt maxVertices file q n → Precedes rim j q n → 11 < j → ⊥
+  later _ n j d (by-number l) h = omega (arith, rim-most n d)
 
-  reader-first : (k : ℕ) → First (DueAt file) (suc k) → First (ConvertDue file out) (suc k)
+  reader-first : (k : ℕ) → First (DueAt maxVertices file) (suc k) → First (ConvertDue file out) (suc k)
   reader-first k f = record { place = f .place; is-due = by-reader (f .is-due); none-before = before }
     where
       before : (p : Place) (j : ℕ) → Precedes p j (f .place) (suc k) → ConvertDue file out p j → ⊥
@@ -81,9 +82,9 @@ module _ (file out : List ℕ) where
   abbrev Decided : Type 0
   Decided = Verdict (ConvertDue file out) (numberDue file out)
 
-  module _ (e : reader.numberDue file ≡ 0) where
-    no-reader : (p : Place) (k : ℕ) → DueAt file p k → ⊥
-    no-reader p k d = read-none file (no-number-read file e) .none p k d
+  module _ (e : reader.numberDue maxVertices file ≡ 0) where
+    no-reader : (p : Place) (k : ℕ) → DueAt maxVertices file p k → ⊥
+    no-reader p k d = read-none maxVertices file (no-number-read maxVertices file e) .none p k d
 
     number-is : numberDue file out ≡ conversionNumber file out
     number-is = ap (λ (k : ℕ). firstDue k (conversionNumber file out)) e
@@ -95,8 +96,8 @@ module _ (file out : List ℕ) where
       where
         before : (p : Place) (j : ℕ) → Precedes p j rim 13 → ConvertDue file out p j → ⊥
         before p j h (by-reader d) = no-reader p j d
-        before _ _ (in-rim l) (thirteen right short) = omega arith
-        before _ _ (in-rim l) (nineteen k in-file two some) = omega arith
+        before _ _ (by-number l) (thirteen right short) = omega arith
+        before _ _ (by-number l) (nineteen k in-file two some) = omega arith
     decided (fails a) (holds b) =
         first-due 18 (record { place = rim; is-due = lost-due file out e b; none-before = before })
         (number-is ∙ no _ _ a ∙ yes _ _ b)
@@ -104,7 +105,7 @@ module _ (file out : List ℕ) where
         before : (p : Place) (j : ℕ) → Precedes p j rim 19 → ConvertDue file out p j → ⊥
         before p j h (by-reader d) = no-reader p j d
         before p j h (thirteen right short) = omega (arith, ltb-false (length out) (length (converted file)) a)
-        before _ _ (in-rim l) (nineteen k in-file two some) = omega arith
+        before _ _ (by-number l) (nineteen k in-file two some) = omega arith
     decided (fails a) (fails b) =
         none-due (record { none = nothing })
         (number-is ∙ no _ _ a ∙ no _ _ b)
@@ -115,12 +116,12 @@ module _ (file out : List ℕ) where
         nothing p k (nineteen i in-file two some) = true-not-false (due-lost file out i in-file two some) b
 
   verdict : Decided
-  verdict = by (reader.numberDue file) refl
+  verdict = by (reader.numberDue maxVertices file) refl
     where
-      by : (k : ℕ) → reader.numberDue file ≡ k → Decided
+      by : (k : ℕ) → reader.numberDue maxVertices file ≡ k → Decided
       by zero e = decided e (truth (ltb (length out) (length (converted file)))) (truth (normalLost file))
       by (suc k) e =
-          first-due k (reader-first k (number-first file k e))
+          first-due k (reader-first k (number-first maxVertices file k e))
           (ap (λ (j : ℕ). firstDue j (conversionNumber file out)) e)
 
   -- ---- the call
@@ -128,13 +129,13 @@ module _ (file out : List ℕ) where
   unfolding convertCall
   call-by k e = ap (λ (n : ℕ). convertBy n file out) e
 
-  by-number : (k : ℕ) → numberOf (convertBy k file out .answer) ≡ k
-  by-number zero = refl
-  by-number (suc k) = refl
+  number-of : (k : ℕ) → numberOf (convertBy k file out .answer) ≡ k
+  number-of zero = refl
+  number-of (suc k) = refl
 
   -- the number of the answer is that of the tests
   pub number-given : numberOf (convertCall file out .answer) ≡ numberDue file out
-  number-given = ap (λ (c : Converting). numberOf (c .answer)) (call-by (numberDue file out) refl) ∙ by-number (numberDue file out)
+  number-given = ap (λ (c : Converting). numberOf (c .answer)) (call-by (numberDue file out) refl) ∙ number-of (numberDue file out)
 
   -- one number is the first that is due, or none is due
   pub first-or-none : ((k : ℕ) × First (ConvertDue file out) k) ⊎ NoneDue (ConvertDue file out)

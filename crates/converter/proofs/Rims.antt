@@ -12,6 +12,7 @@ use Rattle.lists.proofs.Ranges.{some-none, some-nowhere}
 use Rattle.polygon.specs.Normal.{normal, noNormal, isNone}
 use Rattle.polygon.specs.declared.normal.Normal.{Normal}
 use Rattle.polygon.proofs.Normals.{none-is}
+use Rattle.terms.specs.Limits.{maxVertices}
 use Rattle.reader.specs.File.{u16At, signed16, i16At, isEdition2, marker, recordSize1, headerStart, recordSize, firstRecord, recordCount, lengthWrong, offset}
 use Rattle.reader.specs.Record.{normalIn}
 use Rattle.reader.specs.Chain.{link}
@@ -134,11 +135,11 @@ module _ (s : List ℕ) (w : Whole s) where
         (λ k h l. normal-1 lowered (offset lowered k) lowered-edition ∙ sym (none-lost s none k h l)) right
 
 -- ---- a file that the reader takes
-module _ (s : List ℕ) (r : Read s) where
+module _ (s : List ℕ) (r : Read maxVertices s) where
   -- its chain starts with a record of the file, of which there are at most 256
   pub first-small : firstRecord s < marker
   unfolding link
-  first-small = let f = read-end s r .has .in-file 0 (omega (arith, r .enough)) in omega (arith, f .counted, whole s (r .right) .few)
+  first-small = let f = read-end maxVertices s r .has .in-file 0 (omega (arith, r .enough)) in omega (arith, f .counted, whole s (r .right) .few)
 
   -- converted, it has its other edition
   pub converted-edition : isEdition2 (converted s) ≡ not (isEdition2 s)

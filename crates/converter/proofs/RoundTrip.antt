@@ -13,6 +13,7 @@ use Rattle.lists.proofs.Parts.{over-same}
 use Rattle.lists.proofs.Pieces.{cut-pieces}
 use Rattle.polygon.specs.Normal.{noNormal}
 use Rattle.polygon.specs.declared.normal.Normal.{Normal}
+use Rattle.terms.specs.Limits.{maxVertices}
 use Rattle.reader.specs.File.{Bytes, u16At, i16At, isEdition2, marker, headerSize, recordSize1, headerStart, recordSize, recordCount, offset}
 use Rattle.reader.specs.Record.{heldNormal, normalIn}
 use Rattle.reader.proofs.Layouts.{bounds, start-1, start-2, size-1, size-2, record-within}
@@ -135,7 +136,7 @@ module _ (s : List ℕ) (w : Whole s) (bytes : Bytes s) (two : isEdition2 s ≡ 
       (λ j h. let m : j < 6 = omega arith in bytes-at s (at + recordSize1) 6 j m ∙ zero-at j m ∙ sym (getD-replicate 6 j 0 0 m))
 
 -- ---- there and back
-module _ (s : List ℕ) (r : Read s) where
+module _ (s : List ℕ) (r : Read maxVertices s) where
   w : Whole s
   w = whole s (r .right)
 

@@ -13,7 +13,7 @@ use Rattle.grid.specs.Number.{finite, numerator, denominator, negative, inRange
 use Rattle.polygon.specs.Polygon.{repeatedVertex}
 use Rattle.reader.specs.File.{layoutOf, lengthWrong}
 use Rattle.reader.specs.Record.{recordAt, numbersCode, vertexOf, normalIn}
-use Rattle.reader.specs.Chain.{link, metBefore, heightBefore, positionCode, codeFrom, endFrom}
+use Rattle.reader.specs.Chain.{link, metBefore, heightBefore, linkCode, positionCode, codeFrom, endFrom}
 use Rattle.reader.specs.Reading as reader
 use Rattle.reader.proofs.Cases.{point-then, zero-mm, one-mm, no-surface}
 use Rattle.converter.specs.Converted.{converted, normalLost}
@@ -74,7 +74,7 @@ tries =
     ∷ []
 
 pub right-calls : map (λ (t : Try). convertCall (t .file) (t .out)) tries ≡ map (λ (t : Try). t .right) tries
-unfolding convertCall converted normalLost ofBits upFrom someFrom finite numerator denominator negative inRange roundEighths repeatedVertex layoutOf lengthWrong recordAt numbersCode vertexOf normalIn link metBefore heightBefore positionCode codeFrom endFrom reader.numberDue
+unfolding convertCall converted normalLost ofBits upFrom someFrom finite numerator denominator negative inRange roundEighths repeatedVertex layoutOf lengthWrong recordAt numbersCode vertexOf normalIn link metBefore heightBefore linkCode positionCode codeFrom endFrom reader.fileCode reader.numberDue
 right-calls = refl
 
 -- equal answers and tables are the same by their numbers

@@ -5,6 +5,7 @@ use Prim.Native.Nat.{ℕ, zero, suc}
 use lib.Dec.{ltb}
 use lib.ListN.{length}
 use Rattle.lists.specs.Lists.{filled, firstPlaces}
+use Rattle.terms.specs.Limits.{maxVertices}
 use Rattle.polygon.specs.Polygon.{firstDue}
 use Rattle.reader.specs.Reading as reader
 use Rattle.converter.specs.Converted.{converted, otherEdition, normalLost}
@@ -43,9 +44,9 @@ conversionCode short lost = cond short 13 (cond lost 19 0)
 abbrev pub conversionNumber : List ℕ → List ℕ → ℕ
 conversionNumber file out = conversionCode (ltb (length out) (length (converted file))) (normalLost file)
 
--- the first number due (rule 4.35): 1 to 11 and 18 in the reader's order, then 13 and 19
+-- the first number due (rule 4.35): 1 to 11 and 18 in the reader's order, with the largest limit, then 13 and 19
 abbrev pub numberDue : List ℕ → List ℕ → ℕ
-numberDue file out = firstDue (reader.numberDue file) (conversionNumber file out)
+numberDue file out = firstDue (reader.numberDue maxVertices file) (conversionNumber file out)
 
 -- what the values are: those of the converted file where no number is due, else the number and two zeros (rule 5.2)
 abbrev pub dueValues : ℕ → List ℕ → Values

@@ -109,7 +109,7 @@ pub fn convert(file: &[u8], out: &mut [u8]) -> Conversion
     ensures { λ r. ⌜ converting r (now (out .exit)) ≡ convertCall (now (file .entry)) (now (out .entry)) ⌝ }
     ensures { λ r. ⌜ valuesOf r ≡ dueValues (numberDue (now (file .entry)) (now (out .entry))) (now (file .entry)) ⌝ }
 {
-    let reading = reader::read_polygon(file);
+    let reading = reader::read_polygon(terms::MAX_VERTICES, file);
     let status = reading.status;
     match status {
         Status::Refused(number) => Conversion::Refused(number),

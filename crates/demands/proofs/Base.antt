@@ -64,14 +64,14 @@ module _ (p : Polygon) (bare : NoSurface p) where
   areas-alone = map-members (ownWeight p) (areaWeight p) (candidatesOf p) own-is-area
 
 -- ---- files
-module _ (file : List ℕ) where
+module _ (limit : ℕ) (file : List ℕ) where
   -- a file of which every normal that its chain could have is zero
   module _ (zeros : ZeroNormals file) where
-    bare-read : reader.numberDue file ≡ 0 → NoSurface (polygonOf file)
+    bare-read : reader.numberDue limit file ≡ 0 → NoSurface (polygonOf file)
     bare-read e =
-        let complete : readingOf file .status ≡ Complete = ap (λ (k : ℕ). answer k (polygonOf file) .status) e in
-        let same : readingOf file .polygon ≡ polygonOf file = ap (λ (k : ℕ). answer k (polygonOf file) .polygon) e in
-        subst (λ (p : Polygon). NoSurface p) same (record { none = λ i h. zero-normal i (read-records file complete i h) (read-normals file complete i h) })
+        let complete : readingOf limit file .status ≡ Complete = ap (λ (k : ℕ). answer k (polygonOf file) .status) e in
+        let same : readingOf limit file .polygon ≡ polygonOf file = ap (λ (k : ℕ). answer k (polygonOf file) .polygon) e in
+        subst (λ (p : Polygon). NoSurface p) same (record { none = λ i h. zero-normal i (read-records limit file complete i h) (read-normals limit file complete i h) })
       where
         zero-normal : {q : Normal} (i : ℕ) → InFile file (link file i) → HasNormal file i q → q ≡ noNormal
         zero-normal _ r (held i two in-range) = sym (normal-2 file (offset file (link file i)) two) ∙ zeros .zero (link file i) (r .numbered) (r .counted)
@@ -82,12 +82,12 @@ module _ (file : List ℕ) where
     by-number t (suc k) h = refl
 
     -- it has the answer of areas and rows alone
-    pub zero-normals-answer : (t : Tables) → patchFile file t ≡ baseFile file t
+    pub zero-normals-answer : (t : Tables) → patchFile limit file t ≡ baseFile limit file t
     unfolding patchFile
-    zero-normals-answer t = by-number t (fileNumber file t) (λ e. bare-read (due-neither (reader.numberDue file) (polygonNumber (polygonOf file) t) e .0))
+    zero-normals-answer t = by-number t (fileNumber limit file t) (λ e. bare-read (due-neither (reader.numberDue limit file) (polygonNumber (polygonOf file) t) e .0))
 
   -- every file of edition 1 is such a file
-  pub edition-1-answer : isEdition2 file ≡ false → (t : Tables) → patchFile file t ≡ baseFile file t
+  pub edition-1-answer : isEdition2 file ≡ false → (t : Tables) → patchFile limit file t ≡ baseFile limit file t
   edition-1-answer one = zero-normals-answer (record { zero = λ k h l. normal-1 file (offset file k) one })
 
 -- and its header and records stand where they did
@@ -106,5 +106,5 @@ edition-1-layout file one =
     }
 
 -- a file of edition 2 with the same header and records as one of edition 1, so that its normals are all zero, has the answer of that one
-pub edition-2-answer : {one two : List ℕ} → isEdition2 one ≡ false → SameRim two one → (t : Tables) → patchFile two t ≡ baseFile one t
-edition-2-answer {one} e r t = same-answers r .patch t ∙ edition-1-answer one e t
+pub edition-2-answer : (limit : ℕ) {one two : List ℕ} → isEdition2 one ≡ false → SameRim two one → (t : Tables) → patchFile limit two t ≡ baseFile limit one t
+edition-2-answer limit {one} e r t = same-answers r limit .patch t ∙ edition-1-answer limit one e t

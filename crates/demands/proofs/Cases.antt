@@ -13,6 +13,7 @@ use Rattle.geometry.specs.Faces.{lengthOf, ratioOf, bendOf}
 use Rattle.geometry.specs.Spheres.{orientOf, centreOf, distanceOf}
 use Rattle.jobs.specs.Job.{hangs}
 use Rattle.lists.specs.Lists.{upFrom, everyFrom, someFrom}
+use Rattle.terms.specs.Limits.{maxVertices}
 use Rattle.terms.specs.Entries.{triple}
 use Rattle.faces.specs.Faces.{isFace}
 use Rattle.delaunay.specs.Candidates.{counts, isCandidate, cospherical}
@@ -79,9 +80,9 @@ pub row-0-dropped-wrong : {c r : List (List ℕ)} {w : List ℕ} → finding (Li
 row-0-dropped-wrong e = let n = ap (λ (f : Finding). rowCountOf (f .answer)) (e ∙ rows-of-weight-0) in omega (arith, n)
 
 -- the one call that does nothing, whatever it answers
-pub idle-wrong : {o : Outcome} → patching o lentP ≡ patchFile fileP lentP → ⊥
+pub idle-wrong : {o : Outcome} → patching o lentP ≡ patchFile maxVertices fileP lentP → ⊥
 idle-wrong e = let n = ap (λ (x : Patching). getD (x .left .work) 0 0) (e ∙ file-P) in omega (arith, n)
 
 -- the one call that hands the tiler no rows: the total of the areas alone
-pub rows-left-out-wrong : {t : Tables} → patching (Patch 2 157) t ≡ patchFile fileP lentP → ⊥
+pub rows-left-out-wrong : {t : Tables} → patching (Patch 2 157) t ≡ patchFile maxVertices fileP lentP → ⊥
 rows-left-out-wrong e = let n = ap (λ (x : Patching). totalOf (x .outcome)) (e ∙ file-P) in omega (arith, n)

@@ -1,4 +1,5 @@
--- Two files of one rim, in whichever editions, are answered alike by every call; so is a converted file and the first. Assumes nothing.
+-- Two files of one rim, in whichever editions, are answered alike by every call with any limit; so is a converted file and the
+-- first. Assumes nothing.
 use mathlib.Core.Path.{_≡_, ap}
 use mathlib.Core.Bool.{false}
 use mathlib.Core.List.{List}
@@ -16,12 +17,12 @@ use Rattle.converter.specs.Call.{numberOf, convertCall, handedOver}
 use Rattle.converter.proofs.Demands.{same-rim}
 use Rattle.demands.specs.Conversion.{SameAnswers}
 
-pub same-answers : {s t : List ℕ} → SameRim s t → SameAnswers s t
+pub same-answers : {s t : List ℕ} → SameRim s t → (limit : ℕ) → SameAnswers limit s t
 unfolding patchFile sizesFile
-same-answers r =
-    let n = number-same r in
+same-answers r limit =
+    let n = number-same r limit in
     let p = polygon-same r in
-    let g = reading-same r in
+    let g = reading-same r limit in
     record {
       reading = g;
       candidates = ap (λ (x : Reading). candidatesOf (x .polygon)) g;
@@ -32,5 +33,5 @@ same-answers r =
     }
 
 -- what the converter hands over is answered as the file that it took, in both directions
-pub converted-answers : (file out : List ℕ) → numberOf (convertCall file out .answer) ≡ 0 → SameAnswers (handedOver (convertCall file out)) file
+pub converted-answers : (file out : List ℕ) → numberOf (convertCall file out .answer) ≡ 0 → (limit : ℕ) → SameAnswers limit (handedOver (convertCall file out)) file
 converted-answers file out taken = same-answers (same-rim file out taken)

@@ -1,5 +1,5 @@
--- Demand 1 for rim files (rules 4.30 to 4.33): of the numbers due on a file and its tables one is the first, or none is due; the one call gives exactly
--- that number and changes no table, and ends in a patch or 'none' exactly where none is due. Assumes nothing.
+-- Demand 1 for rim files (rules 4.30 to 4.33), whatever the limit: of the numbers due on a limit, a file and its tables one is the first, or none is due;
+-- the one call gives exactly that number and changes no table, and ends in a patch or 'none' exactly where none is due. Assumes nothing.
 use mathlib.Core.Path.{_≡_, refl, sym, ap, _∙_, subst}
 use mathlib.Core.Bool.{true}
 use mathlib.Core.List.{List}
@@ -16,7 +16,7 @@ use Rattle.polygon.specs.Polygon.{codeOf, Valid, emptyPolygon, firstDue}
 use Rattle.polygon.proofs.Validity.{valid-code}
 use Rattle.reader.specs.declared.Status.the-variants.{Complete}
 use Rattle.reader.specs.File.{Bytes}
-use Rattle.reader.specs.Order.{Place, rim, Precedes, in-rim, First, NoneDue}
+use Rattle.reader.specs.Order.{Place, rim, Precedes, by-number, First, NoneDue}
 use Rattle.reader.specs.Due.{DueAt}
 use Rattle.reader.specs.Reading.{polygonOf, answer, readingOf}
 use Rattle.reader.specs.Reading as reader
@@ -71,80 +71,80 @@ nothing-13 (weights h) = omega arith
 nothing-13 (rows h) = omega arith
 nothing-13 (work h) = omega arith
 
-module _ (file : List ℕ) (bytes : Bytes file) (t : Tables) where
+module _ (limit : ℕ) (file : List ℕ) (bytes : Bytes file) (t : Tables) where
   -- what the call does: one of the two
   abbrev Decided : Type 0
-  Decided = Verdict (CallDue file t) (fileNumber file t)
+  Decided = Verdict (CallDue limit file t) (fileNumber limit file t)
 
   -- ---- the reader's numbers come first
-  reader-first : (k : ℕ) → First (DueAt file) (suc k) → First (CallDue file t) (suc k)
+  reader-first : (k : ℕ) → First (DueAt limit file) (suc k) → First (CallDue limit file t) (suc k)
   reader-first k f = record { place = f .place; is-due = by-reader (f .is-due); none-before = before }
     where
-      empty : polygonIn file ≡ emptyPolygon
-      empty = refused-empty file (suc k) f
+      empty : polygonIn limit file ≡ emptyPolygon
+      empty = refused-empty limit file (suc k) f
 
-      before : (p : Place) (j : ℕ) → Precedes p j (f .place) (suc k) → CallDue file t p j → ⊥
+      before : (p : Place) (j : ℕ) → Precedes p j (f .place) (suc k) → CallDue limit file t p j → ⊥
       before p j h (by-reader d) = f .none-before p j h d
       before p j h (twelve d) = nothing-12 (subst (λ (x : Polygon). Cospherical x) empty d)
       before p j h (thirteen d) = nothing-13 (subst (λ (x : Polygon). TooShort (placesOf x) t) empty d)
 
   -- ---- a file that is read
-  module _ (e : reader.numberDue file ≡ 0) where
-    complete : readingOf file .status ≡ Complete
+  module _ (e : reader.numberDue limit file ≡ 0) where
+    complete : readingOf limit file .status ≡ Complete
     complete = ap (λ (k : ℕ). answer k (polygonOf file) .status) e
 
-    polygon-is : polygonIn file ≡ polygonOf file
+    polygon-is : polygonIn limit file ≡ polygonOf file
     polygon-is = ap (λ (k : ℕ). answer k (polygonOf file) .polygon) e
 
-    no-reader : (p : Place) (k : ℕ) → DueAt file p k → ⊥
-    no-reader p k d = read-only-when file complete .none p k d
+    no-reader : (p : Place) (k : ℕ) → DueAt limit file p k → ⊥
+    no-reader p k d = read-only-when limit file complete .none p k d
 
-    valid : Valid (polygonIn file)
-    valid = read-valid file complete bytes
+    valid : Valid (polygonIn limit file)
+    valid = read-valid limit file complete bytes
 
-    number-is : fileNumber file t ≡ polygonNumber (polygonIn file) t
+    number-is : fileNumber limit file t ≡ polygonNumber (polygonIn limit file) t
     number-is = ap (λ (k : ℕ). firstDue k (polygonNumber (polygonOf file) t)) e ∙ ap (λ (p : Polygon). polygonNumber p t) (sym polygon-is)
 
-    no-code : Truth (cospherical (polygonIn file)) → Truth (tablesShort (polygonIn file) t) → Decided
+    no-code : Truth (cospherical (polygonIn limit file)) → Truth (tablesShort (polygonIn limit file) t) → Decided
     unfolding numberDue
     no-code (holds a) b =
-        first-due 11 (record { place = rim; is-due = twelve (cospherical-true (polygonIn file) a); none-before = before })
-        (number-is ∙ yes _ _ (eq-eqb (codeOf (polygonIn file)) 0 (valid-code (polygonIn file) valid)) ∙ yes _ _ a)
+        first-due 11 (record { place = rim; is-due = twelve (cospherical-true (polygonIn limit file) a); none-before = before })
+        (number-is ∙ yes _ _ (eq-eqb (codeOf (polygonIn limit file)) 0 (valid-code (polygonIn limit file) valid)) ∙ yes _ _ a)
       where
-        before : (p : Place) (j : ℕ) → Precedes p j rim 12 → CallDue file t p j → ⊥
+        before : (p : Place) (j : ℕ) → Precedes p j rim 12 → CallDue limit file t p j → ⊥
         before p j h (by-reader d) = no-reader p j d
-        before _ _ (in-rim l) (twelve d) = omega arith
-        before _ _ (in-rim l) (thirteen d) = omega arith
+        before _ _ (by-number l) (twelve d) = omega arith
+        before _ _ (by-number l) (thirteen d) = omega arith
     no-code (fails a) (holds b) =
-        first-due 12 (record { place = rim; is-due = thirteen (short-true (polygonIn file) t b); none-before = before })
-        (number-is ∙ yes _ _ (eq-eqb (codeOf (polygonIn file)) 0 (valid-code (polygonIn file) valid)) ∙ no _ _ a ∙ yes _ _ b)
+        first-due 12 (record { place = rim; is-due = thirteen (short-true (polygonIn limit file) t b); none-before = before })
+        (number-is ∙ yes _ _ (eq-eqb (codeOf (polygonIn limit file)) 0 (valid-code (polygonIn limit file) valid)) ∙ no _ _ a ∙ yes _ _ b)
       where
-        before : (p : Place) (j : ℕ) → Precedes p j rim 13 → CallDue file t p j → ⊥
+        before : (p : Place) (j : ℕ) → Precedes p j rim 13 → CallDue limit file t p j → ⊥
         before p j h (by-reader d) = no-reader p j d
-        before p j h (twelve d) = true-not-false (true-cospherical (polygonIn file) d) a
-        before _ _ (in-rim l) (thirteen d) = omega arith
+        before p j h (twelve d) = true-not-false (true-cospherical (polygonIn limit file) d) a
+        before _ _ (by-number l) (thirteen d) = omega arith
     no-code (fails a) (fails b) =
         none-due (record { none = nothing })
-        (number-is ∙ yes _ _ (eq-eqb (codeOf (polygonIn file)) 0 (valid-code (polygonIn file) valid)) ∙ no _ _ a ∙ no _ _ b)
+        (number-is ∙ yes _ _ (eq-eqb (codeOf (polygonIn limit file)) 0 (valid-code (polygonIn limit file) valid)) ∙ no _ _ a ∙ no _ _ b)
       where
-        nothing : (p : Place) (k : ℕ) → CallDue file t p k → ⊥
+        nothing : (p : Place) (k : ℕ) → CallDue limit file t p k → ⊥
         nothing p k (by-reader d) = no-reader p k d
-        nothing p k (twelve d) = true-not-false (true-cospherical (polygonIn file) d) a
-        nothing p k (thirteen d) = true-not-false (true-short (polygonIn file) t d) b
+        nothing p k (twelve d) = true-not-false (true-cospherical (polygonIn limit file) d) a
+        nothing p k (thirteen d) = true-not-false (true-short (polygonIn limit file) t d) b
 
   verdict : Decided
-  verdict = by (reader.numberDue file) refl
+  verdict = by (reader.numberDue limit file) refl
     where
-      by : (k : ℕ) → reader.numberDue file ≡ k → Decided
-      by zero e = no-code e (truth (cospherical (polygonIn file))) (truth (tablesShort (polygonIn file) t))
-      by (suc k) e = first-due k (reader-first k (number-first file k e)) (ap (λ (j : ℕ). firstDue j (polygonNumber (polygonOf file) t)) e)
+      by : (k : ℕ) → reader.numberDue limit file ≡ k → Decided
+      by zero e = no-code e (truth (cospherical (polygonIn limit file))) (truth (tablesShort (polygonIn limit file) t))
+      by (suc k) e = first-due k (reader-first k (number-first limit file k e)) (ap (λ (j : ℕ). firstDue j (polygonNumber (polygonOf file) t)) e)
 
   -- ---- the call
-  refused-by : (k : ℕ) → fileNumber file t ≡ suc k → patchFile file t ≡ refused (suc k) t
+  refused-by : (k : ℕ) → fileNumber limit file t ≡ suc k → patchFile limit file t ≡ refused (suc k) t
   unfolding patchFile
   refused-by k e = ap (λ (n : ℕ). patchBy n (polygonOf file) t) e
 
-  accepted-by : fileNumber file t ≡ 0 → patchFile file t ≡ patched (polygonOf file) t
+  accepted-by : fileNumber limit file t ≡ 0 → patchFile limit file t ≡ patched (polygonOf file) t
   unfolding patchFile
   accepted-by e = ap (λ (n : ℕ). patchBy n (polygonOf file) t) e
 
@@ -152,51 +152,51 @@ module _ (file : List ℕ) (bytes : Bytes file) (t : Tables) where
   never-refused e a-patch = let z : _≡_ {A = ℕ} 0 1 = cc in omega arith
   never-refused e a-none = let z : _≡_ {A = ℕ} 0 1 = cc in omega arith
 
-  taken : fileNumber file t ≡ 0 → Taken (patchFile file t .outcome)
+  taken : fileNumber limit file t ≡ 0 → Taken (patchFile limit file t .outcome)
   taken e =
       subst (λ (x : Patching). Taken (x .outcome)) (sym (accepted-by e))
       (settled-taken (best (jobIn (polygonOf file))) (length (candidatesOf (polygonOf file))) (t .triangles) (t .work))
 
   -- one number is the first that is due, or none is due; `first-unique` of the reader says that it is one only
-  pub first-or-none : ((k : ℕ) × First (CallDue file t) k) ⊎ NoneDue (CallDue file t)
+  pub first-or-none : ((k : ℕ) × First (CallDue limit file t) k) ⊎ NoneDue (CallDue limit file t)
   first-or-none = verdict-either verdict
 
   -- the first number due is given, and every lent table holds what it held
-  pub refused-first : (k : ℕ) → First (CallDue file t) k → patchFile file t ≡ refused k t
+  pub refused-first : (k : ℕ) → First (CallDue limit file t) k → patchFile limit file t ≡ refused k t
   refused-first zero f = absurd (none-first (verdict-none verdict (verdict-first verdict f)) f)
   refused-first (suc k) f = refused-by k (verdict-first verdict f)
 
   -- and a number that is given is the first that is due
-  pub given-first : (k : ℕ) → numberOf (patchFile file t .outcome) ≡ suc k → First (CallDue file t) (suc k)
-  given-first k h = by (fileNumber file t) refl
+  pub given-first : (k : ℕ) → numberOf (patchFile limit file t .outcome) ≡ suc k → First (CallDue limit file t) (suc k)
+  given-first k h = by (fileNumber limit file t) refl
     where
       untaken : {o : Outcome} → Taken o → numberOf o ≡ suc k → ⊥
       untaken a-patch q = omega (arith, q)
       untaken a-none q = omega (arith, q)
 
-      by : (n : ℕ) → fileNumber file t ≡ n → First (CallDue file t) (suc k)
+      by : (n : ℕ) → fileNumber limit file t ≡ n → First (CallDue limit file t) (suc k)
       by zero e = absurd (untaken (taken e) h)
       by (suc j) e = verdict-given verdict (e ∙ sym (ap (λ (x : Patching). numberOf (x .outcome)) (refused-by j e)) ∙ h)
 
   -- the call ends in a patch or 'none' exactly when no number is due
-  pub taken-when : NoneDue (CallDue file t) → Taken (patchFile file t .outcome)
+  pub taken-when : NoneDue (CallDue limit file t) → Taken (patchFile limit file t .outcome)
   taken-when n = taken (verdict-zero verdict n)
 
-  pub taken-only-when : Taken (patchFile file t .outcome) → NoneDue (CallDue file t)
-  taken-only-when h = verdict-none verdict (by (fileNumber file t) refl)
+  pub taken-only-when : Taken (patchFile limit file t .outcome) → NoneDue (CallDue limit file t)
+  taken-only-when h = verdict-none verdict (by (fileNumber limit file t) refl)
     where
-      by : (n : ℕ) → fileNumber file t ≡ n → fileNumber file t ≡ 0
+      by : (n : ℕ) → fileNumber limit file t ≡ n → fileNumber limit file t ≡ 0
       by zero e = e
       by (suc k) e = absurd (never-refused (ap (λ (x : Patching). x .outcome) (refused-by k e)) h)
 
   -- what an accepted call is, for demands 2 and 3
   pub record Accepted : Type 0 where
-    pub polygon-valid : Valid (polygonIn file)
-    pub call-is : patchFile file t ≡ patched (polygonIn file) t
+    pub polygon-valid : Valid (polygonIn limit file)
+    pub call-is : patchFile limit file t ≡ patched (polygonIn limit file) t
 
-  pub accepted : NoneDue (CallDue file t) → Accepted
-  accepted n = by (reader.numberDue file) refl
+  pub accepted : NoneDue (CallDue limit file t) → Accepted
+  accepted n = by (reader.numberDue limit file) refl
     where
-      by : (k : ℕ) → reader.numberDue file ≡ k → Accepted
+      by : (k : ℕ) → reader.numberDue limit file ≡ k → Accepted
       by zero e = record { polygon-valid = valid e; call-is = accepted-by (verdict-zero verdict n) ∙ ap (λ (p : Polygon). patched p t) (sym (polygon-is e)) }
-      by (suc k) e = absurd (none-first n (reader-first k (number-first file k e)))
+      by (suc k) e = absurd (none-first n (reader-first k (number-first limit file k e)))

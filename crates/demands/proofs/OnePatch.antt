@@ -73,26 +73,26 @@ module _ (p : Polygon) (valid : Valid p) (s t : Tables) where
   unfolding answered
   same-patched = same-answer (best (jobIn p)) (demand3 (jobIn p) (valid-job p valid) .patch-is)
 
-module _ (file : List ℕ) where
+module _ (limit : ℕ) (file : List ℕ) where
   -- 13 aside, a number is due by the file alone
-  due-again : {s t : Tables} {p : Place} {k : ℕ} → LongEnough file s → CallDue file s p k → CallDue file t p k
+  due-again : {s t : Tables} {p : Place} {k : ℕ} → LongEnough limit file s → CallDue limit file s p k → CallDue limit file t p k
   due-again h (by-reader d) = by-reader d
   due-again h (twelve d) = twelve d
   due-again h (thirteen d) = absurd (h d)
 
-  first-again : {s t : Tables} {k : ℕ} → LongEnough file s → LongEnough file t → First (CallDue file s) k → First (CallDue file t) k
+  first-again : {s t : Tables} {k : ℕ} → LongEnough limit file s → LongEnough limit file t → First (CallDue limit file s) k → First (CallDue limit file t) k
   first-again h g f = record { place = f .place; is-due = due-again h (f .is-due); none-before = λ p j q d. f .none-before p j q (due-again g d) }
 
-  none-again : {s t : Tables} → LongEnough file t → NoneDue (CallDue file s) → NoneDue (CallDue file t)
+  none-again : {s t : Tables} → LongEnough limit file t → NoneDue (CallDue limit file s) → NoneDue (CallDue limit file t)
   none-again g n = record { none = λ p k d. n .none p k (due-again g d) }
 
   -- one file, one patch
-  pub file-fixes-patch : Bytes file → (s t : Tables) → LongEnough file s → LongEnough file t → SamePatch (patchFile file s) (patchFile file t)
-  file-fixes-patch bytes s t h g = by (first-or-none file bytes s)
+  pub file-fixes-patch : Bytes file → (s t : Tables) → LongEnough limit file s → LongEnough limit file t → SamePatch (patchFile limit file s) (patchFile limit file t)
+  file-fixes-patch bytes s t h g = by (first-or-none limit file bytes s)
     where
-      by : ((k : ℕ) × First (CallDue file s) k) ⊎ NoneDue (CallDue file s) → SamePatch (patchFile file s) (patchFile file t)
-      by (inl (k, f)) = rw (refused-first file bytes s k f, refused-first file bytes t k (first-again h g f)) (same-empty (Refused k) refl s t)
+      by : ((k : ℕ) × First (CallDue limit file s) k) ⊎ NoneDue (CallDue limit file s) → SamePatch (patchFile limit file s) (patchFile limit file t)
+      by (inl (k, f)) = rw (refused-first limit file bytes s k f, refused-first limit file bytes t k (first-again h g f)) (same-empty (Refused k) refl s t)
       by (inr n) =
-          let a = accepted file bytes s n in
-          let b = accepted file bytes t (none-again g n) in
-          rw (a .call-is, b .call-is) (same-patched (polygonIn file) (a .polygon-valid) s t)
+          let a = accepted limit file bytes s n in
+          let b = accepted limit file bytes t (none-again g n) in
+          rw (a .call-is, b .call-is) (same-patched (polygonIn limit file) (a .polygon-valid) s t)

@@ -19,7 +19,7 @@ use Rattle.polygon.specs.declared.normal.Normal.{Normal}
 use Rattle.polygon.specs.Normal.{normal, noNormal}
 use Rattle.reader.specs.File.{layoutOf, lengthWrong}
 use Rattle.reader.specs.Record.{recordAt, numbersCode, vertexOf, normalIn}
-use Rattle.reader.specs.Chain.{link, metBefore, heightBefore, positionCode, codeFrom, endFrom}
+use Rattle.reader.specs.Chain.{link, metBefore, heightBefore, linkCode, positionCode, codeFrom, endFrom}
 use Rattle.reader.specs.Reading.{polygonOf}
 use Rattle.reader.specs.Reading as reader
 use Rattle.integers.specs.Rounding.{rootDigits}
@@ -64,20 +64,20 @@ abbrev job : List ℕ → Job
 job weights = jobOf 4 triplesP weights rowsP
 
 -- what is read of the bytes
-number-P : reader.numberDue fileP ≡ 0
-unfolding ofBits upFrom someFrom finite numerator denominator negative inRange roundEighths repeatedVertex layoutOf lengthWrong recordAt numbersCode vertexOf normalIn link metBefore heightBefore positionCode codeFrom endFrom reader.numberDue
+number-P : reader.numberDue maxVertices fileP ≡ 0
+unfolding ofBits upFrom someFrom finite numerator denominator negative inRange roundEighths repeatedVertex layoutOf lengthWrong recordAt numbersCode vertexOf normalIn link metBefore heightBefore linkCode positionCode codeFrom endFrom reader.fileCode reader.numberDue
 number-P = refl
 
 polygon-P : polygonOf fileP ≡ rimWith none
-unfolding ofBits upFrom someFrom finite numerator denominator negative inRange roundEighths layoutOf recordAt numbersCode vertexOf normalIn link metBefore heightBefore positionCode codeFrom endFrom
+unfolding ofBits upFrom someFrom finite numerator denominator negative inRange roundEighths layoutOf recordAt numbersCode vertexOf normalIn link metBefore heightBefore endFrom
 polygon-P = refl
 
-number-N : reader.numberDue fileN ≡ 0
-unfolding ofBits upFrom someFrom finite numerator denominator negative inRange roundEighths repeatedVertex layoutOf lengthWrong recordAt numbersCode vertexOf normalIn link metBefore heightBefore positionCode codeFrom endFrom reader.numberDue
+number-N : reader.numberDue maxVertices fileN ≡ 0
+unfolding ofBits upFrom someFrom finite numerator denominator negative inRange roundEighths repeatedVertex layoutOf lengthWrong recordAt numbersCode vertexOf normalIn link metBefore heightBefore linkCode positionCode codeFrom endFrom reader.fileCode reader.numberDue
 number-N = refl
 
 polygon-N : polygonOf fileN ≡ rimWith slopes
-unfolding ofBits upFrom someFrom finite numerator denominator negative inRange roundEighths layoutOf recordAt numbersCode vertexOf normalIn link metBefore heightBefore positionCode codeFrom endFrom
+unfolding ofBits upFrom someFrom finite numerator denominator negative inRange roundEighths layoutOf recordAt numbersCode vertexOf normalIn link metBefore heightBefore endFrom
 polygon-N = refl
 
 -- the number due on the polygon, its weights, and the best tiling
@@ -147,25 +147,25 @@ module _ (normals : List Normal) {w : List ℕ} (weighs : weightsOf (rimWith nor
   job-is i = jobOf 4 (candidates-are normals i) (weights-are i) (rows-are i)
 
   -- a file that gives it, and the best tiling
-  module _ (file : List ℕ) {a : Answer} (number : reader.numberDue file ≡ 0) (reads : polygonOf file ≡ rimWith normals) (code : codeOf (rimWith normals) ≡ 0) (is-best : best (job w) ≡ a) where
-    none-due : fileNumber file lentP ≡ 0
+  module _ (file : List ℕ) {a : Answer} (number : reader.numberDue maxVertices file ≡ 0) (reads : polygonOf file ≡ rimWith normals) (code : codeOf (rimWith normals) ≡ 0) (is-best : best (job w) ≡ a) where
+    none-due : fileNumber maxVertices file lentP ≡ 0
     unfolding numberDue
     none-due =
         ap (λ (k : ℕ). firstDue k (polygonNumber (polygonOf file) lentP)) number
         ∙ ap (λ (p : Polygon). polygonNumber p lentP) reads
         ∙ yes _ _ (ap (λ (k : ℕ). eqb k 0) code) ∙ no _ _ (no-12 normals) ∙ no _ _ (enough normals)
 
-    call-is : patchFile file lentP ≡ answerWith a triplesP w rowsP
+    call-is : patchFile maxVertices file lentP ≡ answerWith a triplesP w rowsP
     unfolding patchFile
     call-is =
         ap (λ (k : ℕ). patchBy k (polygonOf file) lentP) none-due
         ∙ ap (λ (p : Polygon). patched p lentP) reads
         ∙ (λ i. answerWith ((ap best job-is ∙ is-best) i) (candidates-are normals i) (weights-are i) (rows-are i))
 
-pub file-P : patchFile fileP lentP ≡ answerWith (patch 469 (1 ∷ 3 ∷ [])) triplesP (80 ∷ 64 ∷ 80 ∷ 93 ∷ []) rowsP
+pub file-P : patchFile maxVertices fileP lentP ≡ answerWith (patch 469 (1 ∷ 3 ∷ [])) triplesP (80 ∷ 64 ∷ 80 ∷ 93 ∷ []) rowsP
 file-P = call-is none weights-P fileP number-P polygon-P code-P best-P
 
-pub file-N : patchFile fileN lentP ≡ answerWith (patch 809 (1 ∷ 3 ∷ [])) triplesP (80 ∷ 264 ∷ 800 ∷ 233 ∷ []) rowsP
+pub file-N : patchFile maxVertices fileN lentP ≡ answerWith (patch 809 (1 ∷ 3 ∷ [])) triplesP (80 ∷ 264 ∷ 800 ∷ 233 ∷ []) rowsP
 file-N = call-is slopes weights-N fileN number-N polygon-N code-N best-N
 
 -- ---- the list

@@ -33,8 +33,8 @@ baseBy zero p t = patchedWith (areaWeights p) p t
 baseBy (suc k) p t = refused (suc k) t
 
 -- the answer to a file by areas and rows alone (rule 2.16)
-abbrev pub baseFile : List ℕ → Tables → Patching
-baseFile file t = baseBy (fileNumber file t) (polygonOf file) t
+abbrev pub baseFile : ℕ → List ℕ → Tables → Patching
+baseFile limit file t = baseBy (fileNumber limit file t) (polygonOf file) t
 
 -- header and records stand where a file without normals has them (rules 1.2 to 1.4, 4.1)
 pub record Edition1 (file : List ℕ) : Type 0 where

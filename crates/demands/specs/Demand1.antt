@@ -1,4 +1,4 @@
--- The numbers due on a rim file and on the tables lent with it, each by itself and at its place. Definitions only.
+-- The numbers due on a limit, a rim file and the tables lent with it, each by itself and at its place. Definitions only.
 use mathlib.Core.List.{List}
 use Prim.Native.Nat.{ℕ, _<_}
 use lib.ListN.{length}
@@ -11,10 +11,10 @@ use Rattle.finder.specs.Sizes.{placesOf}
 use Rattle.pipeline.specs.Patching.{Tables}
 use Rattle.demands.specs.Demand2.{Cospherical}
 
--- the polygon of a file: its vertices are what the records give (`read-vertices` of reader/proofs/Accepted.antt), and none where the reader refuses
+-- the polygon of a file read with a limit: its vertices are what the records give (`read-vertices` of reader/proofs/Accepted.antt), and none where the reader refuses
 -- the file, so that 12 and 13 are asked only of what there is (rule 4.31)
-abbrev pub polygonIn : List ℕ → Polygon
-polygonIn file = readingOf file .polygon
+abbrev pub polygonIn : ℕ → List ℕ → Polygon
+polygonIn limit file = readingOf limit file .polygon
 
 -- one of the tables has fewer places than these (rule 4.13)
 pub data TooShort (needed : Places) (t : Tables) : Type 0 where
@@ -24,8 +24,8 @@ pub data TooShort (needed : Places) (t : Tables) : Type 0 where
   rows : length (t .rows) < needed .rows → TooShort needed t
   work : length (t .work) < needed .candidates → TooShort needed t
 
--- number k is due at a place of the file (rules 4.1 to 4.13 and 4.18); 12 and 13 on the rim as a whole
-pub data CallDue (file : List ℕ) (t : Tables) : Place → ℕ → Type 0 where
-  by-reader : {p : Place} {k : ℕ} → DueAt file p k → CallDue file t p k
-  twelve : Cospherical (polygonIn file) → CallDue file t rim 12
-  thirteen : TooShort (placesOf (polygonIn file)) t → CallDue file t rim 13
+-- number k is due on a call with a limit (rules 4.1 to 4.14, 4.18 and 4.20), at its place; 12 and 13 on the rim as a whole
+pub data CallDue (limit : ℕ) (file : List ℕ) (t : Tables) : Place → ℕ → Type 0 where
+  by-reader : {p : Place} {k : ℕ} → DueAt limit file p k → CallDue limit file t p k
+  twelve : Cospherical (polygonIn limit file) → CallDue limit file t rim 12
+  thirteen : TooShort (placesOf (polygonIn limit file)) t → CallDue limit file t rim 13

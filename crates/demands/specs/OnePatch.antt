@@ -10,8 +10,8 @@ use Rattle.pipeline.specs.Patching.{Tables, Patching}
 use Rattle.demands.specs.Demand1.{polygonIn, TooShort}
 
 -- no table is too short for the rim of the file (rule 4.13); for a file that the reader refuses, which has no rim, any tables will do
-abbrev pub LongEnough : List ℕ → Tables → Type 0
-LongEnough file t = TooShort (placesOf (polygonIn file)) t → ⊥
+abbrev pub LongEnough : ℕ → List ℕ → Tables → Type 0
+LongEnough limit file t = TooShort (placesOf (polygonIn limit file)) t → ⊥
 
 -- the triangles that a call hands back, as candidate numbers in walk order (rule 3.8)
 abbrev pub handedBack : Patching → List ℕ

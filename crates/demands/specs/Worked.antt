@@ -4,6 +4,7 @@ use Prim.Native.Nat.{ℕ}
 use lib.IntN.{ℤ, pos, negsuc}
 use lib.Ieee.{binary32, ofBits}
 use lib.ListN.{replicate}
+use Rattle.terms.specs.Limits.{maxVertices}
 use Rattle.terms.specs.Entries.{triple}
 use Rattle.grid.specs.declared.GridNumber.{GridNumber}
 use Rattle.grid.specs.declared.GridNumber.the-variants as grid-number
@@ -74,7 +75,7 @@ rounds bits number = case (of-float (gridNumberOf (ofBits binary32 bits))) (of-f
 abbrev pub worked : List Case
 worked =
     -- rule 6.1: P from its bytes through the one call; and its tilings, which are two
-    case (of-file (patchFile fileP lentP))
+    case (of-file (patchFile maxVertices fileP lentP))
     (of-file (patching (Patch 2 469) (tables (1 ∷ 3 ∷ 9 ∷ [])
     (triple 0 1 2 ∷ triple 0 1 3 ∷ triple 0 2 3 ∷ triple 1 2 3 ∷ triple 9 9 9 ∷ [])
     (80 ∷ 64 ∷ 80 ∷ 93 ∷ 9 ∷ [])
@@ -82,7 +83,7 @@ worked =
     (0 ∷ 0 ∷ 0 ∷ 0 ∷ 9 ∷ []))))
     ∷ case (of-tilings (withTotals (jobIn (polygonOf fileP)))) (of-tilings ((520 ∷ 0 ∷ 2 ∷ []) ∷ (469 ∷ 1 ∷ 3 ∷ []) ∷ []))
     -- rule 6.6: with normals outside two edges of a candidate
-    ∷ case (of-file (patchFile fileN lentP))
+    ∷ case (of-file (patchFile maxVertices fileN lentP))
     (of-file (patching (Patch 2 809) (tables (1 ∷ 3 ∷ 9 ∷ [])
     (triple 0 1 2 ∷ triple 0 1 3 ∷ triple 0 2 3 ∷ triple 1 2 3 ∷ triple 9 9 9 ∷ [])
     (80 ∷ 264 ∷ 800 ∷ 233 ∷ 9 ∷ [])

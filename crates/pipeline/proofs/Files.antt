@@ -20,58 +20,58 @@ use Rattle.pipeline.specs.Patching.{Tables, Patching, patching, patchBy,
 use Rattle.pipeline.specs.Sizes.{sizesNumber, sizesFile}
 
 -- what the reader's answer says of the first number due
-module _ (s : List ℕ) {r : Reading} (e : r ≡ readingOf s) where
-  first-refused : {k : ℕ} → r .status ≡ status.Refused k → (j : ℕ) → reader.numberDue s ≡ j → (later : ℕ) → firstDue (reader.numberDue s) later ≡ k
+module _ (limit : ℕ) (s : List ℕ) {r : Reading} (e : r ≡ readingOf limit s) where
+  first-refused : {k : ℕ} → r .status ≡ status.Refused k → (j : ℕ) → reader.numberDue limit s ≡ j → (later : ℕ) → firstDue (reader.numberDue limit s) later ≡ k
   first-refused {k} d zero n later = absurd (let b : status.Refused k ≡ status.Complete = sym d ∙ ap (λ (x : Reading). x .status) e ∙ ap (λ (m : ℕ). answer m (polygonOf s) .status) n in let z : _≡_ {A = ℕ} 0 1 = cc in omega arith)
   first-refused {k} d (suc j) n later =
       let b : status.Refused k ≡ status.Refused (suc j) = sym d ∙ ap (λ (x : Reading). x .status) e ∙ ap (λ (m : ℕ). answer m (polygonOf s) .status) n in
       let c : suc j ≡ k = cc in
       ap (λ (m : ℕ). firstDue m later) n ∙ c
 
-  not-zero : {k : ℕ} → r .status ≡ status.Refused k → (j : ℕ) → reader.numberDue s ≡ j → k ≡ 0 → ⊥
+  not-zero : {k : ℕ} → r .status ≡ status.Refused k → (j : ℕ) → reader.numberDue limit s ≡ j → k ≡ 0 → ⊥
   not-zero {k} d zero n z = let b : status.Refused k ≡ status.Complete = sym d ∙ ap (λ (x : Reading). x .status) e ∙ ap (λ (m : ℕ). answer m (polygonOf s) .status) n in let q : _≡_ {A = ℕ} 0 1 = cc in omega arith
   not-zero {k} d (suc j) n z = let b : status.Refused k ≡ status.Refused (suc j) = sym d ∙ ap (λ (x : Reading). x .status) e ∙ ap (λ (m : ℕ). answer m (polygonOf s) .status) n in let c : suc j ≡ k = cc in omega arith
 
-  read-none : r .status ≡ status.Complete → (j : ℕ) → reader.numberDue s ≡ j → reader.numberDue s ≡ 0
+  read-none : r .status ≡ status.Complete → (j : ℕ) → reader.numberDue limit s ≡ j → reader.numberDue limit s ≡ 0
   read-none d zero n = n
   read-none d (suc j) n = absurd (let b : status.Complete ≡ status.Refused (suc j) = sym d ∙ ap (λ (x : Reading). x .status) e ∙ ap (λ (m : ℕ). answer m (polygonOf s) .status) n in let z : _≡_ {A = ℕ} 0 1 = cc in omega arith)
 
   read-polygon : r .status ≡ status.Complete → r .polygon ≡ polygonOf s
-  read-polygon d = ap (λ (x : Reading). x .polygon) e ∙ ap (λ (m : ℕ). answer m (polygonOf s) .polygon) (read-none d (reader.numberDue s) refl)
+  read-polygon d = ap (λ (x : Reading). x .polygon) e ∙ ap (λ (m : ℕ). answer m (polygonOf s) .polygon) (read-none d (reader.numberDue limit s) refl)
 
-  first-read : r .status ≡ status.Complete → (f : Polygon → ℕ) → firstDue (reader.numberDue s) (f (polygonOf s)) ≡ f (r .polygon)
-  first-read d f = ap (λ (m : ℕ). firstDue m (f (polygonOf s))) (read-none d (reader.numberDue s) refl) ∙ ap f (sym (read-polygon d))
+  first-read : r .status ≡ status.Complete → (f : Polygon → ℕ) → firstDue (reader.numberDue limit s) (f (polygonOf s)) ≡ f (r .polygon)
+  first-read d f = ap (λ (m : ℕ). firstDue m (f (polygonOf s))) (read-none d (reader.numberDue limit s) refl) ∙ ap f (sym (read-polygon d))
 
   -- a call by its number: on a refusal, and on a file that is read
   module _ {A : Type 0} (call : ℕ → Polygon → A) (refusal : ℕ → A) (refuses : (k : ℕ) → call (suc k) (polygonOf s) ≡ refusal (suc k)) (f : Polygon → ℕ) where
-    by-refusal : (k : ℕ) → r .status ≡ status.Refused k → refusal k ≡ call (firstDue (reader.numberDue s) (f (polygonOf s))) (polygonOf s)
-    by-refusal zero d = absurd (not-zero d (reader.numberDue s) refl refl)
-    by-refusal (suc k) d = sym (ap (λ (m : ℕ). call m (polygonOf s)) (first-refused d (reader.numberDue s) refl (f (polygonOf s))) ∙ refuses k)
+    by-refusal : (k : ℕ) → r .status ≡ status.Refused k → refusal k ≡ call (firstDue (reader.numberDue limit s) (f (polygonOf s))) (polygonOf s)
+    by-refusal zero d = absurd (not-zero d (reader.numberDue limit s) refl refl)
+    by-refusal (suc k) d = sym (ap (λ (m : ℕ). call m (polygonOf s)) (first-refused d (reader.numberDue limit s) refl (f (polygonOf s))) ∙ refuses k)
 
-    by-polygon : r .status ≡ status.Complete → call (f (r .polygon)) (r .polygon) ≡ call (firstDue (reader.numberDue s) (f (polygonOf s))) (polygonOf s)
-    by-polygon d = ap (λ (m : ℕ). call m (r .polygon)) (sym (first-read d f)) ∙ ap (call (firstDue (reader.numberDue s) (f (polygonOf s)))) (read-polygon d)
+    by-polygon : r .status ≡ status.Complete → call (f (r .polygon)) (r .polygon) ≡ call (firstDue (reader.numberDue limit s) (f (polygonOf s))) (polygonOf s)
+    by-polygon d = ap (λ (m : ℕ). call m (r .polygon)) (sym (first-read d f)) ∙ ap (call (firstDue (reader.numberDue limit s) (f (polygonOf s)))) (read-polygon d)
 
-module _ (s : List ℕ) (t : Tables) {r : Reading} where
-  pub file-refused : (k : ℕ) → r .status ≡ status.Refused k → r ≡ readingOf s → patching (Refused k) t ≡ patchFile s t
+module _ (limit : ℕ) (s : List ℕ) (t : Tables) {r : Reading} where
+  pub file-refused : (k : ℕ) → r .status ≡ status.Refused k → r ≡ readingOf limit s → patching (Refused k) t ≡ patchFile limit s t
   unfolding patchFile
-  file-refused k d e = by-refusal s e (λ (k : ℕ) (p : Polygon). patchBy k p t) (λ (k : ℕ). patching (Refused k) t) (λ k. refl) (λ (p : Polygon). polygonNumber p t) k d
+  file-refused k d e = by-refusal limit s e (λ (k : ℕ) (p : Polygon). patchBy k p t) (λ (k : ℕ). patching (Refused k) t) (λ k. refl) (λ (p : Polygon). polygonNumber p t) k d
 
-  pub file-read : {x : Patching} → r .status ≡ status.Complete → r ≡ readingOf s → x ≡ patchPolygon (r .polygon) t → x ≡ patchFile s t
+  pub file-read : {x : Patching} → r .status ≡ status.Complete → r ≡ readingOf limit s → x ≡ patchPolygon (r .polygon) t → x ≡ patchFile limit s t
   unfolding patchFile patchPolygon
-  file-read d e f = f ∙ by-polygon s e (λ (k : ℕ) (p : Polygon). patchBy k p t) (λ (k : ℕ). patching (Refused k) t) (λ k. refl) (λ (p : Polygon). polygonNumber p t) d
+  file-read d e f = f ∙ by-polygon limit s e (λ (k : ℕ) (p : Polygon). patchBy k p t) (λ (k : ℕ). patching (Refused k) t) (λ k. refl) (λ (p : Polygon). polygonNumber p t) d
 
 -- the equation of the sizing call gives its number and places
-values : (s : List ℕ) {x : Sizes} → x ≡ sizesFile s → (x ≡ sizesFile s) × ((numberOf x ≡ sizesNumber s) × (placesIn x ≡ duePlaces (sizesNumber s) (polygonOf s)))
+values : (limit : ℕ) (s : List ℕ) {x : Sizes} → x ≡ sizesFile limit s → (x ≡ sizesFile limit s) × ((numberOf x ≡ sizesNumber limit s) × (placesIn x ≡ duePlaces (sizesNumber limit s) (polygonOf s)))
 unfolding sizesFile
-values s e = sizes-values (polygonOf s) (sizesNumber s) e
+values limit s e = sizes-values (polygonOf s) (sizesNumber limit s) e
 
-module _ (s : List ℕ) {r : Reading} where
-  pub sizes-refused : (k : ℕ) → r .status ≡ status.Refused k → r ≡ readingOf s →
-      (sizes.Refused k ≡ sizesFile s) × ((k ≡ sizesNumber s) × (noPlaces ≡ duePlaces (sizesNumber s) (polygonOf s)))
+module _ (limit : ℕ) (s : List ℕ) {r : Reading} where
+  pub sizes-refused : (k : ℕ) → r .status ≡ status.Refused k → r ≡ readingOf limit s →
+      (sizes.Refused k ≡ sizesFile limit s) × ((k ≡ sizesNumber limit s) × (noPlaces ≡ duePlaces (sizesNumber limit s) (polygonOf s)))
   unfolding sizesFile
-  sizes-refused k d e = values s (by-refusal s e sizesBy (λ (k : ℕ). sizes.Refused k) (λ k. refl) (λ (p : Polygon). numberDue false p) k d)
+  sizes-refused k d e = values limit s (by-refusal limit s e sizesBy (λ (k : ℕ). sizes.Refused k) (λ k. refl) (λ (p : Polygon). numberDue false p) k d)
 
-  pub sizes-read : {x : Sizes} → r .status ≡ status.Complete → r ≡ readingOf s → x ≡ sizesOf (r .polygon) →
-      (x ≡ sizesFile s) × ((numberOf x ≡ sizesNumber s) × (placesIn x ≡ duePlaces (sizesNumber s) (polygonOf s)))
+  pub sizes-read : {x : Sizes} → r .status ≡ status.Complete → r ≡ readingOf limit s → x ≡ sizesOf (r .polygon) →
+      (x ≡ sizesFile limit s) × ((numberOf x ≡ sizesNumber limit s) × (placesIn x ≡ duePlaces (sizesNumber limit s) (polygonOf s)))
   unfolding sizesFile
-  sizes-read d e f = values s (f ∙ by-polygon s e sizesBy (λ (k : ℕ). sizes.Refused k) (λ k. refl) (λ (p : Polygon). numberDue false p) d)
+  sizes-read d e f = values limit s (f ∙ by-polygon limit s e sizesBy (λ (k : ℕ). sizes.Refused k) (λ k. refl) (λ (p : Polygon). numberDue false p) d)

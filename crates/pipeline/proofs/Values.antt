@@ -41,10 +41,10 @@ module _ (p : Polygon) (t : Tables) where
   unfolding patchPolygon
   polygon-values e = (e, ap (λ (x : Patching). valuesOf (x .outcome)) e ∙ by-number (polygonNumber p t) none-valid)
 
-pub file-values : (s : List ℕ) (t : Tables) {o : Outcome} {left : Tables} → patching o left ≡ patchFile s t →
-    (patching o left ≡ patchFile s t) × (valuesOf o ≡ dueValues (fileNumber s t) (polygonOf s .n) (best (jobIn (polygonOf s))))
+pub file-values : (limit : ℕ) (s : List ℕ) (t : Tables) {o : Outcome} {left : Tables} → patching o left ≡ patchFile limit s t →
+    (patching o left ≡ patchFile limit s t) × (valuesOf o ≡ dueValues (fileNumber limit s t) (polygonOf s .n) (best (jobIn (polygonOf s))))
 unfolding patchFile
-file-values s t e = (e, ap (λ (x : Patching). valuesOf (x .outcome)) e ∙ by-number (polygonOf s) t (fileNumber s t) (by (reader.numberDue s)))
+file-values limit s t e = (e, ap (λ (x : Patching). valuesOf (x .outcome)) e ∙ by-number (polygonOf s) t (fileNumber limit s t) (by (reader.numberDue limit s)))
   where
     by : (k : ℕ) → firstDue k (polygonNumber (polygonOf s) t) ≡ 0 → Valid (polygonOf s)
     by zero e = none-valid (polygonOf s) t e

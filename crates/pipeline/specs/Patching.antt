@@ -90,9 +90,9 @@ polygonNumber p t = numberDue (tablesShort p t) p
 unfoldable pub patchPolygon : Polygon → Tables → Patching
 patchPolygon p t = patchBy (polygonNumber p t) p t
 
--- a rim file, with its first number due (rule 4.31): 1 to 11 and 18 in the reader's order, then those of its polygon
-abbrev pub fileNumber : List ℕ → Tables → ℕ
-fileNumber file t = firstDue (reader.numberDue file) (polygonNumber (polygonOf file) t)
+-- a rim file read with a limit, and its first number due (rule 4.31): the reader's in their order, then those of its polygon
+abbrev pub fileNumber : ℕ → List ℕ → Tables → ℕ
+fileNumber limit file t = firstDue (reader.numberDue limit file) (polygonNumber (polygonOf file) t)
 
-unfoldable pub patchFile : List ℕ → Tables → Patching
-patchFile file t = patchBy (fileNumber file t) (polygonOf file) t
+unfoldable pub patchFile : ℕ → List ℕ → Tables → Patching
+patchFile limit file t = patchBy (fileNumber limit file t) (polygonOf file) t

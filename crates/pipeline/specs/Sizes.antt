@@ -9,10 +9,10 @@ use Rattle.finder.specs.declared.Sizes.{Sizes}
 use Rattle.finder.specs.Finding.{numberDue}
 use Rattle.finder.specs.Sizes.{sizesBy}
 
--- the first number due before any table is looked at (rule 4.31): 1 to 11 and 18 in the reader's order, then those of its polygon
-abbrev pub sizesNumber : List ℕ → ℕ
-sizesNumber file = firstDue (reader.numberDue file) (numberDue false (polygonOf file))
+-- the first number due before any table is looked at (rule 4.31): the reader's in their order, then those of its polygon
+abbrev pub sizesNumber : ℕ → List ℕ → ℕ
+sizesNumber limit file = firstDue (reader.numberDue limit file) (numberDue false (polygonOf file))
 
 -- that number, or the places (rule 5.5)
-unfoldable pub sizesFile : List ℕ → Sizes
-sizesFile file = sizesBy (sizesNumber file) (polygonOf file)
+unfoldable pub sizesFile : ℕ → List ℕ → Sizes
+sizesFile limit file = sizesBy (sizesNumber limit file) (polygonOf file)

@@ -74,8 +74,9 @@ pub fn patch_polygon(
     }
 }
 
-// The patch of a rim file.
+// The patch of a rim file of at most so many vertices.
 pub fn patch_file(
+    limit: usize,
     file: &[u8],
     triangles: &mut [u16],
     candidates: &mut [[u8; 3]],
@@ -83,10 +84,10 @@ pub fn patch_file(
     rows: &mut [[u32; 3]],
     work: &mut [u64],
 ) -> Outcome
-    ensures { λ r. ⌜ patching r (tables (now (triangles .exit)) (now (candidates .exit)) (now (weights .exit)) (now (rows .exit)) (now (work .exit))) ≡ patchFile (now (file .entry)) (tables (now (triangles .entry)) (now (candidates .entry)) (now (weights .entry)) (now (rows .entry)) (now (work .entry))) ⌝ }
-    ensures { λ r. ⌜ valuesOf r ≡ dueValues (fileNumber (now (file .entry)) (tables (now (triangles .entry)) (now (candidates .entry)) (now (weights .entry)) (now (rows .entry)) (now (work .entry)))) (polygonOf (now (file .entry)) .n) (best (jobIn (polygonOf (now (file .entry))))) ⌝ }
+    ensures { λ r. ⌜ patching r (tables (now (triangles .exit)) (now (candidates .exit)) (now (weights .exit)) (now (rows .exit)) (now (work .exit))) ≡ patchFile limit (now (file .entry)) (tables (now (triangles .entry)) (now (candidates .entry)) (now (weights .entry)) (now (rows .entry)) (now (work .entry))) ⌝ }
+    ensures { λ r. ⌜ valuesOf r ≡ dueValues (fileNumber limit (now (file .entry)) (tables (now (triangles .entry)) (now (candidates .entry)) (now (weights .entry)) (now (rows .entry)) (now (work .entry)))) (polygonOf (now (file .entry)) .n) (best (jobIn (polygonOf (now (file .entry))))) ⌝ }
 {
-    let reading = reader::read_polygon(file);
+    let reading = reader::read_polygon(limit, file);
     let status = reading.status;
     let p = reading.polygon;
     match status {
@@ -95,12 +96,12 @@ pub fn patch_file(
     }
 }
 
-// The places that the lent tables need for a rim file, or the number due on it: 1 to 12 or 18.
-pub fn table_sizes(file: &[u8]) -> Sizes
-    ensures { λ r. ⌜ r ≡ sizesFile (now (file .entry)) ⌝ }
-    ensures { λ r. ⌜ (sizes.numberOf r ≡ sizesNumber (now (file .entry))) × (placesIn r ≡ duePlaces (sizesNumber (now (file .entry))) (polygonOf (now (file .entry)))) ⌝ }
+// The places that the lent tables need for a rim file of at most so many vertices, or the number due on it: one of the reader's, or 12.
+pub fn table_sizes(limit: usize, file: &[u8]) -> Sizes
+    ensures { λ r. ⌜ r ≡ sizesFile limit (now (file .entry)) ⌝ }
+    ensures { λ r. ⌜ (sizes.numberOf r ≡ sizesNumber limit (now (file .entry))) × (placesIn r ≡ duePlaces (sizesNumber limit (now (file .entry))) (polygonOf (now (file .entry)))) ⌝ }
 {
-    let reading = reader::read_polygon(file);
+    let reading = reader::read_polygon(limit, file);
     let status = reading.status;
     let p = reading.polygon;
     match status {

@@ -20,5 +20,6 @@ pub mod Demand1
 pub mod Accepted
 pub mod Existing
 pub mod HalfSteps
+pub mod Limits
 pub mod Editions
 pub mod Cases

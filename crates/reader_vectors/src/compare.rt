@@ -17,9 +17,9 @@ pub type Numbers = [i64; COUNT];
 
 fn read(file: &[u8], length: usize) -> Reading {
     if file.len() < length {
-        return reader::read_polygon(file);
+        return reader::read_polygon(terms::MAX_VERTICES, file);
     }
-    reader::read_polygon(&file[..length])
+    reader::read_polygon(terms::MAX_VERTICES, &file[..length])
 }
 
 // Is p the point whose coordinates start at `at`?

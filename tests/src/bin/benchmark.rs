@@ -10,7 +10,7 @@
 
 use outside_tests::calls::{Calls, Job, Lent, Places, Tables, MOST_BYTES};
 use outside_tests::comparison::compare_conversion;
-use outside_tests::fast::Fast;
+use outside_tests::fast::FAST;
 use outside_tests::jobs::{job_of, random_job};
 use outside_tests::library::library;
 use outside_tests::normals;
@@ -54,7 +54,7 @@ fn round(calls: &dyn Calls, cases: usize, times: usize, call: &mut Call) -> f64 
 type Call<'a> = dyn FnMut(&dyn Calls, usize) + 'a;
 
 fn measure(cases: usize, call: &mut Call) -> Times {
-    let one_pass = round(&Fast, cases, 1, call) * cases as f64;
+    let one_pass = round(&FAST, cases, 1, call) * cases as f64;
     let times = (ROUND / one_pass).ceil().clamp(1.0, 10_000.0) as usize;
     let mut least = Times { library: None, reference: f64::INFINITY };
     for _ in 0..ROUNDS {
@@ -62,7 +62,7 @@ fn measure(cases: usize, call: &mut Call) -> Times {
             let own = round(library, cases, times, call);
             least.library = Some(least.library.map_or(own, |before| before.min(own)));
         }
-        least.reference = least.reference.min(round(&Fast, cases, times, call));
+        least.reference = least.reference.min(round(&FAST, cases, times, call));
     }
     least
 }
@@ -71,7 +71,7 @@ fn measure(cases: usize, call: &mut Call) -> Times {
 fn check(cases: usize, mut call: impl FnMut(&dyn Calls, usize) -> Tables) {
     if let Some(library) = library() {
         for case in 0..cases {
-            let difference = call(library, case).difference(&call(&Fast, case));
+            let difference = call(library, case).difference(&call(&FAST, case));
             assert_eq!(difference, None, "library and reference differ");
         }
     }
@@ -98,7 +98,7 @@ fn rims(shape: Shape, n: usize, random: &mut Random) {
     let mut tables = Tables::guarded(Places::ENOUGH);
     let files: Vec<Vec<u8>> = rim_files(shape, n, random).iter().map(RimFile::bytes).collect();
     let count = files.len();
-    let jobs: Vec<Job> = files.iter().map(|file| job_of(&Fast, file, &mut tables)).collect();
+    let jobs: Vec<Job> = files.iter().map(|file| job_of(&FAST, file, &mut tables)).collect();
     let mut job_tables: Vec<Tables> = jobs.iter().map(tables_of).collect();
     check_rims(&files);
     let reader = measure(count, &mut |calls, case| {
@@ -155,7 +155,7 @@ fn conversions(n: usize, spare: usize, random: &mut Random) {
         let files: Vec<Vec<u8>> = files.iter().map(RimFile::bytes).collect();
         if let Some(library) = library() {
             files.iter().for_each(|file| {
-                compare_conversion(&Fast, library, file, MOST_BYTES);
+                compare_conversion(&FAST, library, file, MOST_BYTES);
             });
         }
         measure(files.len(), &mut |calls, case| {
@@ -182,8 +182,9 @@ fn jobs(n: usize, rows: usize, random: &mut Random) {
 }
 
 fn main() {
-    let under = library().map_or("not linked (build with --features library)", |own| own.name());
-    println!("library: {under}; microseconds per call: library, {}, ratio", Fast.name());
+    let not_linked = "not linked (build with --features library)";
+    let under = library().map_or(not_linked.into(), |own| own.name());
+    println!("library: {under}; microseconds per call: library, {}, ratio", FAST.name());
     let mut random = Random::new(1);
     let stages = ["reader", "reader and finder", "tiler", "whole call"];
     let heads: Vec<String> = stages.iter().map(|stage| format!("{stage:>30}")).collect();

@@ -13,13 +13,20 @@ use crate::calls::{
 use finder::Faces;
 use reader::Polygon;
 
-pub struct Fast;
+/// The calls for rims of so many vertices at most.
+pub struct Fast {
+    limit: usize,
+}
 
-/// The polygon and its faces, or the number due.
-fn faces_of(file: &[u8]) -> Result<(Polygon, Faces), u32> {
-    let polygon = reader::read(file)?;
-    let faces = Faces::of(&polygon)?;
-    Ok((polygon, faces))
+pub const FAST: Fast = Fast { limit: reader::MOST };
+
+impl Fast {
+    /// The polygon and its faces, or the number due.
+    fn faces_of(&self, file: &[u8]) -> Result<(Polygon, Faces), u32> {
+        let polygon = reader::read_up_to(self.limit, file)?;
+        let faces = Faces::of(&polygon)?;
+        Ok((polygon, faces))
+    }
 }
 
 fn lists_fit(faces: &Faces, tables: &Tables) -> bool {
@@ -37,12 +44,16 @@ fn write_lists(polygon: &Polygon, faces: &Faces, tables: &mut Tables) {
 }
 
 impl Calls for Fast {
-    fn name(&self) -> &'static str {
-        "fast reference"
+    fn name(&self) -> String {
+        format!("fast reference within {}", self.limit)
+    }
+
+    fn within(&self, limit: usize) -> Box<dyn Calls> {
+        Box::new(Fast { limit })
     }
 
     fn patch_rim(&self, file: &[u8], tables: &mut Tables) -> PatchAnswer {
-        let (polygon, faces) = match faces_of(file) {
+        let (polygon, faces) = match self.faces_of(file) {
             Err(number) => return PatchAnswer::refused(number),
             Ok(found) => found,
         };
@@ -79,7 +90,7 @@ impl Calls for Fast {
     }
 
     fn read_rim(&self, file: &[u8]) -> ReadAnswer {
-        match reader::read(file) {
+        match reader::read_up_to(self.limit, file) {
             Err(number) => ReadAnswer { number, vertices: 0 },
             Ok(polygon) => ReadAnswer { number: 0, vertices: polygon.n },
         }
@@ -87,7 +98,7 @@ impl Calls for Fast {
 
     fn find_candidates(&self, file: &[u8], tables: &mut Tables) -> FindAnswer {
         let refused = |number| FindAnswer { number, candidates: 0, rows: 0 };
-        let (polygon, faces) = match faces_of(file) {
+        let (polygon, faces) = match self.faces_of(file) {
             Err(number) => return refused(number),
             Ok(found) => found,
         };
@@ -99,7 +110,7 @@ impl Calls for Fast {
     }
 
     fn sizes(&self, file: &[u8]) -> Result<Places, u32> {
-        let (polygon, faces) = faces_of(file)?;
+        let (polygon, faces) = self.faces_of(file)?;
         let (candidates, rows) = (faces.candidates(), faces.rows());
         let triangles = polygon.n - 2;
         Ok(Places { triangles, candidates, weights: candidates, rows, work: candidates })

@@ -2,11 +2,15 @@
 
 use super::vectors::Vector;
 
+/// The most vertices of a polygon, and the fewest.
+pub const MOST: usize = 64;
+const FEWEST: usize = 3;
+
 pub struct Polygon {
     pub n: usize,
     pub area_factor: u32,
     pub bend_factor: u32,
-    pub vertices: [Vector; 64],
+    pub vertices: [Vector; MOST],
     /// The normals outside the edges that start at the vertices, zeros where there is no surface.
     /// Edition 1 has no list.
     pub outside: Vec<Vector>,
@@ -89,8 +93,15 @@ fn normal(file: &[u8], at: usize) -> Result<Vector, u32> {
     Ok(normal.map(i64::from))
 }
 
-/// The vertices of the chain, with the normals of their edges.
-fn walk(file: &[u8], layout: Layout, records: usize, polygon: &mut Polygon) -> Result<(), u32> {
+/// The vertices of the chain, with the normals of their edges, into as many places as are left free.
+fn walk(
+    file: &[u8],
+    layout: Layout,
+    records: usize,
+    mut free: usize,
+    polygon: &mut Polygon,
+) -> Result<(), u32> {
+    let past = if free == MOST { 5u32 } else { 20 };
     let mut met = [false; 257];
     let mut height = None;
     let mut link = u16_at(file, layout.header);
@@ -101,9 +112,7 @@ fn walk(file: &[u8], layout: Layout, records: usize, polygon: &mut Polygon) -> R
         if met[link] {
             return Err(4);
         }
-        if polygon.n == 64 {
-            return Err(5);
-        }
+        free = free.checked_sub(1).ok_or(past)?;
         met[link] = true;
         let at = layout.records() + layout.record * (link - 1);
         polygon.vertices[polygon.n] = vertex(file, at, &mut height)?;
@@ -117,6 +126,15 @@ fn walk(file: &[u8], layout: Layout, records: usize, polygon: &mut Polygon) -> R
 }
 
 pub fn read(file: &[u8]) -> Result<Polygon, u32> {
+    read_up_to(MOST, file)
+}
+
+/// The polygon of a file, where it has no more vertices than the limit.
+pub fn read_up_to(limit: usize, file: &[u8]) -> Result<Polygon, u32> {
+    // One comparison: a limit below the fewest wraps around.
+    if limit.wrapping_sub(FEWEST) > MOST - FEWEST {
+        return Err(14);
+    }
     let layout = Layout::of(file);
     if file.len() < layout.records() {
         return Err(1);
@@ -130,10 +148,10 @@ pub fn read(file: &[u8]) -> Result<Polygon, u32> {
         return Err(2);
     }
     let bend_factor = u16_at(file, layout.header + 6) as u32;
-    let vertices = [[0; 3]; 64];
+    let vertices = [[0; 3]; MOST];
     let mut polygon = Polygon { n: 0, area_factor, bend_factor, vertices, outside: Vec::new() };
-    walk(file, layout, records, &mut polygon)?;
-    if polygon.n < 3 {
+    walk(file, layout, records, limit, &mut polygon)?;
+    if polygon.n < FEWEST {
         return Err(10);
     }
     for i in 1..polygon.n {

@@ -19,21 +19,26 @@ use finder::Lists;
 use tilings::Tiling;
 
 /// The reference: what the rules say of a call, with a choice of how the best tiling is found.
+#[derive(Clone, Copy)]
 pub struct Law {
     name: &'static str,
     best: fn(&Job) -> Option<Tiling>,
+    limit: usize,
 }
 
 /// Every set of candidates is looked at: for small polygons.
-pub const BY_SETS: Law = Law { name: "law by sets", best: tilings::best };
+pub const BY_SETS: Law =
+    Law { name: "law by sets", best: tilings::best, limit: reader::HIGHEST_LIMIT };
 
 /// For polygons too large for sets.
-pub const BY_INTERVALS: Law = Law { name: "law by intervals", best: interval::best };
+pub const BY_INTERVALS: Law = Law { name: "law by intervals", best: interval::best, ..BY_SETS };
 
-/// The vertices and the lists of a file, or the number due of 1 to 12 and 18 (rule 4.31).
-fn lists_of(file: &[u8]) -> Result<(usize, Lists), u32> {
-    let rim = reader::read(file)?;
-    Ok((rim.points.len(), finder::find(&rim)?))
+impl Law {
+    /// The vertices and the lists of a file, or the number due of 1 to 12, 14, 18 and 20 (rule 4.31).
+    fn lists_of(&self, file: &[u8]) -> Result<(usize, Lists), u32> {
+        let rim = reader::read_within(self.limit, file)?;
+        Ok((rim.points.len(), finder::find(&rim)?))
+    }
 }
 
 fn fill<T: Copy>(table: &mut [T], list: &[T]) {
@@ -67,12 +72,16 @@ fn write_patch(best: Option<Tiling>, candidates: usize, tables: &mut Tables) -> 
 }
 
 impl Calls for Law {
-    fn name(&self) -> &'static str {
-        self.name
+    fn name(&self) -> String {
+        format!("{} within {}", self.name, self.limit)
+    }
+
+    fn within(&self, limit: usize) -> Box<dyn Calls> {
+        Box::new(Law { limit, ..*self })
     }
 
     fn patch_rim(&self, file: &[u8], tables: &mut Tables) -> PatchAnswer {
-        let (n, lists) = match lists_of(file) {
+        let (n, lists) = match self.lists_of(file) {
             Err(number) => return PatchAnswer::refused(number),
             Ok(found) => found,
         };
@@ -104,7 +113,7 @@ impl Calls for Law {
     }
 
     fn read_rim(&self, file: &[u8]) -> ReadAnswer {
-        match reader::read(file) {
+        match reader::read_within(self.limit, file) {
             Err(number) => ReadAnswer { number, vertices: 0 },
             Ok(rim) => ReadAnswer { number: 0, vertices: rim.points.len() },
         }
@@ -112,7 +121,7 @@ impl Calls for Law {
 
     fn find_candidates(&self, file: &[u8], tables: &mut Tables) -> FindAnswer {
         let refused = |number| FindAnswer { number, candidates: 0, rows: 0 };
-        let lists = match lists_of(file) {
+        let lists = match self.lists_of(file) {
             Err(number) => return refused(number),
             Ok((_, lists)) => lists,
         };
@@ -124,7 +133,7 @@ impl Calls for Law {
     }
 
     fn sizes(&self, file: &[u8]) -> Result<Places, u32> {
-        let (n, lists) = lists_of(file)?;
+        let (n, lists) = self.lists_of(file)?;
         let candidates = lists.candidates.len();
         Ok(Places {
             triangles: n - 2,

@@ -1,5 +1,5 @@
-//! The rim file (rules 1.1 to 1.8 and 1.12 to 1.14): its polygon, or the first number due of 1 to
-//! 11 and 18.
+//! The rim file (rules 1.1 to 1.8 and 1.12 to 1.14): its polygon, of no more vertices than a limit,
+//! or the first number due of 1 to 11, 18 and 20, and before them 14.
 
 use super::grid::{grid_number, GridNumber};
 
@@ -21,6 +21,9 @@ pub struct Parts<'a> {
     pub header: &'a [u8],
     pub records: Vec<&'a [u8]>,
 }
+
+/// The vertices of the longest rim.
+pub const HIGHEST_LIMIT: usize = 64;
 
 /// Bytes of a record up to its normal, and of the normal.
 pub const RECORD: usize = 16;
@@ -96,42 +99,58 @@ pub fn cut(file: &[u8]) -> Result<Parts<'_>, u32> {
     Ok(Parts { edition, header, records: records.chunks(record).collect() })
 }
 
-/// The points and surfaces along the chain. A link is judged when it is followed (rule 4.31): 3, 4,
-/// 5, then the record.
-fn chain(file: &Parts) -> Result<(Vec<Point>, Vec<Option<Point>>), u32> {
-    let mut met = Vec::new();
+/// The records that the links lead to, whatever they hold, and what the last link says: nothing
+/// where it is 0, else 3 or 4.
+fn linked<'a>(file: &Parts<'a>) -> (Vec<&'a [u8]>, Result<(), u32>) {
+    let mut met = vec![0];
+    let mut records = Vec::new();
+    let mut link = u16_at(file.header, 0);
+    while !met.contains(&link) {
+        let Some(&record) = file.records.get(link - 1) else {
+            return (records, Err(3));
+        };
+        met.push(link);
+        records.push(record);
+        link = u16_at(record, 0);
+    }
+    (records, if link == 0 { Ok(()) } else { Err(4) })
+}
+
+/// The points and surfaces along the chain (rule 4.31): each record within the limit in turn, then
+/// that there is one more, 5 or 20, then the link that ends the chain.
+fn chain(file: &Parts, limit: usize) -> Result<(Vec<Point>, Vec<Option<Point>>), u32> {
+    let (records, end) = linked(file);
     let mut points = Vec::new();
     let mut surfaces = Vec::new();
     let mut height = None;
-    let mut link = u16_at(file.header, 0);
-    while link != 0 {
-        if link > file.records.len() {
-            return Err(3);
-        }
-        if met.contains(&link) {
-            return Err(4);
-        }
-        if met.len() == 64 {
-            return Err(5);
-        }
-        met.push(link);
-        let record = file.records[link - 1];
+    for record in records.iter().take(limit) {
         let (point, its_height) = point_of(record, height)?;
         points.push(point);
         height = Some(its_height);
         surfaces.push(surface_of(record)?);
-        link = u16_at(record, 0);
     }
+    if records.len() > limit {
+        return Err(if limit == HIGHEST_LIMIT { 5 } else { 20 });
+    }
+    end?;
     Ok((points, surfaces))
 }
 
+/// The rim of a file, with the highest limit.
 pub fn read(file: &[u8]) -> Result<Rim, u32> {
+    read_within(HIGHEST_LIMIT, file)
+}
+
+pub fn read_within(limit: usize, file: &[u8]) -> Result<Rim, u32> {
+    if !(3..=HIGHEST_LIMIT).contains(&limit) {
+        return Err(14);
+    }
     let parts = cut(file)?;
     let [area_factor, bend_factor] = [4, 6].map(|at| u16_at(parts.header, at) as u64);
     if area_factor > 16 {
         return Err(2);
     }
-    let (points, surfaces) = chain(&parts)?;
+    let (points, surfaces) = chain(&parts, limit)?;
     if points.len() < 3 {
         return Err(10);
     }
