@@ -1,7 +1,8 @@
 //! The patch box for hosts in Rust: its calls over slices. Tables that overlap, dangle or are not
 //! aligned do not compile. patch_box.h says what each call does to the tables; README.md and
 //! docs/SPECIFICATION.md describe the rules and the rim file. A call that takes a rim file takes both
-//! editions.
+//! editions. The calls whose names end in `_within` take rims of no more vertices than a limit, from
+//! [`MIN_VERTICES`] to [`MAX_VERTICES`]; the others take the highest one.
 //!
 //! ```no_run
 //! use patch_box::{Number, Outcome, OwnedTables};
@@ -37,8 +38,14 @@ pub use owned::OwnedTables;
 /// Bytes of the longest rim file, which is of edition 2.
 pub const MAX_FILE: usize = 10 + 22 * 256;
 
-/// Vertices of the longest rim.
+/// Vertices of the longest rim: the highest limit.
 pub const MAX_VERTICES: usize = 64;
+
+/// Vertices of the shortest rim: the lowest limit.
+pub const MIN_VERTICES: usize = 3;
+
+/// The limit of the trim program.
+pub const TRIM_VERTICES: usize = 24;
 
 /// Places that suffice for the triangles of every rim.
 pub const MAX_TRIANGLES: usize = MAX_VERTICES - 2;
@@ -139,16 +146,17 @@ numbers! {
     VertexRepeated = 11, "two vertices are at one grid point";
     Cospherical = 12, "five vertices, not all in one plane, are on a sphere that has no vertex inside";
     TableTooShort = 13, "a lent table is too short";
-    VertexCount = 14, "the n of a direct job is not from 3 to 64";
+    VertexCount = 14, "the n of a direct job, or the limit asked for, is not from 3 to 64";
     Candidate = 15, "the candidates of a direct job are not vertices a < b < c < n in rising order";
     Row = 16, "the rows of a direct job are not hanging pairs in rising order";
     Weight = 17, "a weight of a direct job is more than 2,000,000,000";
     Normal = 18, "a number of a normal is not from -1000 to 1000";
     NormalLost = 19, "a normal would be lost: a record of the file to convert has one that is not zero";
+    OverLimit = 20, "the chain has more records than the limit asked for";
 }
 
 impl Number {
-    /// The number itself, 1 to 19.
+    /// The number itself, 1 to 20.
     pub fn code(self) -> u32 {
         self as u32
     }
@@ -167,13 +175,30 @@ impl fmt::Display for Number {
 
 impl Error for Number {}
 
+/// A call of the archive: numbers as they are, then each slice as its pointer and its length, those
+/// that are only read first.
+macro_rules! call {
+    ($name:ident($($number:ident)?; $($read:ident),*; $($lent:ident),*)) => {
+        // SAFETY: each pointer is a slice's own, with that slice's length; mutable slices are disjoint.
+        unsafe {
+            archive::$name(
+                $($number,)?
+                $($read.as_ptr(), $read.len(),)*
+                $($lent.as_mut_ptr(), $lent.len(),)*
+            )
+        }
+    };
+}
+
 /// The places that the tables of a rim file need, or a number of 1 to 12 or 18.
 pub fn sizes(file: &[u8]) -> Result<Sizes, Number> {
-    // SAFETY: the slice is valid for the call.
-    let answer = unsafe { archive::patch_box_sizes(file.as_ptr(), file.len()) };
-    let archive::Sizes { number, triangles, candidates, weights, rows, work } = answer;
-    accepted(number, [triangles, candidates, weights, rows, work])?;
-    Ok(Sizes { triangles, candidates, weights, rows, work })
+    call!(patch_box_sizes(; file;)).sizes()
+}
+
+/// The same within a limit: below 64 the number 20 is in the place of 5. A limit that is not from 3
+/// to 64 is refused with 14, whatever the file.
+pub fn sizes_within(limit: usize, file: &[u8]) -> Result<Sizes, Number> {
+    call!(patch_box_sizes_within(limit; file;)).sizes()
 }
 
 /// The one call: closes the rim of a rim file. A number of 1 to 13 or 18 where it is refused. The
@@ -181,24 +206,14 @@ pub fn sizes(file: &[u8]) -> Result<Sizes, Number> {
 /// where these suffice.
 pub fn rim(file: &[u8], tables: Tables) -> Result<Outcome, Number> {
     let Tables { triangles, candidates, weights, rows, work } = tables;
-    // SAFETY: each pointer is a slice's own, with that slice's length; mutable slices are disjoint.
-    let answer = unsafe {
-        archive::patch_box_rim(
-            file.as_ptr(),
-            file.len(),
-            triangles.as_mut_ptr(),
-            triangles.len(),
-            candidates.as_mut_ptr(),
-            candidates.len(),
-            weights.as_mut_ptr(),
-            weights.len(),
-            rows.as_mut_ptr(),
-            rows.len(),
-            work.as_mut_ptr(),
-            work.len(),
-        )
-    };
-    answer.outcome()
+    call!(patch_box_rim(; file; triangles, candidates, weights, rows, work)).outcome()
+}
+
+/// The same within a limit, with the numbers 14 and 20 as in [`sizes_within`]. A rim that fits into
+/// several limits has one answer under all of them.
+pub fn rim_within(limit: usize, file: &[u8], tables: Tables) -> Result<Outcome, Number> {
+    let Tables { triangles, candidates, weights, rows, work } = tables;
+    call!(patch_box_rim_within(limit; file; triangles, candidates, weights, rows, work)).outcome()
 }
 
 /// The tiler alone, for a direct job. A number of 13 to 17 where it is refused.
@@ -210,31 +225,17 @@ pub fn job(
     triangles: &mut [u16],
     work: &mut [u64],
 ) -> Result<Outcome, Number> {
-    // SAFETY: each pointer is a slice's own, with that slice's length; mutable slices are disjoint.
-    let answer = unsafe {
-        archive::patch_box_job(
-            n,
-            candidates.as_ptr(),
-            candidates.len(),
-            weights.as_ptr(),
-            weights.len(),
-            rows.as_ptr(),
-            rows.len(),
-            triangles.as_mut_ptr(),
-            triangles.len(),
-            work.as_mut_ptr(),
-            work.len(),
-        )
-    };
-    answer.outcome()
+    call!(patch_box_job(n; candidates, weights, rows; triangles, work)).outcome()
 }
 
 /// The reader alone: how many vertices the rim has, or a number of 1 to 11 or 18.
 pub fn read(file: &[u8]) -> Result<usize, Number> {
-    // SAFETY: the slice is valid for the call.
-    let answer = unsafe { archive::patch_box_read(file.as_ptr(), file.len()) };
-    accepted(answer.number, [answer.vertices])?;
-    Ok(answer.vertices)
+    call!(patch_box_read(; file;)).vertices()
+}
+
+/// The same within a limit, with the numbers 14 and 20 as in [`sizes_within`].
+pub fn read_within(limit: usize, file: &[u8]) -> Result<usize, Number> {
+    call!(patch_box_read_within(limit; file;)).vertices()
 }
 
 /// The reader, then the candidate finder: a number of 1 to 13 or 18 where it is refused.
@@ -244,32 +245,25 @@ pub fn find(
     weights: &mut [u32],
     rows: &mut [Row],
 ) -> Result<Found, Number> {
-    // SAFETY: each pointer is a slice's own, with that slice's length; mutable slices are disjoint.
-    let answer = unsafe {
-        archive::patch_box_find(
-            file.as_ptr(),
-            file.len(),
-            candidates.as_mut_ptr(),
-            candidates.len(),
-            weights.as_mut_ptr(),
-            weights.len(),
-            rows.as_mut_ptr(),
-            rows.len(),
-        )
-    };
-    accepted(answer.number, [answer.candidates, answer.rows])?;
-    Ok(Found { candidates: answer.candidates, rows: answer.rows })
+    call!(patch_box_find(; file; candidates, weights, rows)).found()
+}
+
+/// The same within a limit, with the numbers 14 and 20 as in [`sizes_within`].
+pub fn find_within(
+    limit: usize,
+    file: &[u8],
+    candidates: &mut [Candidate],
+    weights: &mut [u32],
+    rows: &mut [Row],
+) -> Result<Found, Number> {
+    call!(patch_box_find_within(limit; file; candidates, weights, rows)).found()
 }
 
 /// Conversion between editions: the file in the other one, in the first places of the table. One of
 /// edition 1 gets zero normals. A number of 1 to 11, 13, 18 or 19 where it is refused. [`MAX_FILE`]
 /// places suffice for every converted file.
 pub fn convert(file: &[u8], out: &mut [u8]) -> Result<Converted, Number> {
-    // SAFETY: each pointer is a slice's own, with that slice's length; mutable slices are disjoint.
-    let answer = unsafe {
-        archive::patch_box_convert(file.as_ptr(), file.len(), out.as_mut_ptr(), out.len())
-    };
-    let archive::Convert { number, edition, length } = answer;
+    let archive::Convert { number, edition, length } = call!(patch_box_convert(; file; out));
     accepted(number, [edition as usize, length])?;
     if !matches!(edition, 1 | 2) || length > out.len() {
         panic!("the archive and patch_box.rs differ: edition {edition}, length {length}");
@@ -283,6 +277,29 @@ fn accepted<const N: usize>(number: u32, counts: [usize; N]) -> Result<(), Numbe
         None if number == 0 => Ok(()),
         Some(refusal) if counts == [0; N] => Err(refusal),
         _ => panic!("the archive and patch_box.rs differ: number {number}, counts {counts:?}"),
+    }
+}
+
+impl archive::Sizes {
+    fn sizes(self) -> Result<Sizes, Number> {
+        let archive::Sizes { number, triangles, candidates, weights, rows, work } = self;
+        accepted(number, [triangles, candidates, weights, rows, work])?;
+        Ok(Sizes { triangles, candidates, weights, rows, work })
+    }
+}
+
+impl archive::Read {
+    fn vertices(self) -> Result<usize, Number> {
+        accepted(self.number, [self.vertices])?;
+        Ok(self.vertices)
+    }
+}
+
+impl archive::Find {
+    fn found(self) -> Result<Found, Number> {
+        let archive::Find { number, candidates, rows } = self;
+        accepted(number, [candidates, rows])?;
+        Ok(Found { candidates, rows })
     }
 }
 
@@ -380,7 +397,25 @@ mod archive {
     extern "C" {
         pub fn patch_box_sizes(file: *const u8, file_len: usize) -> Sizes;
 
+        pub fn patch_box_sizes_within(limit: usize, file: *const u8, file_len: usize) -> Sizes;
+
         pub fn patch_box_rim(
+            file: *const u8,
+            file_len: usize,
+            triangles: *mut u16,
+            triangles_len: usize,
+            candidates: *mut Candidate,
+            candidates_len: usize,
+            weights: *mut u32,
+            weights_len: usize,
+            rows: *mut Row,
+            rows_len: usize,
+            work: *mut u64,
+            work_len: usize,
+        ) -> Patch;
+
+        pub fn patch_box_rim_within(
+            limit: usize,
             file: *const u8,
             file_len: usize,
             triangles: *mut u16,
@@ -411,7 +446,21 @@ mod archive {
 
         pub fn patch_box_read(file: *const u8, file_len: usize) -> Read;
 
+        pub fn patch_box_read_within(limit: usize, file: *const u8, file_len: usize) -> Read;
+
         pub fn patch_box_find(
+            file: *const u8,
+            file_len: usize,
+            candidates: *mut Candidate,
+            candidates_len: usize,
+            weights: *mut u32,
+            weights_len: usize,
+            rows: *mut Row,
+            rows_len: usize,
+        ) -> Find;
+
+        pub fn patch_box_find_within(
+            limit: usize,
             file: *const u8,
             file_len: usize,
             candidates: *mut Candidate,

@@ -4,7 +4,7 @@ use crate::calls::{
     Calls, ConvertAnswer, FindAnswer, Job, Lent, PatchAnswer, Places, ReadAnswer, Tables,
     MOST_BYTES,
 };
-use crate::library::each;
+use crate::library::{each, each_within};
 
 /// Bytes in hexadecimal.
 pub fn hexadecimal(bytes: &[u8]) -> String {
@@ -61,6 +61,30 @@ pub fn compare_reader(expected: &dyn Calls, tested: &dyn Calls, file: &[u8]) -> 
     answers[0].number
 }
 
+/// The sizing call on a file.
+pub fn compare_sizes(
+    expected: &dyn Calls,
+    tested: &dyn Calls,
+    file: &[u8],
+) -> Result<Places, u32> {
+    let answers = [expected.sizes(file), tested.sizes(file)];
+    same([expected, tested], answers, None, &|| format!("file {}", hexadecimal(file)));
+    answers[0]
+}
+
+/// Every call that takes a rim to close; the answer of the one call.
+pub fn compare_calls(
+    expected: &dyn Calls,
+    tested: &dyn Calls,
+    file: &[u8],
+    tables: &Tables,
+) -> PatchAnswer {
+    compare_reader(expected, tested, file);
+    let _ = compare_sizes(expected, tested, file);
+    compare_finder(expected, tested, file, tables);
+    compare_rim(expected, tested, file, tables)
+}
+
 /// The conversion of a file, with a table of so many places; a refusal changes none of them.
 pub fn compare_conversion(
     expected: &dyn Calls,
@@ -94,22 +118,37 @@ pub fn compare_job(
 
 /// A file is refused with this number by every call of each, and no table changes.
 pub fn expect_number(file: &[u8], number: u32, case: &dyn std::fmt::Debug) {
-    const PLACES: Places = Places { triangles: 6, candidates: 30, weights: 30, rows: 60, work: 30 };
-    let before = Tables::guarded(PLACES);
     for calls in each() {
-        let mut left = before.clone();
-        let answer = calls.patch_rim(file, &mut left);
-        let name = calls.name();
-        assert_eq!(answer, PatchAnswer::refused(number), "{name}, {case:?}");
-        let found = calls.find_candidates(file, &mut left);
-        assert_eq!(found, FindAnswer { number, candidates: 0, rows: 0 }, "{name}, {case:?}");
-        assert_eq!(left.difference(&before), None, "{name}, {case:?}");
-        assert_eq!(calls.read_rim(file), ReadAnswer { number, vertices: 0 }, "{name}, {case:?}");
-        assert_eq!(calls.sizes(file), Err(number), "{name}, {case:?}");
+        expect_refusal(calls, file, number, case);
     }
     for places in [0, MOST_BYTES] {
         expect_no_conversion(file, places, number, case);
     }
+}
+
+/// The same of the calls with a limit, which a conversion does not have.
+pub fn expect_number_within(limit: usize, file: &[u8], number: u32, case: &dyn std::fmt::Debug) {
+    for calls in each_within(limit) {
+        expect_refusal(&*calls, file, number, case);
+    }
+}
+
+/// The calls that take a rim to close refuse the file, and leave tables of any length as they were.
+fn expect_refusal(calls: &dyn Calls, file: &[u8], number: u32, case: &dyn std::fmt::Debug) {
+    const SOME: Places = Places { triangles: 6, candidates: 30, weights: 30, rows: 60, work: 30 };
+    const NONE: Places = Places { triangles: 0, candidates: 0, weights: 0, rows: 0, work: 0 };
+    let name = calls.name();
+    for places in [SOME, NONE] {
+        let before = Tables::guarded(places);
+        let mut left = before.clone();
+        let answer = calls.patch_rim(file, &mut left);
+        assert_eq!(answer, PatchAnswer::refused(number), "{name}, {case:?}");
+        let found = calls.find_candidates(file, &mut left);
+        assert_eq!(found, FindAnswer { number, candidates: 0, rows: 0 }, "{name}, {case:?}");
+        assert_eq!(left.difference(&before), None, "{name}, {case:?}");
+    }
+    assert_eq!(calls.read_rim(file), ReadAnswer { number, vertices: 0 }, "{name}, {case:?}");
+    assert_eq!(calls.sizes(file), Err(number), "{name}, {case:?}");
 }
 
 /// Each refuses to convert a file, with this number, and leaves a table of so many places as it was.

@@ -1,13 +1,17 @@
-//! Damage to a rim file, and the number due for it (rules 4.1 to 4.11 and 4.18).
+//! Damage to a rim file, and the number due for it (rules 4.1 to 4.11, 4.18 and 4.20).
 
+use crate::law::reader::HIGHEST_LIMIT;
 use crate::normals;
 use crate::random::Random;
 use crate::rims::{Edition, Record, RimFile, Shape};
 
+/// The records of an undamaged file.
+const RECORDS: usize = 6;
+
 /// A file of six records in chain order, with a normal on every edge in edition 2.
 pub fn undamaged(edition: Edition, seed: u64) -> RimFile {
     let mut random = Random::new(seed);
-    let points = Shape::NoisyCircle.points(6, 500, &mut random);
+    let points = Shape::NoisyCircle.points(RECORDS, 500, &mut random);
     RimFile::plain(&points, 2, 1).in_edition(edition, points.len(), &mut random)
 }
 
@@ -24,7 +28,7 @@ pub enum Damage {
     Link(usize, u16),
     /// The link to the first position leads to the second.
     Repeat(usize, usize),
-    /// A chain of 65 records.
+    /// A chain of 66 records, more than any limit.
     TooMany,
     Kind(usize, u16),
     /// The first record is a level point.
@@ -121,6 +125,7 @@ const NORMALS: [Damage; 9] = [
 ];
 
 impl Damage {
+    /// The number with the highest limit.
     pub fn number(self) -> u32 {
         match self {
             Length | Records257 => 1,
@@ -139,31 +144,23 @@ impl Damage {
     }
 
     /// When the damage is met: before the chain, at a position along it, after it. A chain that
-    /// ends early ends before whatever is wrong at the next position.
-    fn when(self) -> (u32, usize, u32) {
+    /// ends early ends before whatever is wrong at the next position, and one that is too long is so
+    /// at the position after the limit, where 20 has the place of 5.
+    fn when(self, limit: usize) -> (u32, usize, u32) {
         match self {
             Length | Records257 | AreaFactor(_) => (0, 0, self.number()),
             Link(p, _) | Repeat(p, _) | Kind(p, _) => (1, p, self.number()),
             NotFinite(p, ..) | Tail(p, _) | OutOfRange(p, ..) => (1, p, self.number()),
             Normal(p, ..) => (1, p, self.number()),
             NoHeight => (1, 0, self.number()),
-            TooMany => (1, 64, self.number()),
+            TooMany => (1, limit, self.number()),
             TooFew(p) => (1, p, 0),
             SamePoint(..) => (2, 0, self.number()),
         }
     }
 
-    /// The number due on a file with both.
-    pub fn first_of(self, other: Damage) -> u32 {
-        if self.when() <= other.when() {
-            self.number()
-        } else {
-            other.number()
-        }
-    }
-
     /// The two write the same bytes, or one undoes the other.
-    pub fn conflicts(self, other: Damage) -> bool {
+    fn conflicts(self, other: Damage) -> bool {
         let touched = [self.touched(), other.touched()];
         touched[0].iter().any(|field| touched[1].contains(field))
     }
@@ -192,7 +189,7 @@ impl Damage {
         }
     }
 
-    /// A chain of at least 65 records, with all that follow in order.
+    /// A chain of 66 records, with all that follow in order.
     fn lengthen(file: &mut RimFile) {
         let last = file.records.len();
         file.records[last - 1].next = last as u16 + 1;
@@ -235,14 +232,81 @@ impl Damage {
     }
 }
 
-/// An undamaged file of each edition with each damage by itself, and the number due.
-pub fn each_alone(seed: u64) -> impl Iterator<Item = (Vec<u8>, u32)> {
-    let cases = Edition::BOTH
-        .into_iter()
-        .flat_map(|edition| all(edition).into_iter().map(move |damage| (edition, damage)));
-    cases.map(move |(edition, damage)| {
-        let mut file = undamaged(edition, seed);
-        damage.apply(&mut file);
-        (file.bytes(), damage.number())
-    })
+/// An undamaged file with these damages.
+pub fn damaged(edition: Edition, seed: u64, damages: &[Damage]) -> RimFile {
+    let mut file = undamaged(edition, seed);
+    let mut damages = damages.to_vec();
+    // The longer chain comes first, so that the others find its records.
+    damages.sort_by_key(|&damage| damage != TooMany);
+    damages.iter().for_each(|damage| damage.apply(&mut file));
+    file
+}
+
+/// The number due on such a file within a limit. A limit below its six records makes it too long.
+pub fn number_due(damages: &[Damage], limit: usize) -> u32 {
+    let too_long = (limit < RECORDS).then_some(TooMany);
+    let met = damages.iter().copied().chain(too_long);
+    let first = met.min_by_key(|damage| damage.when(limit)).expect("a damage");
+    match first {
+        TooMany if limit != HIGHEST_LIMIT => 20,
+        _ => first.number(),
+    }
+}
+
+/// Each damage in each edition.
+pub fn each_alone() -> impl Iterator<Item = (Edition, Damage)> {
+    Edition::BOTH.into_iter().flat_map(|edition| all(edition).into_iter().map(move |d| (edition, d)))
+}
+
+/// Each two that a file of the edition can have at once.
+pub fn each_pair(edition: Edition) -> impl Iterator<Item = [Damage; 2]> {
+    let ones = all(edition).into_iter();
+    let pairs = ones.flat_map(move |one| all(edition).into_iter().map(move |two| [one, two]));
+    pairs.filter(|[one, two]| one != two && !one.conflicts(*two))
+}
+
+/// Record k of so many: linked to the next as a rule, and wrong now and then.
+fn random_record(k: usize, count: usize, random: &mut Random) -> Record {
+    let rarely = 8 + 8 * count;
+    if random.once_in(rarely) {
+        return Record::anything(random);
+    }
+    let next = match random.below(rarely) {
+        0 => random.below(count + 2) as u16,
+        _ => (k as u16 + 2) % (count as u16 + 1),
+    };
+    let kind = if random.once_in(rarely) { random.below(4) as u16 } else { 1 };
+    let value = |random: &mut Random| match random.below(3 * rarely) {
+        0 => random.next_u64() as u32,
+        1 => random.one_of(&[f32::NAN, f32::INFINITY, 126.0, -125.1]).to_bits(),
+        _ => (random.between(-2000, 2000) as f32 / 16.0).to_bits(),
+    };
+    let bits = [0; 3].map(|_| value(random));
+    let normal = match random.below(rarely) {
+        0 => [0; 3].map(|_| random.between(-1002, 1002) as i16),
+        1 => [0, random.next_u64() as i16, 0],
+        _ => normals::NONE,
+    };
+    Record { next, kind, bits, normal }
+}
+
+/// A file of so many records, whose header is right for its length.
+pub fn random_records(count: usize, random: &mut Random) -> RimFile {
+    let mut records: Vec<Record> = (0..count).map(|k| random_record(k, count, random)).collect();
+    if count > 1 && random.once_in(20) {
+        let from = records[0].bits;
+        records[count - 1].bits = from;
+    }
+    if count > 0 && random.once_in(20) {
+        records[0].kind = 2;
+    }
+    let factors = if random.once_in(20) { 20 } else { 3 };
+    RimFile {
+        edition: random.one_of(&Edition::BOTH),
+        first: if random.once_in(20) { random.below(count + 3) as u16 } else { 1 },
+        declared: count as u16,
+        area_factor: random.below(factors) as u16,
+        bend_factor: random.below(3) as u16,
+        records,
+    }
 }

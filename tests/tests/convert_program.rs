@@ -1,30 +1,16 @@
 //! The convert program, where CONVERT_PROGRAM names it: a rim file on its standard input, the file in
 //! the other edition on its standard output.
 
-use outside_tests::damage::{self, undamaged};
-use outside_tests::law::program::converted;
-use outside_tests::programs::expect_written;
+use outside_tests::damage::{self, damaged, undamaged};
+use outside_tests::programs::CONVERT;
 use outside_tests::random::{seeds, Random};
 use outside_tests::rims::{Edition, RimFile, Shape, FIVE_CORNERS, P};
 use std::path::Path;
 
-fn compare(file: &[u8]) {
-    expect_written("CONVERT_PROGRAM", file, converted);
-}
-
-fn expect(file: &[u8], expected: &[u8]) {
-    assert_eq!(converted(file), expected);
-    compare(file);
-}
-
 fn both_ways(one: RimFile) {
     let [one, two] = [one.bytes(), one.converted().bytes()];
-    expect(&one, &two);
-    expect(&two, &one);
-}
-
-fn refused(file: &[u8], number: u32) {
-    expect(file, format!("refused {number}\n").as_bytes());
+    CONVERT.expect(&one, &two);
+    CONVERT.expect(&two, &one);
 }
 
 /// Also a rim that has 12, which is not asked.
@@ -42,8 +28,8 @@ fn rims_of_every_shape() {
             for n in [3, 4, 7, 12, 20, 64] {
                 let points = shape.points(n, 1000, &mut random);
                 let file = RimFile::varied(&points, [1, 3], &mut random);
-                compare(&file.bytes());
-                compare(&file.converted().bytes());
+                CONVERT.compare(&file.bytes());
+                CONVERT.compare(&file.converted().bytes());
             }
         }
     }
@@ -58,15 +44,15 @@ fn normals() {
             file.records.push(file.records[0]);
             file.declared += 1;
             file.records[k].normal[1] = number;
-            refused(&file.bytes(), due);
+            CONVERT.expect_refusal(&file.bytes(), due);
         }
     }
 }
 
 #[test]
 fn damaged_files() {
-    for (file, number) in damage::each_alone(4) {
-        refused(&file, number);
+    for (edition, damage) in damage::each_alone() {
+        CONVERT.expect_refusal(&damaged(edition, 4, &[damage]).bytes(), damage.number());
     }
 }
 
@@ -79,19 +65,19 @@ fn longest_files() {
     both_ways(one.clone());
     for file in [one.bytes(), one.converted().bytes()] {
         for more in [1, 2, 16, 22, 1538, 1539, 5_000_000] {
-            refused(&[&file[..], &vec![0; more]].concat(), 1);
+            CONVERT.expect_refusal(&[&file[..], &vec![0; more]].concat(), 1);
         }
     }
-    refused(&vec![0xff; 5_000_000], 1);
+    CONVERT.expect_refusal(&vec![0xff; 5_000_000], 1);
 }
 
 #[test]
 fn shorter_than_a_header() {
     for length in 0..8 {
-        refused(&vec![0; length], 1);
+        CONVERT.expect_refusal(&vec![0; length], 1);
     }
     for length in 0..10 {
-        refused(&vec![0xff; length], 1);
+        CONVERT.expect_refusal(&vec![0xff; length], 1);
     }
 }
 
@@ -101,7 +87,7 @@ fn examples() {
     for entry in std::fs::read_dir(folder).expect("examples") {
         let path = entry.expect("a file").path();
         if path.extension().is_some_and(|extension| extension == "rim") {
-            compare(&std::fs::read(path).expect("a rim file"));
+            CONVERT.compare(&std::fs::read(path).expect("a rim file"));
         }
     }
 }

@@ -5,10 +5,10 @@ use outside_tests::calls::{Places, Tables};
 use outside_tests::comparison::{
     compare_conversion, compare_finder, compare_reader, compare_rim, expect_number,
 };
-use outside_tests::damage::{self, undamaged, Damage};
+use outside_tests::damage::{self, damaged, number_due, random_records, undamaged, Damage};
+use outside_tests::law::reader::HIGHEST_LIMIT;
 use outside_tests::law::BY_SETS;
 use outside_tests::library::under_test;
-use outside_tests::normals;
 use outside_tests::random::{seeds, Random};
 use outside_tests::rims::{Edition, Record, RimFile, Shape};
 use std::collections::BTreeSet;
@@ -38,53 +38,27 @@ fn undamaged_files_are_patched() {
 
 #[test]
 fn every_number_alone() {
-    for edition in Edition::BOTH {
-        for damage in damage::all(edition) {
-            let mut file = undamaged(edition, 3);
-            damage.apply(&mut file);
-            expect(&file, damage.number(), &(edition, damage));
-        }
+    for (edition, damage) in damage::each_alone() {
+        expect(&damaged(edition, 3, &[damage]), damage.number(), &(edition, damage));
     }
 }
 
 fn pairs_in(edition: Edition, numbers: &[u32]) {
     let mut pairs = BTreeSet::new();
-    for one in damage::all(edition) {
-        for two in damage::all(edition) {
-            if one == two || one.conflicts(two) {
-                continue;
-            }
-            let mut file = undamaged(edition, 4);
-            // The longer chain comes first, so that the other finds its records.
-            let (first, second) = if two == Damage::TooMany { (two, one) } else { (one, two) };
-            first.apply(&mut file);
-            second.apply(&mut file);
-            expect(&file, one.first_of(two), &(edition, one, two));
-            pairs.insert((one.number(), two.number()));
-        }
+    for pair in damage::each_pair(edition) {
+        let file = damaged(edition, 4, &pair);
+        expect(&file, number_due(&pair, HIGHEST_LIMIT), &(edition, pair));
+        pairs.insert(pair.map(Damage::number));
     }
-    let missing = numbers.iter().flat_map(|&one| numbers.iter().map(move |&two| (one, two)));
+    let missing = numbers.iter().flat_map(|&one| numbers.iter().map(move |&two| [one, two]));
     let missing: Vec<_> = missing.filter(|pair| !pairs.contains(pair)).collect();
-    assert!(missing.iter().all(|(one, two)| one == two), "not tested: {missing:?}");
+    assert!(missing.iter().all(|[one, two]| one == two), "not tested: {missing:?}");
 }
 
 #[test]
 fn every_number_in_pairs() {
     pairs_in(Edition::First, &[1, 2, 3, 4, 5, 6, 7, 8, 9, 10, 11]);
     pairs_in(Edition::Second, &[1, 2, 3, 4, 5, 6, 7, 8, 9, 18, 10, 11]);
-}
-
-#[test]
-fn damage_with_short_tables() {
-    let none = Places { triangles: 0, candidates: 0, weights: 0, rows: 0, work: 0 };
-    for edition in Edition::BOTH {
-        for damage in damage::all(edition) {
-            let mut file = undamaged(edition, 5);
-            damage.apply(&mut file);
-            let answer = compare_rim(&BY_SETS, under_test(), &file.bytes(), &Tables::guarded(none));
-            assert_eq!(answer.number, damage.number(), "{edition:?}, {damage:?}");
-        }
-    }
 }
 
 /// 3, 4 and 5 on the link that leaves the 64th record, whatever the record it leads to holds.
@@ -175,7 +149,7 @@ fn random_bytes() {
         for _ in 0..30_000 {
             let bytes = match random.below(4) {
                 0 => (0..random.below(60)).map(|_| random.next_u64() as u8).collect(),
-                _ => random_records(&mut random).bytes(),
+                _ => random_records(random_count(&mut random), &mut random).bytes(),
             };
             let number = compare_reader(&BY_SETS, under_test(), &bytes);
             numbers[number as usize] += 1;
@@ -191,50 +165,8 @@ fn random_bytes() {
     }
 }
 
-/// Record k of so many: linked to the next as a rule, and wrong now and then.
-fn random_record(k: usize, count: usize, random: &mut Random) -> Record {
-    let rarely = 8 + 8 * count;
-    if random.once_in(rarely) {
-        return Record::anything(random);
-    }
-    let next = match random.below(rarely) {
-        0 => random.below(count + 2) as u16,
-        _ => (k as u16 + 2) % (count as u16 + 1),
-    };
-    let kind = if random.once_in(rarely) { random.below(4) as u16 } else { 1 };
-    let value = |random: &mut Random| match random.below(3 * rarely) {
-        0 => random.next_u64() as u32,
-        1 => random.one_of(&[f32::NAN, f32::INFINITY, 126.0, -125.1]).to_bits(),
-        _ => (random.between(-2000, 2000) as f32 / 16.0).to_bits(),
-    };
-    let bits = [0; 3].map(|_| value(random));
-    let normal = match random.below(rarely) {
-        0 => [0; 3].map(|_| random.between(-1002, 1002) as i16),
-        1 => [0, random.next_u64() as i16, 0],
-        _ => normals::NONE,
-    };
-    Record { next, kind, bits, normal }
-}
-
-/// A file whose header is right for its length.
-fn random_records(random: &mut Random) -> RimFile {
+/// Few records, or now and then about as many as the longest chain has.
+fn random_count(random: &mut Random) -> usize {
     let long = random.once_in(10);
-    let count = if long { random.between(64, 80) } else { random.between(0, 8) } as usize;
-    let mut records: Vec<Record> = (0..count).map(|k| random_record(k, count, random)).collect();
-    if count > 1 && random.once_in(20) {
-        let from = records[0].bits;
-        records[count - 1].bits = from;
-    }
-    if count > 0 && random.once_in(20) {
-        records[0].kind = 2;
-    }
-    let factors = if random.once_in(20) { 20 } else { 3 };
-    RimFile {
-        edition: random.one_of(&Edition::BOTH),
-        first: if random.once_in(20) { random.below(count + 3) as u16 } else { 1 },
-        declared: count as u16,
-        area_factor: random.below(factors) as u16,
-        bend_factor: random.below(3) as u16,
-        records,
-    }
+    (if long { random.between(64, 80) } else { random.between(0, 8) }) as usize
 }

@@ -1,35 +1,40 @@
-//! The bench program (rules 5.3 and 5.4), where BENCH_PROGRAM names it: rim files on its standard
-//! input.
+//! The bench program and the trim program (rules 5.3 and 5.4), where BENCH_PROGRAM and TRIM_PROGRAM
+//! name them: rim files on their standard input.
 
-use outside_tests::damage::{self, undamaged};
-use outside_tests::law::program::output;
-use outside_tests::programs::expect_written;
+use outside_tests::damage::{self, damaged, number_due, undamaged};
+use outside_tests::law::program::{bench, trim, TRIM_LIMIT};
+use outside_tests::programs::{BENCH, TRIM};
 use outside_tests::random::{seeds, Random};
 use outside_tests::rims::{lattice, Edition, RimFile, Shape, P};
 use std::path::Path;
 
 fn compare(file: &[u8]) {
-    expect_written("BENCH_PROGRAM", file, |file| output(file).into_bytes());
+    BENCH.compare(file);
+    TRIM.compare(file);
+}
+
+/// Both print this.
+fn expect(file: &[u8], text: &str) {
+    BENCH.expect(file, text.as_bytes());
+    TRIM.expect(file, text.as_bytes());
 }
 
 #[test]
 fn rim_file_p() {
     let file = RimFile::plain(&P, 1, 1).bytes();
-    assert_eq!(output(&file), "patch 4 2 469\n0 1 3 64 0\n1 2 3 93 312\n");
-    compare(&file);
+    expect(&file, "patch 4 2 469\n0 1 3 64 0\n1 2 3 93 312\n");
 }
 
 /// The fourth number is the whole own weight: 93 and twice 312 for the surfaces outside.
 #[test]
 fn rim_file_p_with_normals() {
     let file = RimFile::plain(&P, 1, 1).with_normals(&[[0, 0, 1]; 4]).bytes();
-    assert_eq!(output(&file), "patch 4 2 1093\n0 1 3 64 0\n1 2 3 717 312\n");
-    compare(&file);
+    expect(&file, "patch 4 2 1093\n0 1 3 64 0\n1 2 3 717 312\n");
 }
 
 #[test]
 fn rims_of_every_shape() {
-    for seed in seeds("rims for the program") {
+    for seed in seeds("rims for the programs") {
         let mut random = Random::new(seed);
         for shape in Shape::ALL {
             for n in [3, 4, 7, 12, 20] {
@@ -43,7 +48,8 @@ fn rims_of_every_shape() {
     }
 }
 
-/// Tables that are just enough or too short: 13 is the program's own.
+/// Tables that are just enough or too short: 13 is the bench program's own. The trim program refuses
+/// them before it looks for candidates.
 #[test]
 fn rims_of_64() {
     let mut random = Random::new(1);
@@ -61,9 +67,10 @@ fn rims_of_64() {
 
 #[test]
 fn damaged_files() {
-    for (file, number) in damage::each_alone(4) {
-        assert_eq!(output(&file), format!("refused {number}\n"));
-        compare(&file);
+    for (edition, damage) in damage::each_alone() {
+        let file = damaged(edition, 4, &[damage]).bytes();
+        BENCH.expect_refusal(&file, damage.number());
+        TRIM.expect_refusal(&file, number_due(&[damage], TRIM_LIMIT));
     }
 }
 
@@ -79,7 +86,7 @@ fn input_longer_than_any_file() {
             file.declared = records as u16;
             for more in [0, 1, 2, 16, 22, 5_000_000] {
                 let longer = [file.bytes(), vec![0; more]].concat();
-                assert_eq!(output(&longer) == "refused 1\n", more > 0, "{more} more bytes");
+                assert_eq!(bench(&longer) == "refused 1\n", more > 0, "{more} more bytes");
                 compare(&longer);
             }
         }
@@ -91,17 +98,20 @@ fn input_longer_than_any_file() {
     }
 }
 
-/// Each line of the table in examples/README.md: a rim file, and the first line of its answer.
+/// Each line of the table in examples/README.md: a rim file, and the first lines of both answers.
 #[test]
 fn examples() {
     let folder = Path::new(env!("CARGO_MANIFEST_DIR")).join("../examples");
     let readme = std::fs::read_to_string(folder.join("README.md")).expect("examples/README.md");
     let mut named = Vec::new();
-    for line in readme.lines().filter(|line| line.contains(".rim |") && line.ends_with("` |")) {
+    for line in readme.lines().filter(|line| line.contains(".rim |")) {
         let cells: Vec<&str> = line.split('|').map(str::trim).collect();
-        if let [_, name, _, answer, _] = cells[..] {
+        if let [_, name, _, of_bench, of_trim, _] = cells[..] {
             let file = std::fs::read(folder.join(name)).expect(name);
-            assert_eq!(output(&file).lines().next(), Some(answer.trim_matches('`')), "{name}");
+            let of_trim = if of_trim == "the same" { of_bench } else { of_trim };
+            for (answer, line) in [(bench(&file), of_bench), (trim(&file), of_trim)] {
+                assert_eq!(answer.lines().next(), Some(line.trim_matches('`')), "{name}");
+            }
             compare(&file);
             named.push(name.to_string());
         }

@@ -1,7 +1,7 @@
 //! Small rims against the plain search.
 
 use outside_tests::calls::{Places, Tables};
-use outside_tests::comparison::{compare_finder, compare_reader, compare_rim};
+use outside_tests::comparison::compare_calls;
 use outside_tests::law::BY_SETS;
 use outside_tests::library::under_test;
 use outside_tests::random::{seeds, Random};
@@ -24,9 +24,7 @@ fn factors(random: &mut Random) -> [u16; 2] {
 
 fn compare_all(points: &[Point], random: &mut Random, tables: &Tables, outcomes: &mut Outcomes) {
     let file = RimFile::varied(points, factors(random), random).bytes();
-    let answer = compare_rim(&BY_SETS, under_test(), &file, tables);
-    compare_finder(&BY_SETS, under_test(), &file, tables);
-    compare_reader(&BY_SETS, under_test(), &file);
+    let answer = compare_calls(&BY_SETS, under_test(), &file, tables);
     match (answer.number, answer.triangles) {
         (0, 0) => outcomes.nones += 1,
         (0, _) => outcomes.patches += 1,

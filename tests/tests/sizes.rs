@@ -1,7 +1,7 @@
 //! The sizing call: what it says is what the one call needs, no less and no more.
 
-use outside_tests::calls::{Calls, Places, Tables};
-use outside_tests::comparison::{compare_rim, hexadecimal};
+use outside_tests::calls::{Places, Tables};
+use outside_tests::comparison::{compare_rim, compare_sizes};
 use outside_tests::damage;
 use outside_tests::law::{BY_INTERVALS, BY_SETS};
 use outside_tests::library::under_test;
@@ -10,9 +10,7 @@ use outside_tests::rims::{lattice, Edition, RimFile, Shape, FIVE_CORNERS};
 
 /// By the reference and by what is under test.
 fn sizes(file: &[u8]) -> Result<Places, u32> {
-    let answers = [BY_SETS.sizes(file), under_test().sizes(file)];
-    assert_eq!(answers[0], answers[1], "file {}", hexadecimal(file));
-    answers[0]
+    compare_sizes(&BY_SETS, under_test(), file)
 }
 
 fn number(file: &[u8], places: Places) -> u32 {

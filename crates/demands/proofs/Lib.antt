@@ -6,5 +6,6 @@ pub mod Sizes
 pub mod Conversion
 pub mod Base
 pub mod OnePatch
+pub mod Limits
 pub mod Worked
 pub mod Cases

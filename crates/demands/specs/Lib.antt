@@ -3,4 +3,5 @@ pub mod Demand1
 pub mod Base
 pub mod Conversion
 pub mod OnePatch
+pub mod Limits
 pub mod Worked

@@ -10,18 +10,18 @@ use Rattle.finder.specs.declared.Found.the-variants.{Refused}
 use Rattle.finder.specs.Finding.{Finding, finding, findCall}
 use Rattle.exports.specs.Answers.{findAfter, findFile}
 
-module _ (s : List ℕ) (candidates : List (List ℕ)) (weights : List ℕ) (rows : List (List ℕ)) {r : Reading} where
-  after : {x : Status} → r .status ≡ x → r ≡ readingOf s → findAfter x (r .polygon) candidates weights rows ≡ findFile s candidates weights rows
+module _ (limit : ℕ) (s : List ℕ) (candidates : List (List ℕ)) (weights : List ℕ) (rows : List (List ℕ)) {r : Reading} where
+  after : {x : Status} → r .status ≡ x → r ≡ readingOf limit s → findAfter x (r .polygon) candidates weights rows ≡ findFile limit s candidates weights rows
   unfolding findFile
   after d e =
       ap (λ (x : Status). findAfter x (r .polygon) candidates weights rows) (sym d)
       ∙ ap (λ (x : Reading). findAfter (x .status) (x .polygon) candidates weights rows) e
 
   pub file-refused :
-      {k : ℕ} → r .status ≡ status.Refused k → r ≡ readingOf s → finding (Refused k) candidates weights rows ≡ findFile s candidates weights rows
+      {k : ℕ} → r .status ≡ status.Refused k → r ≡ readingOf limit s → finding (Refused k) candidates weights rows ≡ findFile limit s candidates weights rows
   file-refused d e = after d e
 
   pub file-read :
-      {x : Finding} → r .status ≡ status.Complete → r ≡ readingOf s → x ≡ findCall (r .polygon) candidates weights rows →
-      x ≡ findFile s candidates weights rows
+      {x : Finding} → r .status ≡ status.Complete → r ≡ readingOf limit s → x ≡ findCall (r .polygon) candidates weights rows →
+      x ≡ findFile limit s candidates weights rows
   file-read d e f = f ∙ after d e

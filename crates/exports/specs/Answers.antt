@@ -60,9 +60,9 @@ abbrev pub findAfter : Status → Polygon → List (List ℕ) → List ℕ → L
 findAfter (status.Refused number) p candidates weights rows = finding (found.Refused number) candidates weights rows
 findAfter status.Complete p candidates weights rows = findCall p candidates weights rows
 
--- the lists of a rim file (rule 5.1)
-unfoldable pub findFile : List ℕ → List (List ℕ) → List ℕ → List (List ℕ) → Finding
-findFile file candidates weights rows = findAfter (readingOf file .status) (readingOf file .polygon) candidates weights rows
+-- the lists of a rim file read with a limit (rule 5.1)
+unfoldable pub findFile : ℕ → List ℕ → List (List ℕ) → List ℕ → List (List ℕ) → Finding
+findFile limit file candidates weights rows = findAfter (readingOf limit file .status) (readingOf limit file .polygon) candidates weights rows
 
 -- the finder's answer as three numbers, with its three tables after it (rule 5.6)
 pub record RimLists : Type 0 where

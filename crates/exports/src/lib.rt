@@ -1,11 +1,12 @@
 // The calls that hosts in C and Rust link. An enum cannot cross this boundary, so an answer is a struct of numbers: the number due, 0 where none is,
-// and the counts and the total, which are 0 in a refusal.
+// and the counts and the total, which are 0 in a refusal. Each call on a rim file stands twice: with the limit that the host asks for, and with the largest.
 use converter::Conversion;
 use finder::Found;
 use finder::Sizes;
 use reader::Status;
 use triangulator::Outcome;
 ghost use mathlib.Core.Path.{_≡_};
+ghost use Rattle.terms.specs.Limits.{maxVertices};
 ghost use Rattle.reader.specs.Reading.{readingOf};
 ghost use Rattle.converter.specs.Call.{convertCall};
 ghost use Rattle.finder.specs.Finding.{finding};
@@ -69,6 +70,22 @@ fn patch_answer(outcome: Outcome) -> PatchAnswer
 
 // The one call over the three stages.
 #[no_mangle]
+pub extern "C" fn patch_box_rim_within(
+    limit: usize,
+    file: &[u8],
+    triangles: &mut [u16],
+    candidates: &mut [[u8; 3]],
+    weights: &mut [u32],
+    rows: &mut [[u32; 3]],
+    work: &mut [u64],
+) -> PatchAnswer
+    ensures { λ r. ⌜ rimPatch r (tables (now (triangles .exit)) (now (candidates .exit)) (now (weights .exit)) (now (rows .exit)) (now (work .exit))) ≡ rimPatchOf (patchFile limit (now (file .entry)) (tables (now (triangles .entry)) (now (candidates .entry)) (now (weights .entry)) (now (rows .entry)) (now (work .entry)))) ⌝ }
+{
+    let outcome = pipeline::patch_file(limit, file, triangles, candidates, weights, rows, work);
+    patch_answer(outcome)
+}
+
+#[no_mangle]
 pub extern "C" fn patch_box_rim(
     file: &[u8],
     triangles: &mut [u16],
@@ -77,10 +94,17 @@ pub extern "C" fn patch_box_rim(
     rows: &mut [[u32; 3]],
     work: &mut [u64],
 ) -> PatchAnswer
-    ensures { λ r. ⌜ rimPatch r (tables (now (triangles .exit)) (now (candidates .exit)) (now (weights .exit)) (now (rows .exit)) (now (work .exit))) ≡ rimPatchOf (patchFile (now (file .entry)) (tables (now (triangles .entry)) (now (candidates .entry)) (now (weights .entry)) (now (rows .entry)) (now (work .entry)))) ⌝ }
+    ensures { λ r. ⌜ rimPatch r (tables (now (triangles .exit)) (now (candidates .exit)) (now (weights .exit)) (now (rows .exit)) (now (work .exit))) ≡ rimPatchOf (patchFile maxVertices (now (file .entry)) (tables (now (triangles .entry)) (now (candidates .entry)) (now (weights .entry)) (now (rows .entry)) (now (work .entry)))) ⌝ }
 {
-    let outcome = pipeline::patch_file(file, triangles, candidates, weights, rows, work);
-    patch_answer(outcome)
+    patch_box_rim_within(
+        terms::MAX_VERTICES,
+        file,
+        triangles,
+        candidates,
+        weights,
+        rows,
+        work,
+    )
 }
 
 // The tiler alone, for a direct job.
@@ -101,10 +125,10 @@ pub extern "C" fn patch_box_job(
 
 // The reader alone.
 #[no_mangle]
-pub extern "C" fn patch_box_read(file: &[u8]) -> ReadAnswer
-    ensures { λ r. ⌜ r ≡ readAnswerOf (readingOf (now (file .entry))) ⌝ }
+pub extern "C" fn patch_box_read_within(limit: usize, file: &[u8]) -> ReadAnswer
+    ensures { λ r. ⌜ r ≡ readAnswerOf (readingOf limit (now (file .entry))) ⌝ }
 {
-    let reading = reader::read_polygon(file);
+    let reading = reader::read_polygon(limit, file);
     let status = reading.status;
     let polygon = reading.polygon;
     let number = status.number();
@@ -112,16 +136,24 @@ pub extern "C" fn patch_box_read(file: &[u8]) -> ReadAnswer
     ReadAnswer { number, vertices }
 }
 
+#[no_mangle]
+pub extern "C" fn patch_box_read(file: &[u8]) -> ReadAnswer
+    ensures { λ r. ⌜ r ≡ readAnswerOf (readingOf maxVertices (now (file .entry))) ⌝ }
+{
+    patch_box_read_within(terms::MAX_VERTICES, file)
+}
+
 // The reader, then the finder.
 fn find_in_file(
+    limit: usize,
     file: &[u8],
     candidates: &mut [[u8; 3]],
     weights: &mut [u32],
     rows: &mut [[u32; 3]],
 ) -> Found
-    ensures { λ r. ⌜ finding r (now (candidates .exit)) (now (weights .exit)) (now (rows .exit)) ≡ findFile (now (file .entry)) (now (candidates .entry)) (now (weights .entry)) (now (rows .entry)) ⌝ }
+    ensures { λ r. ⌜ finding r (now (candidates .exit)) (now (weights .exit)) (now (rows .exit)) ≡ findFile limit (now (file .entry)) (now (candidates .entry)) (now (weights .entry)) (now (rows .entry)) ⌝ }
 {
-    let reading = reader::read_polygon(file);
+    let reading = reader::read_polygon(limit, file);
     let status = reading.status;
     let polygon = reading.polygon;
     match status {
@@ -132,15 +164,16 @@ fn find_in_file(
 
 // The candidates, weights and rows of a rim file.
 #[no_mangle]
-pub extern "C" fn patch_box_find(
+pub extern "C" fn patch_box_find_within(
+    limit: usize,
     file: &[u8],
     candidates: &mut [[u8; 3]],
     weights: &mut [u32],
     rows: &mut [[u32; 3]],
 ) -> FindAnswer
-    ensures { λ r. ⌜ rimLists r (now (candidates .exit)) (now (weights .exit)) (now (rows .exit)) ≡ rimListsOf (findFile (now (file .entry)) (now (candidates .entry)) (now (weights .entry)) (now (rows .entry))) ⌝ }
+    ensures { λ r. ⌜ rimLists r (now (candidates .exit)) (now (weights .exit)) (now (rows .exit)) ≡ rimListsOf (findFile limit (now (file .entry)) (now (candidates .entry)) (now (weights .entry)) (now (rows .entry))) ⌝ }
 {
-    let found = find_in_file(file, candidates, weights, rows);
+    let found = find_in_file(limit, file, candidates, weights, rows);
     let number = found.number();
     let candidate_count = found.candidate_count();
     let row_count = found.row_count();
@@ -149,6 +182,18 @@ pub extern "C" fn patch_box_find(
         candidates: candidate_count,
         rows: row_count,
     }
+}
+
+#[no_mangle]
+pub extern "C" fn patch_box_find(
+    file: &[u8],
+    candidates: &mut [[u8; 3]],
+    weights: &mut [u32],
+    rows: &mut [[u32; 3]],
+) -> FindAnswer
+    ensures { λ r. ⌜ rimLists r (now (candidates .exit)) (now (weights .exit)) (now (rows .exit)) ≡ rimListsOf (findFile maxVertices (now (file .entry)) (now (candidates .entry)) (now (weights .entry)) (now (rows .entry))) ⌝ }
+{
+    patch_box_find_within(terms::MAX_VERTICES, file, candidates, weights, rows)
 }
 
 fn sizes_answer(sizes: Sizes) -> SizesAnswer
@@ -177,13 +222,20 @@ fn sizes_answer(sizes: Sizes) -> SizesAnswer
     }
 }
 
-// The places that the tables of `patch_box_rim` and `patch_box_find` need for a rim file.
+// The places that the tables of the one call and of the finder's need for a rim file.
+#[no_mangle]
+pub extern "C" fn patch_box_sizes_within(limit: usize, file: &[u8]) -> SizesAnswer
+    ensures { λ r. ⌜ r ≡ sizesAnswerOf (sizesFile limit (now (file .entry))) ⌝ }
+{
+    let sizes = pipeline::table_sizes(limit, file);
+    sizes_answer(sizes)
+}
+
 #[no_mangle]
 pub extern "C" fn patch_box_sizes(file: &[u8]) -> SizesAnswer
-    ensures { λ r. ⌜ r ≡ sizesAnswerOf (sizesFile (now (file .entry))) ⌝ }
+    ensures { λ r. ⌜ r ≡ sizesAnswerOf (sizesFile maxVertices (now (file .entry))) ⌝ }
 {
-    let sizes = pipeline::table_sizes(file);
-    sizes_answer(sizes)
+    patch_box_sizes_within(terms::MAX_VERTICES, file)
 }
 
 fn convert_answer(conversion: Conversion) -> ConvertAnswer

@@ -78,7 +78,7 @@ module _ (limit : ℕ) (s : List ℕ) (r : Read limit s) where
   }
 
 module _ (limit : ℕ) (s : List ℕ) (complete : readingOf limit s .status ≡ Complete) where
-  complete-polygon : readingOf limit s .polygon ≡ polygonOf s
+  pub complete-polygon : readingOf limit s .polygon ≡ polygonOf s
   complete-polygon = by (numberDue limit s) complete
     where
       by : (k : ℕ) → answer k (polygonOf s) .status ≡ Complete → answer k (polygonOf s) .polygon ≡ polygonOf s

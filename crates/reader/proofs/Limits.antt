@@ -1,61 +1,108 @@
--- What a limit does (rules 4.5, 4.20): a file whose chain has no more records than the smaller of two limits is read alike with both; 5 is given with the
--- largest limit alone and 20 with every other, each where the chain has one record more than the limit. Assumes nothing.
-use mathlib.Core.Path.{_≡_, ap, sym, _∙_}
+-- What a limit does (rules 4.5, 4.20). A file whose chain has no more records than the smaller of two limits is read alike with both. A rim that is read
+-- with the larger one and has more vertices than the smaller gets 20 there. 5 is given with the largest limit alone and 20 with every other, each where the
+-- chain has one record more than the limit. Assumes nothing.
+use mathlib.Core.Path.{_≡_, refl, sym, ap, _∙_, subst}
 use mathlib.Core.Bool.{true}
 use mathlib.Core.List.{List}
-use mathlib.Core.Logic.{_⊎_, inl, inr}
-use Prim.Native.Nat.{ℕ, suc, _≤_}
+use mathlib.Core.Logic.{_⊎_, inl, inr, ⊎-elim}
+use Prim.Native.Nat.{ℕ, suc, _≤_, _<_}
 use native.Mathlib.Omega.{arith}
-use borrow.Author.Tests.{le-leb}
-use Rattle.lists.proofs.Choice.{true-not-false, both-true}
+use borrow.Author.Tests.{eq-eqb, ne-eqb, le-leb}
+use Rattle.lists.proofs.Choice.{yes, no, true-not-false, both-true}
 use Rattle.terms.specs.Limits.{minVertices, maxVertices, countFits}
-use Rattle.reader.specs.Order.{Place, First, NoneDue}
+use Rattle.reader.specs.Chain.{overLimit, vertexCount}
+use Rattle.reader.specs.Order.{Place, link-to, link-link, Precedes, by-place, by-number, First, NoneDue}
 use Rattle.reader.specs.Due.{HasRecords, AtMost, DueAt, no-limit, length-wrong, area-factor, link-over, met-again, too-many, over-limit, kind-unknown, no-height, not-finite, tail-not-zero, out-of-range, normal-out-of-range, too-few, vertex-repeated}
 use Rattle.reader.specs.Reading.{numberDue, polygonOf, answer, readingOf, statusNumber}
+use Rattle.reader.specs.declared.Status.the-variants.{Complete}
 use Rattle.reader.proofs.Order.{verdict-first, verdict-zero}
 use Rattle.reader.proofs.Positions.{shorter}
-use Rattle.reader.proofs.Demand1.{verdict, first-or-none, given-first}
+use Rattle.reader.proofs.FirstNumber.{Read, read-end}
+use Rattle.reader.proofs.Demand1.{complete-read, verdict, first-or-none, read-only-when, given-first}
+use Rattle.reader.proofs.Accepted.{complete-polygon, read-within}
 
--- ---- one reading within both limits
--- the same numbers are due
-due-alike : {a b : ℕ} {s : List ℕ} → countFits a ≡ true → AtMost s a → {p : Place} {k : ℕ} → DueAt a s p k → DueAt b s p k
-due-alike f few (no-limit h) = absurd (true-not-false f h)
-due-alike f few (length-wrong h) = length-wrong h
-due-alike f few (area-factor l h) = area-factor l h
-due-alike f few (link-over i has h) = link-over i has h
-due-alike f few (met-again i j h has e) = met-again i j h has e
-due-alike f few (too-many has m) = absurd (few has)
-due-alike f few (over-limit has m) = absurd (few has)
-due-alike f few (kind-unknown i has x y) = kind-unknown i has x y
-due-alike f few (no-height i has k none) = no-height i has k none
-due-alike f few (not-finite i v has m h) = not-finite i v has m h
-due-alike f few (tail-not-zero i has k t) = tail-not-zero i has k t
-due-alike f few (out-of-range i v has m h) = out-of-range i v has m h
-due-alike f few (normal-out-of-range i c has m h) = normal-out-of-range i c has m h
-due-alike f few (too-few i has z h) = too-few i has z h
-due-alike f few (vertex-repeated i j p h has x y) = vertex-repeated i j p h has x y
+-- ---- the numbers due with two limits
+-- the number of a record past the limit is due
+record Over (limit : ℕ) (s : List ℕ) (p : Place) (k : ℕ) : Type 0 where
+  has : HasRecords s (suc limit)
+  at : p ≡ link-to limit
+  number : k ≡ overLimit limit
+
+-- any other number is due with whichever limit
+due-or-over : {a b : ℕ} {s : List ℕ} → countFits a ≡ true → {p : Place} {k : ℕ} → DueAt a s p k → DueAt b s p k ⊎ Over a s p k
+due-or-over f (no-limit h) = absurd (true-not-false f h)
+due-or-over f (length-wrong h) = inl (length-wrong h)
+due-or-over f (area-factor l h) = inl (area-factor l h)
+due-or-over f (link-over i has h) = inl (link-over i has h)
+due-or-over f (met-again i j h has e) = inl (met-again i j h has e)
+due-or-over {a} f (too-many has m) = inr (record { has = has; at = refl; number = sym (yes 5 20 (eq-eqb a maxVertices m)) })
+due-or-over {a} f (over-limit has m) = inr (record { has = has; at = refl; number = sym (no 5 20 (ne-eqb a maxVertices m)) })
+due-or-over f (kind-unknown i has x y) = inl (kind-unknown i has x y)
+due-or-over f (no-height i has k none) = inl (no-height i has k none)
+due-or-over f (not-finite i v has m h) = inl (not-finite i v has m h)
+due-or-over f (tail-not-zero i has k t) = inl (tail-not-zero i has k t)
+due-or-over f (out-of-range i v has m h) = inl (out-of-range i v has m h)
+due-or-over f (normal-out-of-range i c has m h) = inl (normal-out-of-range i c has m h)
+due-or-over f (too-few i has z h) = inl (too-few i has z h)
+due-or-over f (vertex-repeated i j p h has x y) = inl (vertex-repeated i j p h has x y)
 
 limit-fits : {limit : ℕ} → minVertices ≤ limit → limit ≤ maxVertices → countFits limit ≡ true
 limit-fits {limit} h l = both-true (le-leb minVertices limit h) (le-leb limit maxVertices l)
 
-module _ {small large : ℕ} (least : minVertices ≤ small) (below : small ≤ large) (most : large ≤ maxVertices) (s : List ℕ) (few : AtMost s small) where
-  onward : {p : Place} {k : ℕ} → DueAt small s p k → DueAt large s p k
-  onward = due-alike (limit-fits least (omega arith)) few
+module _ {small large : ℕ} (least : minVertices ≤ small) (below : small ≤ large) (most : large ≤ maxVertices) (s : List ℕ) where
+  -- ---- one reading where the chain is within the smaller limit
+  module _ (few : AtMost s small) where
+    onward : {p : Place} {k : ℕ} → DueAt small s p k → DueAt large s p k
+    onward d = ⊎-elim (λ e. e) (λ o. absurd (few (o .has))) (due-or-over (limit-fits least (omega arith)) d)
 
-  back : {p : Place} {k : ℕ} → DueAt large s p k → DueAt small s p k
-  back = due-alike (limit-fits (omega arith) most) (λ has. few (shorter (suc small) (omega arith) has))
+    back : {p : Place} {k : ℕ} → DueAt large s p k → DueAt small s p k
+    back d = ⊎-elim (λ e. e) (λ o. absurd (few (shorter (suc small) (omega arith) (o .has)))) (due-or-over (limit-fits (omega arith) most) d)
 
-  pub number-alike : numberDue small s ≡ numberDue large s
-  number-alike = by (first-or-none small s)
-    where
-      by : ((k : ℕ) × First (DueAt small s) k) ⊎ NoneDue (DueAt small s) → numberDue small s ≡ numberDue large s
-      by (inl (k, f)) =
-          verdict-first (verdict small s) f
-          ∙ sym (verdict-first (verdict large s) (record { place = f .place; is-due = onward (f .is-due); none-before = λ p j h d. f .none-before p j h (back d) }))
-      by (inr n) = verdict-zero (verdict small s) n ∙ sym (verdict-zero (verdict large s) (record { none = λ p k d. n .none p k (back d) }))
+    pub number-alike : numberDue small s ≡ numberDue large s
+    number-alike = by (first-or-none small s)
+      where
+        by : ((k : ℕ) × First (DueAt small s) k) ⊎ NoneDue (DueAt small s) → numberDue small s ≡ numberDue large s
+        by (inl (k, f)) =
+            verdict-first (verdict small s) f
+            ∙ sym (verdict-first (verdict large s) (record { place = f .place; is-due = onward (f .is-due); none-before = λ p j h d. f .none-before p j h (back d) }))
+        by (inr n) = verdict-zero (verdict small s) n ∙ sym (verdict-zero (verdict large s) (record { none = λ p k d. n .none p k (back d) }))
 
-  pub reading-alike : readingOf small s ≡ readingOf large s
-  reading-alike = ap (λ (k : ℕ). answer k (polygonOf s)) number-alike
+    pub reading-alike : readingOf small s ≡ readingOf large s
+    reading-alike = ap (λ (k : ℕ). answer k (polygonOf s)) number-alike
+
+  -- ---- 20 where a rim that the larger limit takes has more vertices
+  module _ (complete : readingOf large s .status ≡ Complete) (more : small < readingOf large s .polygon .n) where
+    smaller : small < maxVertices
+    smaller = omega (arith, read-within large s complete)
+
+    many : HasRecords s (suc small)
+    many = shorter (suc small) (subst (λ p. small < p .n) (complete-polygon large s complete) more) (read-end large s (complete-read large s complete) .has)
+
+    first-20 : First (DueAt small s) 20
+    first-20 = record { place = link-to small; is-due = over-limit many (λ e. omega (arith, smaller)); none-before = before }
+      where
+        twenty : overLimit small ≡ 20
+        twenty = no 5 20 (ne-eqb small maxVertices (λ e. omega (arith, smaller)))
+
+        not-later : (j : ℕ) → 20 ≤ j → Precedes (link-to small) j (link-to small) 20 → ⊥
+        not-later j h (by-place (link-link l)) = omega arith
+        not-later j h (by-number l) = omega arith
+
+        before : (p : Place) (j : ℕ) → Precedes p j (link-to small) 20 → DueAt small s p j → ⊥
+        before p j h d =
+            ⊎-elim (λ e. read-only-when large s complete .none p j e)
+            (λ o. not-later j (omega (arith, o .number ∙ twenty)) (subst (λ (q : Place). Precedes q j (link-to small) 20) (o .at) h))
+            (due-or-over (limit-fits least (omega arith)) d)
+
+    pub number-over : numberDue small s ≡ 20
+    number-over = verdict-first (verdict small s) first-20
+
+-- a rim that is read has no more records than vertices
+pub read-at-most : (limit : ℕ) (s : List ℕ) → readingOf limit s .status ≡ Complete → {m : ℕ} → readingOf limit s .polygon .n ≤ m → AtMost s m
+read-at-most limit s complete {m} h has =
+    let end = read-end limit s (complete-read limit s complete) in
+    let l : vertexCount s ≤ m = subst (λ p. p .n ≤ m) (complete-polygon limit s complete) h in
+    omega (arith, has .in-file (vertexCount s) (omega arith) .numbered, end .ended)
 
 -- ---- 5 and 20
 module _ (limit : ℕ) (s : List ℕ) where

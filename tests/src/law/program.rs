@@ -1,4 +1,5 @@
-//! What the programs write for a file: the bench program (rules 5.3 and 5.4) and `convert` (rule 5.8).
+//! What the programs write for a file: the bench program (rules 5.3 and 5.4), the trim program, which
+//! has a limit of its own, and `convert` (rule 5.8).
 
 use super::{conversion, BY_INTERVALS};
 use crate::calls::{Calls, Places, Tables, MOST_BYTES};
@@ -16,9 +17,20 @@ pub fn converted(file: &[u8]) -> Vec<u8> {
     }
 }
 
-pub fn output(file: &[u8]) -> String {
+/// The limit of the trim program.
+pub const TRIM_LIMIT: usize = 24;
+
+pub fn bench(file: &[u8]) -> String {
+    output(&BY_INTERVALS, file)
+}
+
+pub fn trim(file: &[u8]) -> String {
+    output(&*BY_INTERVALS.within(TRIM_LIMIT), file)
+}
+
+fn output(law: &dyn Calls, file: &[u8]) -> String {
     let mut tables = Tables::guarded(Places::BENCH);
-    let answer = BY_INTERVALS.patch_rim(file, &mut tables);
+    let answer = law.patch_rim(file, &mut tables);
     if answer.number != 0 {
         return refusal(answer.number);
     }
@@ -26,7 +38,7 @@ pub fn output(file: &[u8]) -> String {
         return String::from("none\n");
     }
     let patch = &tables.triangles.view()[..answer.triangles];
-    let found = BY_INTERVALS.find_candidates(file, &mut Tables::guarded(Places::BENCH));
+    let found = law.find_candidates(file, &mut Tables::guarded(Places::BENCH));
     let rows = &tables.rows.view()[..found.rows];
     let (vertices, total) = (answer.triangles + 2, answer.total);
     let mut text = format!("patch {vertices} {} {total}\n", answer.triangles);

@@ -18,7 +18,7 @@ find-requires : tie.Need-find-requires
 find-requires c κs = search needs
 
 returns : tie.Need-returns
-returns c = file-refused (now (c .before .before .before .before .before .before .before .args .file)) (now (c .before .before .before .before .before .before .before .args .candidates)) (now (c .before .before .before .before .before .before .before .args .weights)) (now (c .before .before .before .before .before .before .before .args .rows)) (c .before .status .given .1) (c .before .before .before .before .read-polygon .ensures .0)
+returns c = file-refused _ (now (c .before .before .before .before .before .before .before .args .file)) (now (c .before .before .before .before .before .before .before .args .candidates)) (now (c .before .before .before .before .before .before .before .args .weights)) (now (c .before .before .before .before .before .before .before .args .rows)) (c .before .status .given .1) (c .before .before .before .before .read-polygon .ensures .0)
 
 same-length : tie.Need-same-length
 same-length c = search needs
@@ -30,7 +30,7 @@ same-length-3 : tie.Need-same-length-3
 same-length-3 c = search needs
 
 returns-2 : tie.Need-returns-2
-returns-2 c = file-read (now (c .before .before .before .before .before .before .before .before .before .before .before .before .before .before .args .file)) (now (c .before .before .before .before .before .before .before .before .before .before .before .before .before .before .args .candidates)) (now (c .before .before .before .before .before .before .before .before .before .before .before .before .before .before .args .weights)) (now (c .before .before .before .before .before .before .before .before .before .before .before .before .before .before .args .rows)) (c .before .before .before .before .before .before .before .before .enum-told .given .1) (c .before .before .before .before .before .before .before .before .before .before .before .read-polygon .ensures .0) (c .before .before .before .before .find .ensures .0)
+returns-2 c = file-read _ (now (c .before .before .before .before .before .before .before .before .before .before .before .before .before .before .args .file)) (now (c .before .before .before .before .before .before .before .before .before .before .before .before .before .before .args .candidates)) (now (c .before .before .before .before .before .before .before .before .before .before .before .before .before .before .args .weights)) (now (c .before .before .before .before .before .before .before .before .before .before .before .before .before .before .args .rows)) (c .before .before .before .before .before .before .before .before .enum-told .given .1) (c .before .before .before .before .before .before .before .before .before .before .before .read-polygon .ensures .0) (c .before .before .before .before .find .ensures .0)
 
 pub find-in-file-spec : {M : Type 1} → statement M
 find-in-file-spec =

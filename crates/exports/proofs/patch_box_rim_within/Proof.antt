@@ -1,8 +1,8 @@
--- `exports::patch_box_rim` meets its contract. Assumes nothing.
+-- `exports::patch_box_rim_within` meets its contract. Assumes nothing.
 use Rattle.exports.proofs.Answers.{rim-patched}
 use borrow.Author.Needs.{needs}
-use Rattle.exports.proofs.patch_box_rim.Statement.{statement}
-use Rattle.exports.proofs.patch_box_rim.Tie as tie
+use Rattle.exports.proofs.patch_box_rim_within.Statement.{statement}
+use Rattle.exports.proofs.patch_box_rim_within.Tie as tie
 
 patch-file-requires : tie.Need-patch-file-requires
 patch-file-requires c κs = search needs
@@ -28,8 +28,8 @@ same-length-5 c = search needs
 returns : tie.Need-returns
 returns c = rim-patched (c .patch-answer .ensures) (c .before .before .before .before .before .before .before .before .before .patch-file .ensures .0)
 
-pub patch-box-rim-spec : {M : Type 1} → statement M
-patch-box-rim-spec =
+pub patch-box-rim-within-spec : {M : Type 1} → statement M
+patch-box-rim-within-spec =
     tie.close
     (tie.spec
     patch-file-requires

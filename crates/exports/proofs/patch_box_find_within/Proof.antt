@@ -1,8 +1,8 @@
--- `exports::patch_box_find` meets its contract. Assumes nothing.
+-- `exports::patch_box_find_within` meets its contract. Assumes nothing.
 use Rattle.exports.proofs.Answers.{rim-found}
 use borrow.Author.Needs.{needs}
-use Rattle.exports.proofs.patch_box_find.Statement.{statement}
-use Rattle.exports.proofs.patch_box_find.Tie as tie
+use Rattle.exports.proofs.patch_box_find_within.Statement.{statement}
+use Rattle.exports.proofs.patch_box_find_within.Tie as tie
 
 find-in-file-requires : tie.Need-find-in-file-requires
 find-in-file-requires c κs = search needs
@@ -28,8 +28,8 @@ same-length-3 c = search needs
 returns : tie.Need-returns
 returns c = rim-found (c .before .before .number .ensures) (c .before .candidate-count .ensures) (c .row-count .ensures) (c .before .before .before .before .before .before .before .find-in-file .ensures)
 
-pub patch-box-find-spec : {M : Type 1} → statement M
-patch-box-find-spec =
+pub patch-box-find-within-spec : {M : Type 1} → statement M
+patch-box-find-within-spec =
     tie.close
     (tie.spec
     find-in-file-requires

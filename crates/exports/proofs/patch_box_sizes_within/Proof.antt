@@ -1,9 +1,9 @@
--- `exports::patch_box_sizes` meets its contract. Assumes nothing.
+-- `exports::patch_box_sizes_within` meets its contract. Assumes nothing.
 use mathlib.Core.Path.{_∙_, ap}
 use Rattle.exports.specs.Answers.{sizesAnswerOf}
 use borrow.Author.Needs.{needs}
-use Rattle.exports.proofs.patch_box_sizes.Statement.{statement}
-use Rattle.exports.proofs.patch_box_sizes.Tie as tie
+use Rattle.exports.proofs.patch_box_sizes_within.Statement.{statement}
+use Rattle.exports.proofs.patch_box_sizes_within.Tie as tie
 
 table-sizes-requires : tie.Need-table-sizes-requires
 table-sizes-requires c κs = search needs
@@ -14,5 +14,5 @@ sizes-answer-requires c κs = search needs
 returns : tie.Need-returns
 returns c = c .sizes-answer .ensures ∙ ap sizesAnswerOf (c .before .table-sizes .ensures .0)
 
-pub patch-box-sizes-spec : {M : Type 1} → statement M
-patch-box-sizes-spec = tie.close (tie.spec table-sizes-requires sizes-answer-requires returns)
+pub patch-box-sizes-within-spec : {M : Type 1} → statement M
+patch-box-sizes-within-spec = tie.close (tie.spec table-sizes-requires sizes-answer-requires returns)
