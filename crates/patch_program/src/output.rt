@@ -1,5 +1,6 @@
-// What the program prints for a patch.
+// The lines that are printed.
 use crate::hanging::row_weight;
+use triangulator::Outcome;
 
 fn print_number(number: u32) {
     io::print_decimal(1, number as u64);
@@ -45,7 +46,7 @@ fn print_triangles(part: &[u16], candidates: &[[u8; 3]], weights: &[u32], rows: 
 }
 
 // A patch has two vertices more than triangles.
-pub(crate) fn print_patch(
+fn print_patch(
     part: &[u16],
     total: u64,
     candidates: &[[u8; 3]],
@@ -61,4 +62,26 @@ pub(crate) fn print_patch(
     io::print_decimal(1, total);
     end_line();
     print_triangles(part, candidates, weights, rows);
+}
+
+pub(crate) fn print_outcome(
+    outcome: Outcome,
+    triangles: &[u16],
+    candidates: &[[u8; 3]],
+    weights: &[u32],
+    rows: &[[u32; 3]],
+) {
+    match outcome {
+        Outcome::Patch {
+            triangles: _,
+            total,
+        } => {
+            let part = triangulator::part(triangles, outcome);
+            print_patch(part, total, candidates, weights, rows);
+        }
+        Outcome::None => {
+            io::write_all(1, b"none\n");
+        }
+        Outcome::Refused(number) => programs::output::print_refusal(number),
+    }
 }

@@ -1,8 +1,8 @@
--- `bench::hanging::weight_of` is safe and ends: the measure is what is left of the range. Assumes nothing.
+-- `patch_program::hanging::weight_of` is safe and ends: the measure is what is left of the range. Assumes nothing.
 use Prim.Native.Nat.{_-_}
 use borrow.Author.Needs.{needs}
-use Rattle.bench.proofs.hanging.weight_of.Statement.{statement}
-use Rattle.bench.proofs.hanging.weight_of.Tie as tie
+use Rattle.patch_program.proofs.hanging.weight_of.Statement.{statement}
+use Rattle.patch_program.proofs.hanging.weight_of.Tie as tie
 
 abbrev Inv-loop : tie.InvT-loop
 Inv-loop rows outer inner i₀ i-end i = Unit

@@ -1,8 +1,8 @@
--- `bench::output::print_triangles` is safe and ends: the measure is what is left of the range. Assumes nothing.
+-- `patch_program::output::print_triangles` is safe and ends: the measure is what is left of the range. Assumes nothing.
 use Prim.Native.Nat.{_-_}
 use borrow.Author.Needs.{needs}
-use Rattle.bench.proofs.output.print_triangles.Statement.{statement}
-use Rattle.bench.proofs.output.print_triangles.Tie as tie
+use Rattle.patch_program.proofs.output.print_triangles.Statement.{statement}
+use Rattle.patch_program.proofs.output.print_triangles.Tie as tie
 
 abbrev Inv-loop : tie.InvT-loop
 Inv-loop part candidates weights rows k₀ k-end k = Unit

@@ -1,8 +1,8 @@
--- `bench::hanging::row_weight` is safe and ends: the measure is what is left of the range. Assumes nothing.
+-- `patch_program::hanging::row_weight` is safe and ends: the measure is what is left of the range. Assumes nothing.
 use Prim.Native.Nat.{_-_}
 use borrow.Author.Needs.{needs}
-use Rattle.bench.proofs.hanging.row_weight.Statement.{statement}
-use Rattle.bench.proofs.hanging.row_weight.Tie as tie
+use Rattle.patch_program.proofs.hanging.row_weight.Statement.{statement}
+use Rattle.patch_program.proofs.hanging.row_weight.Tie as tie
 
 abbrev Inv-loop : tie.InvT-loop
 Inv-loop part k candidates rows inner i₀ i = Unit

@@ -1,0 +1,13 @@
+// The trim program (rule 5.9): closes small cut edges, and has a screen for 24 points.
+ghost use mathlib.Core.Path.{_≡_};
+ghost use Rattle.terms.specs.Limits.{trimVertices};
+
+fn limit() -> usize
+    ensures { λ r. ⌜ r ≡ trimVertices ⌝ }
+{
+    24
+}
+
+fn main() {
+    patch_program::run(limit());
+}
