@@ -1,9 +1,10 @@
 -- Files worked out: a normal out of range is refused in the chain, and not looked at in a spare record (rule 4.18); of two files of one length each has its
--- own edition (rule 1.12). Assumes nothing.
-use mathlib.Core.Path.{_≡_, refl}
+-- own edition (rule 1.12); a record past the limit is refused before it is looked at (rules 4.20, 4.31). Assumes nothing.
+use mathlib.Core.Path.{_≡_, refl, sym, _∙_}
 use mathlib.Core.Bool.{Bool}
 use mathlib.Core.List.{List, [], _∷_, _++_}
 use Prim.Native.Nat.{ℕ}
+use native.Mathlib.Omega.{arith}
 use lib.Ieee.{ofBits}
 use lib.ListN.{length, replicate}
 use Rattle.lists.specs.Lists.{upFrom, someFrom}
@@ -73,3 +74,26 @@ five-taken = refl
 -- so no program tells the edition by the length
 pub edition-by-length-wrong : (by-length : ℕ → Bool) → ((s : List ℕ) → by-length (length s) ≡ isEdition2 s) → ⊥
 edition-by-length-wrong by-length h = true-not-false (h five) (h seven)
+
+-- ---- a chain of four records, the last of a kind that may be unknown, under the limits 3, 4 and 64
+abbrev four : ℕ → List ℕ
+four kind =
+    (1 ∷ 0 ∷ 4 ∷ 0 ∷ 1 ∷ 0 ∷ 1 ∷ 0 ∷ [])
+    ++ point-then 2 zero-mm zero-mm ++ point-then 3 one-mm zero-mm ++ point-then 4 zero-mm one-mm
+    ++ (0 ∷ 0 ∷ kind ∷ 0 ∷ 0 ∷ 0 ∷ []) ++ one-mm ++ (0 ∷ 0 ∷ []) ++ one-mm ++ replicate 4 0
+
+pub fourth-record : (numberDue 3 (four 1) ≡ 20) × (numberDue 4 (four 1) ≡ 0) × (numberDue maxVertices (four 1) ≡ 0) ×
+    (numberDue 3 (four 9) ≡ 20) × (numberDue 4 (four 9) ≡ 6) × (numberDue maxVertices (four 9) ≡ 6)
+unfolding ofBits upFrom someFrom finite numerator denominator negative inRange roundEighths repeatedVertex layoutOf lengthWrong recordAt numbersCode vertexOf normalIn link metBefore heightBefore linkCode positionCode codeFrom endFrom fileCode numberDue
+fourth-record = (refl, refl, refl, refl, refl, refl)
+
+-- so a reader that tests the limit after the kind, or gives 5 under a smaller limit, or has one limit for all, breaks its contract
+module _ (reader : ℕ → List ℕ → ℕ) (h : (limit : ℕ) (s : List ℕ) → reader limit s ≡ numberDue limit s) where
+  pub limit-after-kind-wrong : reader 3 (four 9) ≡ 6 → ⊥
+  limit-after-kind-wrong e = omega (arith, sym e ∙ h 3 (four 9) ∙ fourth-record .3)
+
+  pub five-under-3-wrong : reader 3 (four 1) ≡ 5 → ⊥
+  five-under-3-wrong e = omega (arith, sym e ∙ h 3 (four 1) ∙ fourth-record .0)
+
+pub one-limit-wrong : (reader : List ℕ → ℕ) → ((limit : ℕ) (s : List ℕ) → reader s ≡ numberDue limit s) → ⊥
+one-limit-wrong reader h = omega (arith, sym (h 3 (four 1) ∙ fourth-record .0) ∙ h 4 (four 1) ∙ fourth-record .1)
