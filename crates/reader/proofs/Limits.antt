@@ -106,10 +106,10 @@ read-at-most limit s complete {m} h has =
 
 -- ---- 5 and 20
 module _ (limit : ℕ) (s : List ℕ) where
-  due-5 : {p : Place} → DueAt limit s p 5 → HasRecords s (suc limit) × (limit ≡ maxVertices)
+  pub due-5 : {p : Place} → DueAt limit s p 5 → HasRecords s (suc limit) × (limit ≡ maxVertices)
   due-5 (too-many has m) = (has, m)
 
-  due-20 : {p : Place} → DueAt limit s p 20 → HasRecords s (suc limit) × (limit ≡ maxVertices → ⊥)
+  pub due-20 : {p : Place} → DueAt limit s p 20 → HasRecords s (suc limit) × (limit ≡ maxVertices → ⊥)
   due-20 (over-limit has m) = (has, m)
 
   -- 5 is given with the largest limit alone, to a chain that has a record more
