@@ -8,6 +8,9 @@ use crate::text;
 use crate::text::Text;
 ghost use Prim.Native.Nat.{_≤_};
 
+// The most vertices that the trim program takes (rule 5.9).
+const TRIM_VERTICES: usize = 24;
+
 // Sets the file that a case starts from, P, Q or a chain, and returns the case's length.
 fn set_base(file: &mut Bytes, second: bool, text: &Text, at: usize) -> usize {
     file::clear(file);
@@ -24,14 +27,35 @@ fn set_base(file: &mut Bytes, second: bool, text: &Text, at: usize) -> usize {
     length.value as usize
 }
 
+// Where a case names its file: after the word trim, where that stands.
+fn file_at(text: &Text, at: usize) -> usize {
+    if at < text::ROOM {
+        if text[at] == b't' {
+            return at + 5;
+        }
+    }
+    at
+}
+
+fn limit_for(trim: bool) -> usize {
+    if trim {
+        TRIM_VERTICES
+    } else {
+        terms::MAX_VERTICES
+    }
+}
+
 // A file with its changes.
 fn run_file(file: &mut Bytes, text: &Text, at: usize, answer: usize) {
-    let second = file::is_second(text, at);
-    let length = set_base(file, second, text, at);
-    file::change_all(file, second, text, at);
+    let from = file_at(text, at);
+    let limit = limit_for(from != at);
+    let second = file::is_second(text, from);
+    let length = set_base(file, second, text, from);
+    file::change_all(file, second, text, from);
     let mut numbers = [0i64; COUNT];
-    let n = answers::of_file(text, at, answer, &mut numbers);
-    compare(file, length, answers::number_due(text, answer), n, &numbers);
+    let n = answers::of_file(text, from, answer, &mut numbers);
+    let number = answers::number_due(text, answer);
+    compare(limit, file, length, number, n, &numbers);
 }
 
 // A number's bits at one place.
@@ -41,7 +65,8 @@ fn run_number(file: &mut Bytes, text: &Text, place: usize, bits: u32, answer: us
     file::three_points_with(file, place, bits);
     let mut numbers = [0i64; COUNT];
     let n = answers::of_number(text, place, answer, &mut numbers);
-    compare(file, 56, answers::number_due(text, answer), n, &numbers);
+    let number = answers::number_due(text, answer);
+    compare(terms::MAX_VERTICES, file, 56, number, n, &numbers);
 }
 
 // A case with nothing but a number's bits before the colon tries them at each place.

@@ -15,11 +15,11 @@ pub const NORMALS: usize = 194;
 // A polygon's numbers, and 0 in the places after them.
 pub type Numbers = [i64; COUNT];
 
-fn read(file: &[u8], length: usize) -> Reading {
+fn read(limit: usize, file: &[u8], length: usize) -> Reading {
     if file.len() < length {
-        return reader::read_polygon(terms::MAX_VERTICES, file);
+        return reader::read_polygon(limit, file);
     }
-    reader::read_polygon(terms::MAX_VERTICES, &file[..length])
+    reader::read_polygon(limit, &file[..length])
 }
 
 // Is p the point whose coordinates start at `at`?
@@ -66,8 +66,15 @@ fn same_polygon(p: Polygon, n: u32, numbers: &Numbers) -> bool {
 
 // Prints the number that came, or ok, and whether that or the polygon is not the expected one. Where a
 // number is expected, the polygon is empty: no vertex, and zeros.
-pub(crate) fn compare(file: &Bytes, length: usize, number: u32, n: u32, numbers: &Numbers) {
-    let reading = read(file, length);
+pub(crate) fn compare(
+    limit: usize,
+    file: &Bytes,
+    length: usize,
+    number: u32,
+    n: u32,
+    numbers: &Numbers,
+) {
+    let reading = read(limit, file, length);
     let status = reading.status;
     let came = status.number();
     io::write_all(1, b" ");
