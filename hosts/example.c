@@ -1,5 +1,5 @@
 /* A host in C: closes the rim of a rim file of either edition and prints what the bench program prints. Its tables are as long as the rim needs.
- * With --convert it writes the file in the other edition instead.
+ * With --limit N it takes rims of at most N vertices. With --convert it writes the file in the other edition instead.
  * Status 0 where the file is accepted, 1 where it is refused, 2 with one line on standard error where it could not run. */
 #include "patch_box.h"
 
@@ -7,6 +7,20 @@
 #include <stdio.h>
 #include <stdlib.h>
 #include <string.h>
+
+static const char usage[] = "example [--limit N | --convert] RIM-FILE";
+
+/* The words of the command line. Without --limit the calls that have none are made. */
+struct request {
+    int converts, limited;
+    size_t limit;
+    const char *name;
+};
+
+struct rim_file {
+    uint8_t bytes[PATCH_BOX_MAX_FILE + 1]; /* one byte more is enough to see that a file is too long */
+    size_t length;
+};
 
 struct tables {
     patch_box_sizes_answer sizes;
@@ -67,12 +81,15 @@ static void print_patch(const struct tables *t, patch_box_patch_answer answer)
     }
 }
 
+/* The file and the tables, as the calls that close a rim take them. */
+#define LENT(file, t) \
+    (file)->bytes, (file)->length, (t)->triangles, (t)->sizes.triangles, (t)->candidates, (t)->sizes.candidates, (t)->weights, (t)->sizes.weights, \
+        (t)->rows, (t)->sizes.rows, (t)->work, (t)->sizes.work
+
 /* Closes the rim and prints the answer; gives its number. */
-static uint32_t close_with(struct tables *t, const uint8_t *file, size_t length)
+static uint32_t close_with(struct tables *t, const struct rim_file *file, const struct request *asked)
 {
-    patch_box_patch_answer answer =
-        patch_box_rim(file, length, t->triangles, t->sizes.triangles, t->candidates, t->sizes.candidates, t->weights, t->sizes.weights, t->rows,
-                      t->sizes.rows, t->work, t->sizes.work);
+    patch_box_patch_answer answer = asked->limited ? patch_box_rim_within(asked->limit, LENT(file, t)) : patch_box_rim(LENT(file, t));
     if (answer.number == PATCH_BOX_ACCEPTED && answer.triangles == 0)
         printf("none\n");
     else if (answer.number == PATCH_BOX_ACCEPTED)
@@ -81,56 +98,75 @@ static uint32_t close_with(struct tables *t, const uint8_t *file, size_t length)
 }
 
 /* The same with tables of its own; 0 where there is no memory for them. */
-static int close_rim(const uint8_t *file, size_t length, uint32_t *number)
+static int close_rim(const struct rim_file *file, const struct request *asked, uint32_t *number)
 {
     struct tables t;
-    t.sizes = patch_box_sizes(file, length);
+    t.sizes = asked->limited ? patch_box_sizes_within(asked->limit, file->bytes, file->length) : patch_box_sizes(file->bytes, file->length);
     *number = t.sizes.number;
     if (*number != PATCH_BOX_ACCEPTED)
         return 1;
     int enough = allocate(&t);
     if (enough)
-        *number = close_with(&t, file, length);
+        *number = close_with(&t, file, asked);
     release(&t);
     return enough;
 }
 
 /* Writes the file in the other edition; gives the number. An error of standard output is seen at the end. */
-static uint32_t convert(const uint8_t *file, size_t length)
+static uint32_t convert(const struct rim_file *file)
 {
     static uint8_t out[PATCH_BOX_MAX_FILE];
-    patch_box_convert_answer answer = patch_box_convert(file, length, out, sizeof out);
+    patch_box_convert_answer answer = patch_box_convert(file->bytes, file->length, out, sizeof out);
     fwrite(out, 1, answer.length, stdout);
     return answer.number;
 }
 
-/* The file's bytes; one byte more than the longest rim file is enough to see that it is too long. */
-static int read_file(const char *name, uint8_t *bytes, size_t places, size_t *length)
+static int read_file(const char *name, struct rim_file *file)
 {
-    FILE *file = fopen(name, "rb");
-    if (file == NULL)
+    FILE *opened = fopen(name, "rb");
+    if (opened == NULL)
         return 0;
-    *length = fread(bytes, 1, places, file);
-    int error = ferror(file) ? errno : 0;
-    fclose(file);
+    file->length = fread(file->bytes, 1, sizeof file->bytes, opened);
+    int error = ferror(opened) ? errno : 0;
+    fclose(opened);
     errno = error;
     return error == 0;
 }
 
+/* A limit in digits. The library refuses one that is not from 3 to 64; one that is too high for a size_t becomes the highest. */
+static int parse_limit(const char *text, size_t *limit)
+{
+    *limit = strtoul(text, NULL, 10);
+    return text[0] != '\0' && text[strspn(text, "0123456789")] == '\0';
+}
+
+/* What is wrong with the words, or null. */
+static const char *parse(int count, char **arguments, struct request *asked)
+{
+    asked->limited = count > 1 && strcmp(arguments[1], "--limit") == 0;
+    asked->converts = count > 1 && strcmp(arguments[1], "--convert") == 0;
+    if (asked->limited && count > 2 && !parse_limit(arguments[2], &asked->limit))
+        return "the limit is no number";
+    int before = 1 + 2 * asked->limited + asked->converts;
+    if (count != before + 1)
+        return "one rim file is expected";
+    asked->name = arguments[before];
+    return NULL;
+}
+
 int main(int count, char **arguments)
 {
-    static uint8_t file[PATCH_BOX_MAX_FILE + 1];
-    size_t length;
+    static struct rim_file file;
+    struct request asked = {0};
     uint32_t number;
-    int converts = count > 1 && strcmp(arguments[1], "--convert") == 0;
-    if (count != 2 + converts)
-        return fail("one rim file is expected", "example [--convert] RIM-FILE");
-    const char *name = arguments[1 + converts];
-    if (!read_file(name, file, sizeof file, &length))
-        return fail(name, strerror(errno));
-    if (converts)
-        number = convert(file, length);
-    else if (!close_rim(file, length, &number))
+    const char *wrong = parse(count, arguments, &asked);
+    if (wrong != NULL)
+        return fail(wrong, usage);
+    if (!read_file(asked.name, &file))
+        return fail(asked.name, strerror(errno));
+    if (asked.converts)
+        number = convert(&file);
+    else if (!close_rim(&file, &asked, &number))
         return fail("no memory", strerror(ENOMEM));
     if (number != PATCH_BOX_ACCEPTED)
         printf("refused %lu\n", (unsigned long)number);

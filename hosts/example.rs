@@ -1,7 +1,7 @@
 //! A host in Rust: closes the rim of a rim file of either edition and prints what the bench program
-//! prints. Its tables are as long as the rim needs. With --convert it writes the file in the other
-//! edition instead. Status 0 where the file is accepted, 1 where it is refused, 2 with one line on
-//! standard error where it could not run.
+//! prints. Its tables are as long as the rim needs. With --limit N it takes rims of at most N
+//! vertices. With --convert it writes the file in the other edition instead. Status 0 where the file
+//! is accepted, 1 where it is refused, 2 with one line on standard error where it could not run.
 
 #![forbid(unsafe_code)]
 
@@ -10,6 +10,14 @@ use std::ffi::{OsStr, OsString};
 use std::fmt::Write as _;
 use std::io::{Read, Write as _};
 use std::process::ExitCode;
+
+const USAGE: &str = "example [--limit N | --convert] RIM-FILE";
+
+/// What to do with the file. Without a limit the calls that have none are made.
+enum Task {
+    Close { limit: Option<usize> },
+    Convert,
+}
 
 /// The weight of the row to the triangle, earlier in walk order, that the i-th triangle of the patch
 /// hangs on.
@@ -33,12 +41,21 @@ fn shown(tables: &OwnedTables, triangles: usize, total: u64) -> String {
 }
 
 /// What the bench program prints for a patch or 'none'.
-fn close(file: &[u8]) -> Result<String, Number> {
-    let mut tables = OwnedTables::new(patch_box::sizes(file)?);
-    Ok(match patch_box::rim(file, tables.lend())? {
+fn close(file: &[u8], limit: Option<usize>) -> Result<Vec<u8>, Number> {
+    let sizes = match limit {
+        None => patch_box::sizes(file),
+        Some(limit) => patch_box::sizes_within(limit, file),
+    };
+    let mut tables = OwnedTables::new(sizes?);
+    let outcome = match limit {
+        None => patch_box::rim(file, tables.lend()),
+        Some(limit) => patch_box::rim_within(limit, file, tables.lend()),
+    };
+    let text = match outcome? {
         Outcome::None => String::from("none\n"),
         Outcome::Patch { triangles, total } => shown(&tables, triangles, total),
-    })
+    };
+    Ok(text.into_bytes())
 }
 
 /// The file in the other edition.
@@ -56,12 +73,28 @@ fn read_file(name: &OsStr) -> std::io::Result<Vec<u8>> {
     Ok(bytes)
 }
 
-/// Whether the file is to be converted, and its name.
-fn arguments() -> Option<(bool, OsString)> {
-    let mut arguments = std::env::args_os().skip(1).peekable();
-    let converts = arguments.next_if(|first| first == "--convert").is_some();
-    let name = arguments.next()?;
-    arguments.next().is_none().then_some((converts, name))
+/// A limit in digits. The library refuses one that is not from 3 to 64; one that is too high for a
+/// usize becomes the highest.
+fn parse_limit(word: &OsStr) -> Result<usize, &'static str> {
+    let is_number = |text: &&str| !text.is_empty() && text.bytes().all(|c| c.is_ascii_digit());
+    let digits = word.to_str().filter(is_number).ok_or("the limit is no number")?;
+    Ok(digits.parse().unwrap_or(usize::MAX))
+}
+
+/// The task and the file's name, or what is wrong with the words.
+fn arguments() -> Result<(Task, OsString), &'static str> {
+    const MISSING: &str = "one rim file is expected";
+    let mut words = std::env::args_os().skip(1);
+    let mut first = words.next().ok_or(MISSING)?;
+    let mut task = Task::Close { limit: None };
+    if first == "--convert" {
+        task = Task::Convert;
+        first = words.next().ok_or(MISSING)?;
+    } else if first == "--limit" {
+        task = Task::Close { limit: Some(parse_limit(&words.next().ok_or(MISSING)?)?) };
+        first = words.next().ok_or(MISSING)?;
+    }
+    words.next().map_or(Ok((task, first)), |_| Err(MISSING))
 }
 
 /// Standard output keeps what follows the last line break until it is flushed.
@@ -72,10 +105,12 @@ fn write_out(bytes: &[u8]) -> std::io::Result<()> {
 }
 
 fn run() -> Result<ExitCode, String> {
-    let (converts, name) =
-        arguments().ok_or("one rim file is expected: example [--convert] RIM-FILE")?;
+    let (task, name) = arguments().map_err(|wrong| format!("{wrong}: {USAGE}"))?;
     let file = read_file(&name).map_err(|error| format!("{}: {error}", name.display()))?;
-    let answer = if converts { convert(&file) } else { close(&file).map(String::into_bytes) };
+    let answer = match task {
+        Task::Close { limit } => close(&file, limit),
+        Task::Convert => convert(&file),
+    };
     let (bytes, status) = match answer {
         Ok(bytes) => (bytes, ExitCode::SUCCESS),
         Err(number) => (format!("refused {}\n", number.code()).into_bytes(), ExitCode::FAILURE),

@@ -18,6 +18,10 @@
  *   edition 2   10 + 22 * R bytes: a record ends in the normal of the surface at its rim edge; the weight of a candidate is its own weight: area, and
  *               at each rim edge with a surface outside the bend factor times the bend between the two
  * patch_box_convert converts a file of either edition to the other.
+ *
+ * Limits. A limit is the most vertices that a rim may have, from 3 to 64. The calls whose names end in _within take one; the others take the largest, 64,
+ * and answer as _within does for it. Any other limit is refused with 14, before anything else is looked at. A chain of more records than the limit is
+ * refused with 20 in the place of 5, unless the limit is 64. A rim has one answer under all limits that it fits into.
  */
 #ifndef PATCH_BOX_H
 #define PATCH_BOX_H
@@ -32,10 +36,16 @@ extern "C" {
 /* Places that suffice for every rim. patch_box_sizes says what one rim needs, which is far less. */
 enum {
     PATCH_BOX_MAX_FILE = 5642,        /* bytes of the longest rim file, which is of edition 2: 10 + 22 * 256 */
-    PATCH_BOX_MAX_VERTICES = 64,
+    PATCH_BOX_MAX_VERTICES = 64,      /* the largest limit */
     PATCH_BOX_MAX_TRIANGLES = 62,     /* a triangulation of n vertices has n - 2 triangles */
     PATCH_BOX_MAX_CANDIDATES = 41664, /* for candidates, weights and work: the triples of 64 vertices, 64 * 63 * 62 / 6 */
     PATCH_BOX_MAX_ROWS = 1270752      /* two for each four p < q < r < s of 64 vertices: pqr hangs on prs, and qrs hangs on pqs; 2 * 635376 */
+};
+
+/* Other limits. */
+enum {
+    PATCH_BOX_MIN_VERTICES = 3,  /* the smallest */
+    PATCH_BOX_TRIM_VERTICES = 24 /* that of the trim program */
 };
 
 /* Why a call refused: the values of the field `number`. */
@@ -54,12 +64,13 @@ enum {
     PATCH_BOX_VERTEX_REPEATED = 11,    /* two vertices are at one grid point */
     PATCH_BOX_COSPHERICAL = 12,        /* five vertices, not all in one plane, are on a sphere that has no vertex inside */
     PATCH_BOX_TABLE_TOO_SHORT = 13,    /* a lent table is too short */
-    PATCH_BOX_VERTEX_COUNT = 14,       /* the n of a direct job is not from 3 to 64 */
+    PATCH_BOX_VERTEX_COUNT = 14,       /* the n of a direct job, or the limit asked for, is not from 3 to 64 */
     PATCH_BOX_CANDIDATE = 15,          /* the candidates of a direct job are not vertices a < b < c < n in rising order */
     PATCH_BOX_ROW = 16,                /* the rows of a direct job are not hanging pairs in rising order */
     PATCH_BOX_WEIGHT = 17,             /* a weight of a direct job is more than 2,000,000,000 */
     PATCH_BOX_NORMAL = 18,             /* a number of a normal is not from -1000 to 1000 */
-    PATCH_BOX_NORMAL_LOST = 19         /* a normal would be lost: a record of the file to convert has one that is not zero */
+    PATCH_BOX_NORMAL_LOST = 19,        /* a normal would be lost: a record of the file to convert has one that is not zero */
+    PATCH_BOX_OVER_LIMIT = 20          /* the chain has more records than the limit asked for */
 };
 
 /* Vertices a < b < c. Candidates stand in rising order, and a candidate's number is its place, from 0. */
@@ -109,6 +120,9 @@ typedef struct {
 /* The sizes of a rim file's tables: a number of 1 to 12 or 18, or what patch_box_rim needs at least. */
 patch_box_sizes_answer patch_box_sizes(const uint8_t *file, size_t file_len);
 
+/* The same within a limit: what patch_box_rim_within needs at least. */
+patch_box_sizes_answer patch_box_sizes_within(size_t limit, const uint8_t *file, size_t file_len);
+
 /* The one call: closes the rim of a rim file. A number of 1 to 13 or 18, or a patch, or 'none'. Unless it refuses, it leaves the rim's lists in the first
  * places of the tables for candidates, weights and rows, and zeros in the work table, as many as there are candidates. A patch fills the triangle table
  * with the numbers of its candidates, in walk order. The file alone fixes the patch: it does not depend on what the tables held, nor on their lengths
@@ -119,6 +133,14 @@ patch_box_patch_answer patch_box_rim(const uint8_t *file, size_t file_len,
                                      uint32_t *weights, size_t weights_len,
                                      patch_box_row *rows, size_t rows_len,
                                      uint64_t *work, size_t work_len);
+
+/* The same within a limit. */
+patch_box_patch_answer patch_box_rim_within(size_t limit, const uint8_t *file, size_t file_len,
+                                            uint16_t *triangles, size_t triangles_len,
+                                            patch_box_candidate *candidates, size_t candidates_len,
+                                            uint32_t *weights, size_t weights_len,
+                                            patch_box_row *rows, size_t rows_len,
+                                            uint64_t *work, size_t work_len);
 
 /* The tiler alone, for a direct job of n vertices, whose lists are the whole tables of candidates and rows. A number of 13 to 17, or a patch, or 'none'.
  * It needs n - 2 places for triangles, and for weights and work as many as there are candidates; triangles and work are left as by patch_box_rim. */
@@ -132,11 +154,20 @@ patch_box_patch_answer patch_box_job(size_t n,
 /* The reader alone: a number of 1 to 11 or 18, or how many vertices the rim has. */
 patch_box_read_answer patch_box_read(const uint8_t *file, size_t file_len);
 
+/* The same within a limit. */
+patch_box_read_answer patch_box_read_within(size_t limit, const uint8_t *file, size_t file_len);
+
 /* The reader, then the candidate finder: a number of 1 to 13 or 18, or the rim's lists in the first places of the three tables. */
 patch_box_find_answer patch_box_find(const uint8_t *file, size_t file_len,
                                      patch_box_candidate *candidates, size_t candidates_len,
                                      uint32_t *weights, size_t weights_len,
                                      patch_box_row *rows, size_t rows_len);
+
+/* The same within a limit. */
+patch_box_find_answer patch_box_find_within(size_t limit, const uint8_t *file, size_t file_len,
+                                            patch_box_candidate *candidates, size_t candidates_len,
+                                            uint32_t *weights, size_t weights_len,
+                                            patch_box_row *rows, size_t rows_len);
 
 /* Conversion between editions. A number of 1 to 11, 13, 18 or 19, or the file in the other edition, in the first places of the output table: a file of
  * edition 1 with zero normals, or one of edition 2 without its normals, which must all be zero. Every record stays at its place, spare ones too, and its

@@ -2,7 +2,7 @@
 //! aligned do not compile. patch_box.h says what each call does to the tables; README.md and
 //! docs/SPECIFICATION.md describe the rules and the rim file. A call that takes a rim file takes both
 //! editions. The calls whose names end in `_within` take rims of no more vertices than a limit, from
-//! [`MIN_VERTICES`] to [`MAX_VERTICES`]; the others take the highest one.
+//! [`MIN_VERTICES`] to [`MAX_VERTICES`]; the others take the largest one.
 //!
 //! ```no_run
 //! use patch_box::{Number, Outcome, OwnedTables};
@@ -38,10 +38,10 @@ pub use owned::OwnedTables;
 /// Bytes of the longest rim file, which is of edition 2.
 pub const MAX_FILE: usize = 10 + 22 * 256;
 
-/// Vertices of the longest rim: the highest limit.
+/// Vertices of the longest rim: the largest limit.
 pub const MAX_VERTICES: usize = 64;
 
-/// Vertices of the shortest rim: the lowest limit.
+/// Vertices of the shortest rim: the smallest limit.
 pub const MIN_VERTICES: usize = 3;
 
 /// The limit of the trim program.

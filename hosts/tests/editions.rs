@@ -2,25 +2,15 @@
 
 #![forbid(unsafe_code)]
 
+mod common;
+
+use common::rim_file;
 use patch_box::{Converted, Number, Outcome, OwnedTables, MAX_FILE};
 
 /// Rim file P (rule 6.1), of edition 2 where it has normals.
 fn p(normals: Option<[[i16; 3]; 4]>) -> Vec<u8> {
-    let points = [[0.0, 0.0, 0.0], [1.0, 0.0, 0.0], [1.0, 1.0, 0.75], [0.0, 1.0, 0.0f32]];
-    let mark: &[u16] = if normals.is_some() { &[65_535] } else { &[] };
-    let mut file = words(mark.iter().chain(&[1, 4, 1, 1]).copied());
-    for (k, point) in points.iter().enumerate() {
-        let next = if k == 3 { 0 } else { k as u16 + 2 };
-        file.extend(words([next, 1]));
-        file.extend(point.iter().flat_map(|x| x.to_le_bytes()));
-        let normal = normals.iter().flat_map(|normals| normals[k]);
-        file.extend(normal.flat_map(|x| x.to_le_bytes()));
-    }
-    file
-}
-
-fn words(numbers: impl IntoIterator<Item = u16>) -> Vec<u8> {
-    numbers.into_iter().flat_map(|number| number.to_le_bytes()).collect()
+    let points = [[0.0, 0.0, 0.0], [1.0, 0.0, 0.0], [1.0, 1.0, 0.75], [0.0, 1.0, 0.0]];
+    rim_file(&points, normals.as_ref().map(|normals| &normals[..]))
 }
 
 /// The outcome, the patch and the weights of the four candidates 012, 013, 023, 123.

@@ -2,7 +2,8 @@
 
 #![forbid(unsafe_code)]
 
-use patch_box::{Number, MAX_CANDIDATES, MAX_FILE, MAX_ROWS, MAX_TRIANGLES, MAX_VERTICES};
+use patch_box::{Number, MAX_CANDIDATES, MAX_FILE, MAX_ROWS, MAX_TRIANGLES};
+use patch_box::{MAX_VERTICES, MIN_VERTICES, TRIM_VERTICES};
 
 const HEADER: &str = include_str!("../patch_box.h");
 const README: &str = include_str!("../../README.md");
@@ -31,7 +32,7 @@ fn shouted(name: &str) -> String {
 #[test]
 fn numbers() {
     let codes: Vec<u32> = Number::ALL.iter().map(|number| number.code()).collect();
-    assert_eq!(codes, (1..=19).collect::<Vec<u32>>());
+    assert_eq!(codes, (1..=20).collect::<Vec<u32>>());
     for number in Number::ALL {
         let name = shouted(&format!("{number:?}"));
         assert_eq!(constant(&name), (number.code() as usize, number.reason()));
@@ -39,16 +40,36 @@ fn numbers() {
         assert_eq!(Number::of_code(number.code()), Some(*number));
         assert_eq!(number.to_string(), format!("refused {}: {}", number.code(), number.reason()));
     }
-    assert_eq!([0, 20, u32::MAX].map(Number::of_code), [None; 3]);
+    assert_eq!([0, 21, u32::MAX].map(Number::of_code), [None; 3]);
 }
 
 #[test]
 fn places_that_suffice() {
     assert_eq!(constant("MAX_FILE").0, MAX_FILE);
-    assert_eq!(constant("MAX_VERTICES").0, MAX_VERTICES);
     assert_eq!(constant("MAX_TRIANGLES").0, MAX_TRIANGLES);
     assert_eq!(constant("MAX_CANDIDATES").0, MAX_CANDIDATES);
     assert_eq!(constant("MAX_ROWS").0, MAX_ROWS);
+}
+
+#[test]
+fn limits() {
+    assert_eq!(constant("MIN_VERTICES").0, MIN_VERTICES);
+    assert_eq!(constant("TRIM_VERTICES").0, TRIM_VERTICES);
+    assert_eq!(constant("MAX_VERTICES").0, MAX_VERTICES);
+}
+
+/// The names of the calls that a text declares, in order.
+fn calls(text: &'static str) -> Vec<&'static str> {
+    let words = text.split_whitespace().filter(|word| word.starts_with("patch_box_"));
+    let names = words.filter_map(|word| Some(word.split_once('(')?.0));
+    names.filter(|name| !name.contains('[')).collect()
+}
+
+#[test]
+fn same_calls() {
+    let declared = calls(include_str!("../patch_box.rs"));
+    assert_eq!(calls(HEADER), declared);
+    assert_eq!(declared.len(), 10);
 }
 
 /// The bound on rows, counted: every pair of triples of 64 in which one hangs on the other.
@@ -61,17 +82,22 @@ fn rows_of_all_triples() {
     assert_eq!(edges.map(|(a, c)| inners(a, c) * outers(a, c)).sum::<usize>(), MAX_ROWS);
 }
 
-#[test]
-fn empty_tables_are_lent() {
-    let none = patch_box::Tables {
+fn no_places<'a>() -> patch_box::Tables<'a> {
+    patch_box::Tables {
         triangles: &mut [],
         candidates: &mut [],
         weights: &mut [],
         rows: &mut [],
         work: &mut [],
-    };
-    assert_eq!(patch_box::rim(&[], none), Err(Number::Length));
+    }
+}
+
+#[test]
+fn empty_tables_are_lent() {
+    assert_eq!(patch_box::rim(&[], no_places()), Err(Number::Length));
+    assert_eq!(patch_box::rim_within(3, &[], no_places()), Err(Number::Length));
     assert_eq!(patch_box::find(&[], &mut [], &mut [], &mut []), Err(Number::Length));
+    assert_eq!(patch_box::find_within(3, &[], &mut [], &mut [], &mut []), Err(Number::Length));
     assert_eq!(patch_box::convert(&[], &mut []), Err(Number::Length));
     assert_eq!(patch_box::job(3, &[], &[], &[], &mut [], &mut []), Err(Number::TableTooShort));
     assert_eq!(patch_box::job(3, &[], &[], &[], &mut [0], &mut []), Ok(patch_box::Outcome::None));

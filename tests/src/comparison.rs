@@ -62,11 +62,7 @@ pub fn compare_reader(expected: &dyn Calls, tested: &dyn Calls, file: &[u8]) -> 
 }
 
 /// The sizing call on a file.
-pub fn compare_sizes(
-    expected: &dyn Calls,
-    tested: &dyn Calls,
-    file: &[u8],
-) -> Result<Places, u32> {
+pub fn compare_sizes(expected: &dyn Calls, tested: &dyn Calls, file: &[u8]) -> Result<Places, u32> {
     let answers = [expected.sizes(file), tested.sizes(file)];
     same([expected, tested], answers, None, &|| format!("file {}", hexadecimal(file)));
     answers[0]

@@ -1,6 +1,6 @@
 //! Damage to a rim file, and the number due for it (rules 4.1 to 4.11, 4.18 and 4.20).
 
-use crate::law::reader::HIGHEST_LIMIT;
+use crate::law::reader::LARGEST_LIMIT;
 use crate::normals;
 use crate::random::Random;
 use crate::rims::{Edition, Record, RimFile, Shape};
@@ -125,7 +125,7 @@ const NORMALS: [Damage; 9] = [
 ];
 
 impl Damage {
-    /// The number with the highest limit.
+    /// The number with the largest limit.
     pub fn number(self) -> u32 {
         match self {
             Length | Records257 => 1,
@@ -248,14 +248,16 @@ pub fn number_due(damages: &[Damage], limit: usize) -> u32 {
     let met = damages.iter().copied().chain(too_long);
     let first = met.min_by_key(|damage| damage.when(limit)).expect("a damage");
     match first {
-        TooMany if limit != HIGHEST_LIMIT => 20,
+        TooMany if limit != LARGEST_LIMIT => 20,
         _ => first.number(),
     }
 }
 
 /// Each damage in each edition.
 pub fn each_alone() -> impl Iterator<Item = (Edition, Damage)> {
-    Edition::BOTH.into_iter().flat_map(|edition| all(edition).into_iter().map(move |d| (edition, d)))
+    Edition::BOTH
+        .into_iter()
+        .flat_map(|edition| all(edition).into_iter().map(move |d| (edition, d)))
 }
 
 /// Each two that a file of the edition can have at once.

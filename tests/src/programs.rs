@@ -17,8 +17,7 @@ pub const BENCH: Program =
 pub const TRIM: Program =
     Program { variable: "TRIM_PROGRAM", expected: |file| program::trim(file).into_bytes() };
 
-pub const CONVERT: Program =
-    Program { variable: "CONVERT_PROGRAM", expected: program::converted };
+pub const CONVERT: Program = Program { variable: "CONVERT_PROGRAM", expected: program::converted };
 
 impl Program {
     /// What the program writes, or nothing where the variable names none.
@@ -26,7 +25,8 @@ impl Program {
         let program = std::env::var_os(self.variable)?;
         let mut command = Command::new(program);
         command.stdin(Stdio::piped()).stdout(Stdio::piped());
-        let mut child = command.spawn().unwrap_or_else(|error| panic!("{}: {error}", self.variable));
+        let mut child =
+            command.spawn().unwrap_or_else(|error| panic!("{}: {error}", self.variable));
         // The program may stop reading once it knows its answer.
         let _ = child.stdin.take().expect("piped").write_all(file);
         Some(child.wait_with_output().expect("the program ends").stdout)

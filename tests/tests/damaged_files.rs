@@ -6,7 +6,7 @@ use outside_tests::comparison::{
     compare_conversion, compare_finder, compare_reader, compare_rim, expect_number,
 };
 use outside_tests::damage::{self, damaged, number_due, random_records, undamaged, Damage};
-use outside_tests::law::reader::HIGHEST_LIMIT;
+use outside_tests::law::reader::LARGEST_LIMIT;
 use outside_tests::law::BY_SETS;
 use outside_tests::library::under_test;
 use outside_tests::random::{seeds, Random};
@@ -47,7 +47,7 @@ fn pairs_in(edition: Edition, numbers: &[u32]) {
     let mut pairs = BTreeSet::new();
     for pair in damage::each_pair(edition) {
         let file = damaged(edition, 4, &pair);
-        expect(&file, number_due(&pair, HIGHEST_LIMIT), &(edition, pair));
+        expect(&file, number_due(&pair, LARGEST_LIMIT), &(edition, pair));
         pairs.insert(pair.map(Damage::number));
     }
     let missing = numbers.iter().flat_map(|&one| numbers.iter().map(move |&two| [one, two]));

@@ -1,5 +1,5 @@
-//! The bench program and the trim program (rules 5.3 and 5.4), where BENCH_PROGRAM and TRIM_PROGRAM
-//! name them: rim files on their standard input.
+//! The bench program and the trim program (rules 5.3, 5.4 and 5.9), where BENCH_PROGRAM and
+//! TRIM_PROGRAM name them: rim files on their standard input.
 
 use outside_tests::damage::{self, damaged, number_due, undamaged};
 use outside_tests::law::program::{bench, trim, TRIM_LIMIT};

@@ -27,10 +27,13 @@ fn every_call() {
             let mut tables = Tables::guarded(Places::ENOUGH);
             on_a_small_stack(move || {
                 let library = under_test();
-                library.read_rim(&file);
-                let _ = library.sizes(&file);
-                library.find_candidates(&file, &mut tables);
-                library.patch_rim(&file, &mut tables);
+                let within = [24, 64].map(|limit| library.within(limit));
+                for calls in [library, &*within[0], &*within[1]] {
+                    calls.read_rim(&file);
+                    let _ = calls.sizes(&file);
+                    calls.find_candidates(&file, &mut tables);
+                    calls.patch_rim(&file, &mut tables);
+                }
                 let mut other = Lent::guarded(MOST_BYTES);
                 let length = library.convert(&file, &mut other).length;
                 library.convert(&other.view()[..length], &mut Lent::guarded(MOST_BYTES));

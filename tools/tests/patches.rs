@@ -3,11 +3,14 @@
 mod common;
 
 use common::{bytes_of, example, run};
+use patch_box::{Number, Outcome, OwnedTables, TRIM_VERTICES};
 use rim::patch::{close, Triangle};
 use std::collections::HashMap;
 
-const RIMS: [&str; 8] = [
+const RIMS: [&str; 10] = [
     "p.rim",
+    "cut24.rim",
+    "cut25.rim",
     "saddle12.rim",
     "ring64.rim",
     "gap.rim",
@@ -20,7 +23,11 @@ const RIMS: [&str; 8] = [
 /// Each example is what the tool makes today. `./rim` with the words writes it again.
 #[test]
 fn examples_are_up_to_date() {
-    let cases: [(&[&str], &str, &str); 10] = [
+    let cases: [(&[&str], &str, &str); 14] = [
+        (&["make"], "cut24.txt", "cut24.rim"),
+        (&["draw"], "cut24.rim", "cut24.svg"),
+        (&["make"], "cut25.txt", "cut25.rim"),
+        (&["draw"], "cut25.rim", "cut25.svg"),
         (&["make"], "gap.txt", "gap.rim"),
         (&["draw"], "gap.rim", "gap.svg"),
         (&["stl"], "gap.rim", "gap.stl"),
@@ -37,6 +44,37 @@ fn examples_are_up_to_date() {
         let made = run(&[words, &[&input]].concat(), b"").done().out;
         assert!(made == bytes_of(name), "examples/{name} is not what ./rim {words:?} writes");
     }
+}
+
+/// The first line that the trim program prints, by the library.
+fn first_line_within_24(file: &[u8]) -> Result<String, Number> {
+    let mut tables = OwnedTables::new(patch_box::sizes_within(TRIM_VERTICES, file)?);
+    Ok(match patch_box::rim_within(TRIM_VERTICES, file, tables.lend())? {
+        Outcome::None => "none".into(),
+        Outcome::Patch { triangles, total } => {
+            format!("patch {} {triangles} {total}", triangles + 2)
+        }
+    })
+}
+
+/// The last column of the table in examples/README.md.
+#[test]
+fn examples_with_the_limit_of_trim() {
+    let readme = String::from_utf8(bytes_of("README.md")).expect("text");
+    let mut refused = Vec::new();
+    for line in readme.lines().filter(|line| line.contains(".rim |")) {
+        let cells: Vec<&str> = line.split('|').map(str::trim).collect();
+        if let [_, name, _, of_bench, of_trim, _] = cells[..] {
+            let answer = first_line_within_24(&bytes_of(name));
+            let line = answer.unwrap_or_else(|number| format!("refused {}", number.code()));
+            let expected = if of_trim == "the same" { of_bench } else { of_trim };
+            assert_eq!(line, expected.trim_matches('`'), "{name}");
+            if line == "refused 20" {
+                refused.push(name);
+            }
+        }
+    }
+    assert_eq!(refused, ["cut25.rim", "ring64.rim", "skew64.rim"]);
 }
 
 /// In a patch a rim edge is in one triangle, another in two, which run along it in turn.

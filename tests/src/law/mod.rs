@@ -28,7 +28,7 @@ pub struct Law {
 
 /// Every set of candidates is looked at: for small polygons.
 pub const BY_SETS: Law =
-    Law { name: "law by sets", best: tilings::best, limit: reader::HIGHEST_LIMIT };
+    Law { name: "law by sets", best: tilings::best, limit: reader::LARGEST_LIMIT };
 
 /// For polygons too large for sets.
 pub const BY_INTERVALS: Law = Law { name: "law by intervals", best: interval::best, ..BY_SETS };

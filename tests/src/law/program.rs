@@ -1,5 +1,5 @@
 //! What the programs write for a file: the bench program (rules 5.3 and 5.4), the trim program, which
-//! has a limit of its own, and `convert` (rule 5.8).
+//! has a limit of its own (rule 5.9), and `convert` (rule 5.8).
 
 use super::{conversion, BY_INTERVALS};
 use crate::calls::{Calls, Places, Tables, MOST_BYTES};

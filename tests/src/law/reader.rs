@@ -23,7 +23,7 @@ pub struct Parts<'a> {
 }
 
 /// The vertices of the longest rim.
-pub const HIGHEST_LIMIT: usize = 64;
+pub const LARGEST_LIMIT: usize = 64;
 
 /// Bytes of a record up to its normal, and of the normal.
 pub const RECORD: usize = 16;
@@ -130,19 +130,19 @@ fn chain(file: &Parts, limit: usize) -> Result<(Vec<Point>, Vec<Option<Point>>),
         surfaces.push(surface_of(record)?);
     }
     if records.len() > limit {
-        return Err(if limit == HIGHEST_LIMIT { 5 } else { 20 });
+        return Err(if limit == LARGEST_LIMIT { 5 } else { 20 });
     }
     end?;
     Ok((points, surfaces))
 }
 
-/// The rim of a file, with the highest limit.
+/// The rim of a file, with the largest limit.
 pub fn read(file: &[u8]) -> Result<Rim, u32> {
-    read_within(HIGHEST_LIMIT, file)
+    read_within(LARGEST_LIMIT, file)
 }
 
 pub fn read_within(limit: usize, file: &[u8]) -> Result<Rim, u32> {
-    if !(3..=HIGHEST_LIMIT).contains(&limit) {
+    if !(3..=LARGEST_LIMIT).contains(&limit) {
         return Err(14);
     }
     let parts = cut(file)?;
