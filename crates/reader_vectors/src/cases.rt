@@ -8,9 +8,6 @@ use crate::text;
 use crate::text::Text;
 ghost use Prim.Native.Nat.{_≤_};
 
-// The most vertices that the trim program takes (rule 5.9).
-const TRIM_VERTICES: usize = 24;
-
 // Sets the file that a case starts from, P, Q or a chain, and returns the case's length.
 fn set_base(file: &mut Bytes, second: bool, text: &Text, at: usize) -> usize {
     file::clear(file);
@@ -39,7 +36,7 @@ fn file_at(text: &Text, at: usize) -> usize {
 
 fn limit_for(trim: bool) -> usize {
     if trim {
-        TRIM_VERTICES
+        terms::TRIM_VERTICES
     } else {
         terms::MAX_VERTICES
     }

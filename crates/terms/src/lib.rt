@@ -7,6 +7,9 @@ pub const MIN_VERTICES: usize = 3;
 
 pub const MAX_VERTICES: usize = 64;
 
+// The most vertices that the trim program takes (rule 5.9).
+pub const TRIM_VERTICES: usize = 24;
+
 // Factors of a rim (rules 4.2, 4.34): the file's 16 bits hold every bend factor.
 pub const MAX_AREA_FACTOR: u32 = 16;
 

@@ -5,7 +5,7 @@ ghost use Rattle.terms.specs.Limits.{trimVertices};
 fn limit() -> usize
     ensures { λ r. ⌜ r ≡ trimVertices ⌝ }
 {
-    24
+    terms::TRIM_VERTICES
 }
 
 fn main() {
