@@ -17,7 +17,7 @@ use Rattle.reader.specs.Reading.{numberDue, polygonOf, answer, readingOf
 use Rattle.reader.specs.declared.Status.the-variants.{Complete}
 use Rattle.reader.proofs.Order.{verdict-first, verdict-zero}
 use Rattle.reader.proofs.Positions.{shorter}
-use Rattle.reader.proofs.FirstNumber.{Read, read-end}
+use Rattle.reader.proofs.FirstNumber.{read-end}
 use Rattle.reader.proofs.Demand1.{complete-read, verdict, first-or-none, read-only-when, given-first}
 use Rattle.reader.proofs.Accepted.{complete-polygon, read-within}
 

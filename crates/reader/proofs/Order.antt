@@ -6,7 +6,7 @@ use Prim.Native.Nat.{ℕ, suc, _<_}
 use native.Mathlib.Omega.{arith}
 use borrow.Author.Tests.{ltb-true, ltb-false}
 use lib.Dec.{ltb}
-use Rattle.reader.specs.Order.{Place, request, header, link-to, record-at, rim, Before, request-header, request-link, request-record, request-rim, header-link, header-record, header-rim, link-link, link-record, record-link, record-record, link-rim, record-rim, Precedes, by-place, by-number, First, NoneDue}
+use Rattle.reader.specs.Order.{Place, request, header, link-to, record-at, rim, request-header, request-link, request-record, request-rim, header-link, header-record, header-rim, link-link, link-record, record-link, record-record, link-rim, record-rim, Precedes, by-place, by-number, First, NoneDue}
 
 -- of two numbers one comes first, or they are one number
 data Ordered (p : Place) (j : ℕ) (q : Place) (k : ℕ) : Type 0 where

@@ -1,5 +1,5 @@
 -- `terms::count_fits` meets its contract. Assumes nothing.
-use mathlib.Core.Path.{sym, _∙_}
+use mathlib.Core.Path.{sym}
 use borrow.Author.Tests.{le-leb, lt-leb}
 use Rattle.lists.proofs.Choice.{yes, no}
 use Rattle.terms.proofs.count_fits.Statement.{statement}
