@@ -20,8 +20,8 @@
  * patch_box_convert converts a file of either edition to the other.
  *
  * Limits. A limit is the most vertices that a rim may have, from 3 to 64. The calls whose names end in _within take one; the others take the largest, 64,
- * and answer as _within does for it. Any other limit is refused with 14, before anything else is looked at. A chain of more records than the limit is
- * refused with 20 in the place of 5, unless the limit is 64. A rim has one answer under all limits that it fits into.
+ * and answer as _within does for it. A limit that is not from 3 to 64 is refused with 14, before anything else is looked at. A chain of more records than
+ * the limit is refused with 20 in the place of 5, unless the limit is 64. A rim has one answer under all limits that it fits into.
  */
 #ifndef PATCH_BOX_H
 #define PATCH_BOX_H

@@ -106,7 +106,7 @@ fn without_a_limit_it_is_64() {
     }
 }
 
-/// The rims above are closed, so that the tests see filled tables.
+/// Rims as long as the limit are closed, so that the tests see filled tables.
 #[test]
 fn rims_that_fit_are_closed() {
     for n in [23, 24, 25, 64] {

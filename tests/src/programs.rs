@@ -32,11 +32,13 @@ impl Program {
         Some(child.wait_with_output().expect("the program ends").stdout)
     }
 
-    /// The program, where there is one, writes what is expected for the file and no more.
-    pub fn compare(&self, file: &[u8]) {
+    /// The program, where there is one, writes what is expected for the file and no more; what that is.
+    pub fn compare(&self, file: &[u8]) -> Vec<u8> {
+        let expected = (self.expected)(file);
         if let Some(written) = self.written(file) {
-            self.same(file, &written, &(self.expected)(file));
+            self.same(file, &written, &expected);
         }
+        expected
     }
 
     /// The law expects these bytes, and the program, where there is one, writes them.

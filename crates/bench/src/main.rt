@@ -1,4 +1,4 @@
-// The bench program (rule 5.3): takes every rim that the stages can hold.
+// The bench program (rule 5.3), which has the largest limit.
 ghost use mathlib.Core.Path.{_≡_};
 ghost use Rattle.terms.specs.Limits.{maxVertices};
 

@@ -33,7 +33,7 @@ pub const COSPHERICAL: u32 = 12;
 // The host program.
 pub const TABLE_TOO_SHORT: u32 = 13;
 
-// The lister of a direct job; the first of them also a caller that asks for another limit.
+// The lister of a direct job; the first also a caller whose limit is not from 3 to 64.
 pub const VERTEX_COUNT: u32 = 14;
 
 pub const CANDIDATE: u32 = 15;

@@ -70,8 +70,8 @@ module _ (file out : List ℕ) where
   promised e = (e, call-values e)
 
 -- a file that is read
-pub read-zero : (file : List ℕ) → readingOf maxVertices file .status ≡ status.Complete → reader.numberDue maxVertices file ≡ 0
-read-zero file e = sym (number-is maxVertices file) ∙ ap statusNumber e
+pub read-zero : (limit : ℕ) (file : List ℕ) → readingOf limit file .status ≡ status.Complete → reader.numberDue limit file ≡ 0
+read-zero limit file e = sym (number-is limit file) ∙ ap statusNumber e
 
-pub right-length : (file : List ℕ) → reader.numberDue maxVertices file ≡ 0 → lengthWrong file ≡ false
-right-length file e = no-number-read maxVertices file e .right
+pub right-length : (limit : ℕ) (file : List ℕ) → reader.numberDue limit file ≡ 0 → lengthWrong file ≡ false
+right-length limit file e = no-number-read limit file e .right

@@ -46,7 +46,7 @@ module _ (file out : List ℕ) where
           in-file = record {
             numbered = omega (arith, f .low);
             counted = omega (arith, f .high);
-            bytes = record-within file (f .at) (omega (arith, f .low)) (omega (arith, f .high)) (whole file (right-length file e) .records);
+            bytes = record-within file (f .at) (omega (arith, f .low)) (omega (arith, f .high)) (whole file (right-length maxVertices file e) .records);
           }
 
           some : normalIn file (offset file (f .at)) ≡ noNormal → ⊥
@@ -91,7 +91,7 @@ module _ (file out : List ℕ) where
 
     decided : Truth (ltb (length out) (length (converted file))) → Truth (normalLost file) → Decided
     decided (holds a) b =
-        first-due 12 (record { place = rim; is-due = thirteen (right-length file e) (ltb-true (length out) (length (converted file)) a); none-before = before })
+        first-due 12 (record { place = rim; is-due = thirteen (right-length maxVertices file e) (ltb-true (length out) (length (converted file)) a); none-before = before })
         (number-is ∙ yes _ _ a)
       where
         before : (p : Place) (j : ℕ) → Precedes p j rim 13 → ConvertDue file out p j → ⊥

@@ -1,7 +1,7 @@
--- The one call under a limit. A limit that is not from 3 to 64 is refused with 14; 5 is given under 64 alone, and 20 under every other limit, each to a chain
+-- The one call under a limit. A limit that is not from 3 to 64 is refused with 14; 5 is given under 64 alone, and 20 under every smaller limit, each to a chain
 -- of one record more (rules 4.5, 4.14, 4.20). Under two limits: a rim within the smaller has one answer under both, and one that has more vertices, and that
 -- the larger takes, is refused with 20 under the smaller (rule 3.11). Assumes nothing.
-use mathlib.Core.Path.{_≡_, refl, ap}
+use mathlib.Core.Path.{_≡_, ap}
 use mathlib.Core.Bool.{false}
 use mathlib.Core.List.{List}
 use Prim.Native.Nat.{ℕ, suc, _≤_, _<_}
@@ -10,12 +10,13 @@ use Rattle.terms.specs.Limits.{minVertices, maxVertices, trimVertices, countFit
 use Rattle.polygon.specs.Polygon.{firstDue}
 use Rattle.reader.specs.File.{Bytes}
 use Rattle.reader.specs.Order.{Place, request, Precedes, by-number}
-use Rattle.reader.specs.Due.{HasRecords, AtMost, no-limit}
+use Rattle.reader.specs.Due.{HasRecords, AtMost, limit-wrong}
 use Rattle.reader.specs.Reading.{polygonOf, readingOf}
 use Rattle.reader.specs.declared.Status.the-variants.{Complete}
 use Rattle.reader.proofs.Limits.{number-alike, reading-alike, number-over, read-at-most, due-5, due-20}
-use Rattle.reader.proofs.Accepted.{read-within}
+use Rattle.reader.proofs.Accepted.{within-limit}
 use Rattle.finder.specs.Finding.{numberDue}
+use Rattle.finder.specs.declared.Sizes.the-variants.{Refused}
 use Rattle.finder.specs.Sizes.{sizesBy}
 use Rattle.pipeline.specs.Patching.{Tables, refused, patchBy, polygonNumber, patchFile}
 use Rattle.pipeline.specs.Sizes.{sizesFile}
@@ -39,39 +40,46 @@ module _ {small large : ℕ} (least : minVertices ≤ small) (below : small ≤ 
 
   -- a rim that is read with the smaller limit
   pub smaller-read : readingOf small file .status ≡ Complete → OneAnswer small large file
-  smaller-read complete = one-answer (read-at-most small file complete (read-within small file complete))
+  smaller-read complete = one-answer (read-at-most small file complete (within-limit small file complete))
 
   -- a rim that is read with the larger limit: one answer where it has no more vertices than the smaller, else 20
   module _ (complete : readingOf large file .status ≡ Complete) where
     pub fewer-vertices : readingOf large file .polygon .n ≤ small → OneAnswer small large file
     fewer-vertices few = one-answer (read-at-most large file complete few)
 
-    pub more-vertices : small < readingOf large file .polygon .n → (lent : Tables) → patchFile small file lent ≡ refused 20 lent
-    unfolding patchFile
-    more-vertices more lent =
-        let n = number-over least below most file complete more in
-        ap (λ (k : ℕ). patchBy (firstDue k (polygonNumber (polygonOf file) lent)) (polygonOf file) lent) n
+    module _ (more : small < readingOf large file .polygon .n) where
+      pub more-vertices : (lent : Tables) → patchFile small file lent ≡ refused 20 lent
+      unfolding patchFile
+      more-vertices lent =
+          let n = number-over least below most file complete more in
+          ap (λ (k : ℕ). patchBy (firstDue k (polygonNumber (polygonOf file) lent)) (polygonOf file) lent) n
+
+      pub no-sizes : sizesFile small file ≡ Refused 20
+      unfolding sizesFile
+      no-sizes =
+          let n = number-over least below most file complete more in
+          ap (λ (k : ℕ). sizesBy (firstDue k (numberDue false (polygonOf file))) (polygonOf file)) n
 
 -- ---- the numbers of a limit
 module _ (limit : ℕ) (file : List ℕ) (bytes : Bytes file) (t : Tables) where
   -- 14 comes before all others, and every lent table holds what it held
   pub limit-refused : countFits limit ≡ false → patchFile limit file t ≡ refused 14 t
   limit-refused wrong =
-      refused-first limit file bytes t 14 (record { place = request; is-due = by-reader (no-limit wrong); none-before = before })
+      refused-first limit file bytes t 14 (record { place = request; is-due = by-reader (limit-wrong wrong); none-before = before })
     where
       before : (p : Place) (j : ℕ) → Precedes p j request 14 → CallDue limit file t p j → ⊥
-      before _ j (by-number l) (by-reader (no-limit h)) = omega arith
+      before _ j (by-number l) (by-reader (limit-wrong h)) = omega arith
 
   five : {p : Place} → CallDue limit file t p 5 → HasRecords file (suc limit) × (limit ≡ maxVertices)
   five (by-reader d) = due-5 limit file d
 
-  twenty : {p : Place} → CallDue limit file t p 20 → HasRecords file (suc limit) × (limit ≡ maxVertices → ⊥)
+  twenty : {p : Place} → CallDue limit file t p 20 → HasRecords file (suc limit) × (limit < maxVertices)
   twenty (by-reader d) = due-20 limit file d
 
   pub five-given : numberOf (patchFile limit file t .outcome) ≡ 5 → HasRecords file (suc limit) × (limit ≡ maxVertices)
   five-given e = five (given-first limit file bytes t 4 e .is-due)
 
-  pub twenty-given : numberOf (patchFile limit file t .outcome) ≡ 20 → HasRecords file (suc limit) × (limit ≡ maxVertices → ⊥)
+  pub twenty-given : numberOf (patchFile limit file t .outcome) ≡ 20 → HasRecords file (suc limit) × (limit < maxVertices)
   twenty-given e = twenty (given-first limit file bytes t 19 e .is-due)
 
 -- ---- the programs trim and bench (rules 5.3, 5.9)
@@ -83,4 +91,4 @@ module _ (file : List ℕ) where
   trim-not-5 bytes t e = omega (arith, five-given trimVertices file bytes t e .1)
 
   pub bench-not-20 : Bytes file → (t : Tables) → numberOf (patchFile maxVertices file t .outcome) ≡ 20 → ⊥
-  bench-not-20 bytes t e = twenty-given maxVertices file bytes t e .1 refl
+  bench-not-20 bytes t e = omega (arith, twenty-given maxVertices file bytes t e .1)

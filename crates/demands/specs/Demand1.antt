@@ -11,8 +11,8 @@ use Rattle.finder.specs.Sizes.{placesOf}
 use Rattle.pipeline.specs.Patching.{Tables}
 use Rattle.demands.specs.Demand2.{Cospherical}
 
--- the polygon of a file read with a limit: its vertices are what the records give (`read-vertices` of reader/proofs/Accepted.antt), and none where the reader refuses
--- the file, so that 12 and 13 are asked only of what there is (rule 4.31)
+-- the polygon of a file read with a limit: its vertices are what the records give (`read-vertices` of reader/proofs/Accepted.antt), and none where the
+-- reader refuses the file, so that 12 and 13 are asked only of what there is (rule 4.31)
 abbrev pub polygonIn : ℕ → List ℕ → Polygon
 polygonIn limit file = readingOf limit file .polygon
 

@@ -25,3 +25,9 @@ module _ (limit : ℕ) (s : List ℕ) (candidates : List (List ℕ)) (weights : 
       {x : Finding} → r .status ≡ status.Complete → r ≡ readingOf limit s → x ≡ findCall (r .polygon) candidates weights rows →
       x ≡ findFile limit s candidates weights rows
   file-read d e f = f ∙ after d e
+
+-- the finder's call goes by the reading alone: under two limits that read a file alike it answers alike (rule 3.11)
+pub lists-alike : (small large : ℕ) (s : List ℕ) → readingOf small s ≡ readingOf large s →
+    (candidates : List (List ℕ)) (weights : List ℕ) (rows : List (List ℕ)) → findFile small s candidates weights rows ≡ findFile large s candidates weights rows
+unfolding findFile
+lists-alike small large s e candidates weights rows = ap (λ (x : Reading). findAfter (x .status) (x .polygon) candidates weights rows) e

@@ -90,8 +90,8 @@ module _ (limit : ℕ) (s : List ℕ) (complete : readingOf limit s .status ≡ 
   read-valid bytes = subst Valid (sym complete-polygon) (valid limit s (complete-read limit s complete) bytes)
 
   -- it has no more vertices than the limit (rules 4.5, 4.20)
-  pub read-within : readingOf limit s .polygon .n ≤ limit
-  read-within = subst (λ p. p .n ≤ limit) (sym complete-polygon) (few limit s (complete-read limit s complete))
+  pub within-limit : readingOf limit s .polygon .n ≤ limit
+  within-limit = subst (λ p. p .n ≤ limit) (sym complete-polygon) (few limit s (complete-read limit s complete))
 
   -- its vertices are those that the records of the chain give, in the chain's order (rule 1.8)
   pub read-vertices : (i : ℕ) → i < readingOf limit s .polygon .n → HasVertex s i (polygon.vertexAt (readingOf limit s .polygon .vertices) i)

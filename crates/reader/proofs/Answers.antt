@@ -23,10 +23,11 @@ use Rattle.reader.specs.declared.Reading.{Reading}
 use Rattle.reader.specs.declared.Status.the-variants.{Complete}
 
 -- ---- a chain in which no number is due has at most as many vertices as the limit
-pub over-positive : (limit : ℕ) → 0 < overLimit limit
-over-positive limit = by (eqb limit maxVertices)
+-- the number of a record that is one too many is 5 or more
+pub over-least : (limit : ℕ) → 5 ≤ overLimit limit
+over-least limit = by (eqb limit maxVertices)
   where
-    by : (b : Bool) → 0 < cond b 5 20
+    by : (b : Bool) → 5 ≤ cond b 5 20
     by true = omega arith
     by false = omega arith
 
@@ -46,9 +47,9 @@ module _ (limit : ℕ) (s : List ℕ) where
       many = le-leb limit i h
 
       by : (a b : Bool) → ltb (recordCount s) (chain.link s i) ≡ a → metBefore s i (chain.link s i) ≡ b → linkCode limit s i ≡ 0 → ⊥
-      by true b p q z = omega (arith, sym (yes 3 _ p) ∙ z)
-      by false true p q z = omega (arith, sym (no 3 _ p ∙ yes 4 _ q) ∙ z)
-      by false false p q z = omega (arith, over-positive limit, sym (no 3 _ p ∙ no 4 _ q ∙ yes (overLimit limit) _ many) ∙ z)
+      by true b p q z = omega (arith, over-least limit, simp (p, q, many) at z)
+      by false true p q z = omega (arith, over-least limit, simp (p, q, many) at z)
+      by false false p q z = omega (arith, over-least limit, simp (p, q, many) at z)
 
   -- what no number from position i on says of one position
   pub record Passed (i k : ℕ) : Type 0 where

@@ -61,7 +61,7 @@ module _ (limit : ℕ) (small : limit ≤ maxVertices) (s : List ℕ) (whole : W
       where
         by : (k : ℕ) → linkCode limit s i ≡ k → firstDue k (recordCode s i) ≡ suc c → Stops limit s (suc c)
         by zero l d = on-record i l d (given-record limit s whole i (reached z) c l d) (clear .quiet)
-        by (suc k) l d = on-link i (l ∙ d) (given-link limit s whole i (reached z) c within (l ∙ d)) (clear .quiet)
+        by (suc k) l d = on-link i (l ∙ d) (given-link limit s whole i (reached z) c small within (l ∙ d)) (clear .quiet)
 
   -- a number of the chain
   stops-from : (i k c : ℕ) → i + k ≡ suc maxVertices → Clear limit s i → codeFrom limit s i k ≡ suc c → Stops limit s (suc c)

@@ -14,7 +14,7 @@ use Rattle.polygon.specs.Polygon.{firstDue, repeatedVertex}
 use Rattle.reader.specs.File.{areaFactor, lengthWrong}
 use Rattle.reader.specs.Chain.{link, vertexAt, pointOf, linkCode, recordCode, positionCode, chainCode, vertexCount, verticesOf}
 use Rattle.reader.specs.Order.{Place, request, header, link-to, record-at, rim, request-header, request-link, request-record, request-rim, header-link, header-record, header-rim, link-link, link-record, record-link, record-record, link-rim, record-rim, Precedes, by-place, by-number, First, NoneDue}
-use Rattle.reader.specs.Due.{HasVertex, DueAt, no-limit, length-wrong, area-factor, too-few, vertex-repeated}
+use Rattle.reader.specs.Due.{HasVertex, DueAt, limit-wrong, length-wrong, area-factor, too-few, vertex-repeated}
 use Rattle.reader.specs.Reading.{fileCode, numberDue}
 use Rattle.reader.proofs.Lengths.{whole}
 use Rattle.reader.proofs.Positions.{shorter, link-given, link-quiet, record-given, record-quiet, record-reached}
@@ -25,17 +25,17 @@ use Rattle.reader.proofs.RimVertices.{vertex-is, has-vertex, repeated, 
 module _ (limit : ℕ) (s : List ℕ) where
   -- ---- 14, 1 and 2
   first-14 : countFits limit ≡ false → First (DueAt limit s) 14
-  first-14 wrong = record { place = request; is-due = no-limit wrong; none-before = before }
+  first-14 wrong = record { place = request; is-due = limit-wrong wrong; none-before = before }
     where
       number : (j : ℕ) → j < 14 → DueAt limit s request j → ⊥
-      number _ l (no-limit h) = omega arith
+      number _ l (limit-wrong h) = omega arith
 
       before : (p : Place) (j : ℕ) → Precedes p j request 14 → DueAt limit s p j → ⊥
       before _ j (by-number l) d = number j l d
 
   module _ (fits : countFits limit ≡ true) where
     no-request : (k : ℕ) → DueAt limit s request k → ⊥
-    no-request _ (no-limit h) = true-not-false fits h
+    no-request _ (limit-wrong h) = true-not-false fits h
 
     first-1 : lengthWrong s ≡ true → First (DueAt limit s) 1
     first-1 wrong = record { place = header; is-due = length-wrong wrong; none-before = before }

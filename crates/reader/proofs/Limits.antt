@@ -12,14 +12,14 @@ use Rattle.lists.proofs.Choice.{yes, no, true-not-false, both-true}
 use Rattle.terms.specs.Limits.{minVertices, maxVertices, countFits}
 use Rattle.reader.specs.Chain.{overLimit, vertexCount}
 use Rattle.reader.specs.Order.{Place, link-to, link-link, Precedes, by-place, by-number, First, NoneDue}
-use Rattle.reader.specs.Due.{HasRecords, AtMost, DueAt, no-limit, length-wrong, area-factor, link-over, met-again, too-many, over-limit, kind-unknown, no-height, not-finite, tail-not-zero, out-of-range, normal-out-of-range, too-few, vertex-repeated}
+use Rattle.reader.specs.Due.{HasRecords, AtMost, DueAt, limit-wrong, length-wrong, area-factor, link-over, met-again, too-many, over-limit, kind-unknown, no-height, not-finite, tail-not-zero, out-of-range, normal-out-of-range, too-few, vertex-repeated}
 use Rattle.reader.specs.Reading.{numberDue, polygonOf, answer, readingOf, statusNumber}
 use Rattle.reader.specs.declared.Status.the-variants.{Complete}
 use Rattle.reader.proofs.Order.{verdict-first, verdict-zero}
 use Rattle.reader.proofs.Positions.{shorter}
 use Rattle.reader.proofs.FirstNumber.{read-end}
 use Rattle.reader.proofs.Demand1.{complete-read, verdict, first-or-none, read-only-when, given-first}
-use Rattle.reader.proofs.Accepted.{complete-polygon, read-within}
+use Rattle.reader.proofs.Accepted.{complete-polygon, within-limit}
 
 -- ---- the numbers due with two limits
 -- the number of a record past the limit is due
@@ -30,13 +30,13 @@ record Over (limit : ℕ) (s : List ℕ) (p : Place) (k : ℕ) : Type 0 where
 
 -- any other number is due with whichever limit
 due-or-over : {a b : ℕ} {s : List ℕ} → countFits a ≡ true → {p : Place} {k : ℕ} → DueAt a s p k → DueAt b s p k ⊎ Over a s p k
-due-or-over f (no-limit h) = absurd (true-not-false f h)
+due-or-over f (limit-wrong h) = absurd (true-not-false f h)
 due-or-over f (length-wrong h) = inl (length-wrong h)
 due-or-over f (area-factor l h) = inl (area-factor l h)
 due-or-over f (link-over i has h) = inl (link-over i has h)
 due-or-over f (met-again i j h has e) = inl (met-again i j h has e)
 due-or-over {a} f (too-many has m) = inr (record { has = has; at = refl; number = sym (yes 5 20 (eq-eqb a maxVertices m)) })
-due-or-over {a} f (over-limit has m) = inr (record { has = has; at = refl; number = sym (no 5 20 (ne-eqb a maxVertices m)) })
+due-or-over {a} f (over-limit has m) = inr (record { has = has; at = refl; number = sym (no 5 20 (ne-eqb a maxVertices (λ e. omega arith))) })
 due-or-over f (kind-unknown i has x y) = inl (kind-unknown i has x y)
 due-or-over f (no-height i has k none) = inl (no-height i has k none)
 due-or-over f (not-finite i v has m h) = inl (not-finite i v has m h)
@@ -73,13 +73,13 @@ module _ {small large : ℕ} (least : minVertices ≤ small) (below : small ≤ 
   -- ---- 20 where a rim that the larger limit takes has more vertices
   module _ (complete : readingOf large s .status ≡ Complete) (more : small < readingOf large s .polygon .n) where
     smaller : small < maxVertices
-    smaller = omega (arith, read-within large s complete)
+    smaller = omega (arith, within-limit large s complete)
 
     many : HasRecords s (suc small)
     many = shorter (suc small) (subst (λ p. small < p .n) (complete-polygon large s complete) more) (read-end large s (complete-read large s complete) .has)
 
     first-20 : First (DueAt small s) 20
-    first-20 = record { place = link-to small; is-due = over-limit many (λ e. omega (arith, smaller)); none-before = before }
+    first-20 = record { place = link-to small; is-due = over-limit many smaller; none-before = before }
       where
         twenty : overLimit small ≡ 20
         twenty = no 5 20 (ne-eqb small maxVertices (λ e. omega (arith, smaller)))
@@ -109,13 +109,13 @@ module _ (limit : ℕ) (s : List ℕ) where
   pub due-5 : {p : Place} → DueAt limit s p 5 → HasRecords s (suc limit) × (limit ≡ maxVertices)
   due-5 (too-many has m) = (has, m)
 
-  pub due-20 : {p : Place} → DueAt limit s p 20 → HasRecords s (suc limit) × (limit ≡ maxVertices → ⊥)
+  pub due-20 : {p : Place} → DueAt limit s p 20 → HasRecords s (suc limit) × (limit < maxVertices)
   due-20 (over-limit has m) = (has, m)
 
   -- 5 is given with the largest limit alone, to a chain that has a record more
   pub gives-5 : statusNumber (readingOf limit s .status) ≡ 5 → HasRecords s (suc limit) × (limit ≡ maxVertices)
   gives-5 e = due-5 (given-first limit s 4 e .is-due)
 
-  -- 20 is given with every other limit, to a chain that has a record more
-  pub gives-20 : statusNumber (readingOf limit s .status) ≡ 20 → HasRecords s (suc limit) × (limit ≡ maxVertices → ⊥)
+  -- 20 is given with every smaller limit, to a chain that has a record more
+  pub gives-20 : statusNumber (readingOf limit s .status) ≡ 20 → HasRecords s (suc limit) × (limit < maxVertices)
   gives-20 e = due-20 (given-first limit s 19 e .is-due)

@@ -17,6 +17,8 @@ use Rattle.reader.specs.Chain.{metBefore, vertexAt, numberOf, normalAt, 
 use Rattle.reader.specs.Chain as chain
 use Rattle.reader.specs.Order.{link-to, record-at}
 use Rattle.reader.specs.Due.{InFile, HasRecords, DueAt, link-over, met-again, too-many, over-limit, kind-unknown, no-height, not-finite, tail-not-zero, out-of-range, normal-out-of-range}
+use Rattle.reader.proofs.Answers.{over-least}
+use Rattle.reader.proofs.Walking.{below-limit}
 use Rattle.reader.proofs.Layouts.{record-within}
 use Rattle.reader.proofs.Lengths.{Whole}
 use Rattle.reader.proofs.Floats.{UpTo}
@@ -53,13 +55,6 @@ quiet true e = refl
 quiet false e = absurd (omega (arith, e))
 
 -- ---- a number that is due at a position: the one that is given there is at most that
-over-least : (limit : ℕ) → 5 ≤ overLimit limit
-over-least limit = by (eqb limit maxVertices)
-  where
-    by : (b : Bool) → 5 ≤ cond b 5 20
-    by true = omega arith
-    by false = omega arith
-
 module _ (limit : ℕ) (s : List ℕ) (i : ℕ) where
   link-is : {k : ℕ} (c : ℕ) → linkCode limit s i ≡ c → 0 < c → c ≤ k → UpTo k (linkCode limit s i)
   link-is c e h l = record { some = omega arith; most = omega arith }
@@ -107,7 +102,7 @@ module _ (limit : ℕ) (s : List ℕ) where
   link-given _ _ (too-many has m) =
       subst (λ (k : ℕ). UpTo k (linkCode limit s limit)) (yes 5 20 (eq-eqb limit maxVertices m)) (many-given limit s limit (omega arith))
   link-given _ _ (over-limit has m) =
-      subst (λ (k : ℕ). UpTo k (linkCode limit s limit)) (no 5 20 (ne-eqb limit maxVertices m)) (many-given limit s limit (omega arith))
+      subst (λ (k : ℕ). UpTo k (linkCode limit s limit)) (no 5 20 (ne-eqb limit maxVertices (λ e. omega arith))) (many-given limit s limit (omega arith))
 
   pub record-given : (i k : ℕ) → DueAt limit s (record-at i) k → UpTo k (recordCode s i)
   record-given _ _ (kind-unknown i has a b) = record-first s i 6 (let e = kind-given s i a b in record { some = omega arith; most = omega arith })
@@ -170,20 +165,20 @@ module _ (limit : ℕ) (s : List ℕ) (whole : Whole s) (i : ℕ) (r : Reached s
       here = record { numbered = r .goes-on; counted = l; bytes = record-within s (chain.link s i) (r .goes-on) l (whole .records) }
 
   -- the record is one too many: 5 or 20
-  many-due : i ≡ limit → HasRecords s (suc i) → DueAt limit s (link-to i) (overLimit limit)
-  many-due e has = by (eqb limit maxVertices) refl
+  many-due : limit ≤ maxVertices → i ≡ limit → HasRecords s (suc i) → DueAt limit s (link-to i) (overLimit limit)
+  many-due small e has = by (eqb limit maxVertices) refl
     where
       all : HasRecords s (suc limit)
       all = subst (λ (m : ℕ). HasRecords s (suc m)) e has
 
       by : (b : Bool) → eqb limit maxVertices ≡ b → DueAt limit s (link-to i) (cond b 5 20)
       by true p = subst (λ (m : ℕ). DueAt limit s (link-to m) 5) (sym e) (too-many all (eqb-true limit maxVertices p))
-      by false p = subst (λ (m : ℕ). DueAt limit s (link-to m) 20) (sym e) (over-limit all (eqb-false limit maxVertices p))
+      by false p = subst (λ (m : ℕ). DueAt limit s (link-to m) 20) (sym e) (over-limit all (below-limit small (eqb-false limit maxVertices p)))
 
   -- position i is at most the last that may be
-  pub given-link : (c : ℕ) → i ≤ limit → linkCode limit s i ≡ suc c → DueAt limit s (link-to i) (suc c)
+  pub given-link : (c : ℕ) → limit ≤ maxVertices → i ≤ limit → linkCode limit s i ≡ suc c → DueAt limit s (link-to i) (suc c)
   unfolding linkCode
-  given-link c within e = by (ltb (recordCount s) (chain.link s i)) (metBefore s i (chain.link s i)) (leb limit i) refl refl refl
+  given-link c small within e = by (ltb (recordCount s) (chain.link s i)) (metBefore s i (chain.link s i)) (leb limit i) refl refl refl
     where
       given : {k : ℕ} → linkCode limit s i ≡ k → DueAt limit s (link-to i) k → DueAt limit s (link-to i) (suc c)
       given f d = subst (λ (k : ℕ). DueAt limit s (link-to i) k) (sym f ∙ e) d
@@ -193,7 +188,7 @@ module _ (limit : ℕ) (s : List ℕ) (whole : Whole s) (i : ℕ) (r : Reached s
       by false true z p q t = let m = met-found s i (chain.link s i) q in given (no 3 _ p ∙ yes 4 _ q) (met-again (m .at) i (m .before) (r .has) (m .same))
       by false false true p q t =
           let last : i ≡ limit = omega (arith, leb-true limit i t) in
-          given (no 3 _ p ∙ no 4 _ q ∙ yes (overLimit limit) _ t) (many-due last (next-has (ltb-false (recordCount s) (chain.link s i) p) q))
+          given (no 3 _ p ∙ no 4 _ q ∙ yes (overLimit limit) _ t) (many-due small last (next-has (ltb-false (recordCount s) (chain.link s i) p) q))
       by false false false p q t = absurd (omega (arith, sym (no 3 _ p ∙ no 4 _ q ∙ no (overLimit limit) _ t) ∙ e))
 
   -- where no number is given on the link, the chain has the record, within the limit

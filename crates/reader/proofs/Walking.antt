@@ -32,7 +32,7 @@ use Rattle.reader.specs.declared.Height.{Height}
 use Rattle.reader.specs.declared.Height.the-variants.{Unknown, Known}
 use Rattle.reader.specs.declared.Vertex.the-variants.{At, Refused}
 use Rattle.reader.proofs.Vertices.{Vertexed, vertexed, refused-positive}
-use Rattle.reader.proofs.Answers.{over-positive}
+use Rattle.reader.proofs.Answers.{over-least}
 
 pub positive : (k : ℕ) → (k ≡ 0 → ⊥) → 0 < k
 positive zero h = absurd (h refl)
@@ -104,7 +104,7 @@ module _ {limit : ℕ} {s : List ℕ} {w : Progress} (v : Walking limit s w) whe
       pub over-due : w .n ≡ limit → positionCode limit s (w .n) ≡ overLimit limit
       unfolding linkCode
       over-due h =
-          link-stops (overLimit limit) (over-positive limit)
+          link-stops (overLimit limit) (omega (arith, over-least limit))
           (no 3 _ link-fine ∙ no 4 _ (sym met-here ∙ new) ∙ yes (overLimit limit) _ (le-leb limit (w .n) (omega arith)))
 
       module _ (room : w .n < limit) (at : ℕ) (place : at ≡ offset s (w .link)) where

@@ -95,13 +95,13 @@ pub data HasNormal (s : List ℕ) : ℕ → Normal → Type 0 where
 -- ---- the numbers
 -- constructor by constructor, rules 4.14, 4.1 to 4.5, 4.20, 4.6 to 4.9, 4.18, 4.10 and 4.11; 4.8 has two
 pub data DueAt (limit : ℕ) (s : List ℕ) : Place → ℕ → Type 0 where
-  no-limit : countFits limit ≡ false → DueAt limit s request 14
+  limit-wrong : countFits limit ≡ false → DueAt limit s request 14
   length-wrong : lengthWrong s ≡ true → DueAt limit s header 1
   area-factor : headerStart s + headerSize ≤ length s → maxAreaFactor < areaFactor s → DueAt limit s header 2
   link-over : (i : ℕ) → HasRecords s i → recordCount s < link s i → DueAt limit s (link-to i) 3
   met-again : (i j : ℕ) → i < j → HasRecords s j → link s i ≡ link s j → DueAt limit s (link-to j) 4
   too-many : HasRecords s (suc limit) → limit ≡ maxVertices → DueAt limit s (link-to limit) 5
-  over-limit : HasRecords s (suc limit) → (limit ≡ maxVertices → ⊥) → DueAt limit s (link-to limit) 20
+  over-limit : HasRecords s (suc limit) → limit < maxVertices → DueAt limit s (link-to limit) 20
   kind-unknown : (i : ℕ) → HasRecords s (suc i) → (kindAt s i ≡ 1 → ⊥) → (kindAt s i ≡ 2 → ⊥) → DueAt limit s (record-at i) 6
   no-height : (i : ℕ) → HasRecords s (suc i) → kindAt s i ≡ 2 → ((j : ℕ) → j < i → kindAt s j ≡ 1 → ⊥) → DueAt limit s (record-at i) 7
   not-finite : (i : ℕ) (v : Float) → HasRecords s (suc i) → List·Memᴰ v (floatsAt s i) → finite v ≡ false → DueAt limit s (record-at i) 8

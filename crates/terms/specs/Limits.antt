@@ -8,7 +8,7 @@ use Rattle.lists.specs.Lists.{both}
 abbrev pub minVertices : ℕ
 minVertices = 3
 
--- the most vertices of a rim (rule 4.5) and of a direct job (rule 4.14), and the largest limit that a caller can ask for (rule 4.20)
+-- the most vertices of a rim (rule 4.5) and of a direct job (rule 4.14), and the largest limit that a caller can ask for (rule 4.14)
 abbrev pub maxVertices : ℕ
 maxVertices = 64
 

@@ -1,4 +1,4 @@
-// The trim program (rule 5.9): closes small cut edges, and has a screen for 24 points.
+// The trim program (rule 5.9): the bench program for rims of at most 24 points.
 ghost use mathlib.Core.Path.{_≡_};
 ghost use Rattle.terms.specs.Limits.{trimVertices};
 

@@ -10,14 +10,14 @@ use Rattle.reader.proofs.read_polygon.Tie as tie
 count-fits-requires : tie.Need-count-fits-requires
 count-fits-requires c κs = search needs
 
+read-within-requires : tie.Need-read-within-requires
+read-within-requires c κs = holds-via (c .before .count-fits .ensures) (c .if1 .left)
+
 refused-requires : tie.Need-refused-requires
 refused-requires c κs = search needs
 
 returns : tie.Need-returns
 returns c = promised _ _ (c .refused .ensures ∙ answer-refused _ _ 14 (omega arith) (limit-due _ _ (fails-via (c .before .before .count-fits .ensures) (c .before .if1 .taken))))
-
-read-within-requires : tie.Need-read-within-requires
-read-within-requires c κs = holds-via (c .before .count-fits .ensures) (c .if1 .left)
 
 returns-2 : tie.Need-returns-2
 returns-2 c = promised _ _ (c .read-within .ensures)

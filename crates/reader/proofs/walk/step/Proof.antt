@@ -5,7 +5,7 @@ use mathlib.Core.Path.{sym, _∙_}
 use denote.Ref.{now}
 use Rattle.lists.proofs.Choice.{fails-via, holds-via}
 use Rattle.reader.specs.Chain.{overLimit}
-use Rattle.reader.proofs.Answers.{over-positive}
+use Rattle.reader.proofs.Answers.{over-least}
 use Rattle.reader.proofs.Layouts.{bounds, header-as, size-as, start-as}
 use Rattle.reader.proofs.Lengths.{whole, record-held}
 use Rattle.reader.proofs.Walking.{positive, below-limit, stopped-by, link-due, repeated-due, over-due, record-stops, normal-stops, record-passes}
@@ -50,7 +50,7 @@ returns-3 : tie.Need-returns-3
 returns-3 c =
     let past = c .before .before .before .before in
     let s = past .before .before .before .before in
-    stopped-by (s .pre .2) (overLimit (s .args .limit)) (over-positive (s .args .limit))
+    stopped-by (s .pre .2) (overLimit (s .args .limit)) (omega (arith, over-least (s .args .limit)))
     (over-due (s .pre .2) (omega (arith, past .before .record-count .ensures .0, past .if1 .left)) (whole _ (s .pre .1) .few) (c .before .before .before .if2 .left) (c .before .before .if3 .taken))
     (c .stop3 .ensures ∙ c .before .over-limit .ensures)
 
