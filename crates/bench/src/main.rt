@@ -1,13 +1,14 @@
 // The bench program (rule 5.3), which has the largest limit.
-ghost use mathlib.Core.Path.{_≡_};
+use triangulator::Outcome;
 ghost use Rattle.terms.specs.Limits.{maxVertices};
+ghost use Rattle.patch_program.specs.Run.{Closes};
 
-fn limit() -> usize
-    ensures { λ r. ⌜ r ≡ maxVertices ⌝ }
+fn close() -> Outcome
+    ensures { λ r. ⌜ Closes maxVertices r ⌝ }
 {
-    terms::MAX_VERTICES
+    patch_program::run(terms::MAX_VERTICES)
 }
 
 fn main() {
-    patch_program::run(limit());
+    close();
 }

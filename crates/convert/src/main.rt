@@ -1,7 +1,12 @@
 // The program convert (rule 5.8): the rim file on standard input goes to standard output in the other edition.
 use converter::Conversion;
 use programs::input;
-use programs::output;
+
+fn print_refusal(number: u32) {
+    io::write_all(1, b"refused ");
+    io::print_decimal(1, number as u64);
+    io::write_all(1, b"\n");
+}
 
 fn main() {
     let mut file = [0u8; input::BUFFER];
@@ -15,6 +20,6 @@ fn main() {
         } => {
             io::write_all(1, converter::part(&out, conversion));
         }
-        Conversion::Refused(number) => output::print_refusal(number),
+        Conversion::Refused(number) => print_refusal(number),
     }
 }

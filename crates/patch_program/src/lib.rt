@@ -4,6 +4,8 @@ mod hanging;
 mod output;
 
 use programs::input;
+use triangulator::Outcome;
+ghost use Rattle.patch_program.specs.Run.{Closes};
 
 // Places of the tables. A rim of 64 points has at most 62 triangles; a few rims need more of the others than there is (rule 5.3).
 const TRIANGLES: usize = 62;
@@ -12,7 +14,10 @@ const CANDIDATES: usize = 1024;
 
 const ROWS: usize = 4096;
 
-pub fn run(limit: usize) {
+// Closes the rim on standard input and prints its patch; answers what came of it.
+pub fn run(limit: usize) -> Outcome
+    ensures { λ r. ⌜ Closes limit r ⌝ }
+{
     let mut file = [0u8; input::BUFFER];
     let length = input::read(&mut file);
     let mut triangles = [0u16; TRIANGLES];
@@ -30,4 +35,5 @@ pub fn run(limit: usize) {
         &mut work,
     );
     output::print_outcome(outcome, &triangles, &candidates, &weights, &rows);
+    outcome
 }

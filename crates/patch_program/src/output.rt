@@ -64,6 +64,12 @@ fn print_patch(
     print_triangles(part, candidates, weights, rows);
 }
 
+fn print_refusal(number: u32) {
+    io::write_all(1, b"refused ");
+    print_number(number);
+    end_line();
+}
+
 pub(crate) fn print_outcome(
     outcome: Outcome,
     triangles: &[u16],
@@ -82,6 +88,6 @@ pub(crate) fn print_outcome(
         Outcome::None => {
             io::write_all(1, b"none\n");
         }
-        Outcome::Refused(number) => programs::output::print_refusal(number),
+        Outcome::Refused(number) => print_refusal(number),
     }
 }

@@ -1,3 +1,2 @@
-// What the programs share: the rim file on standard input, and the line of a refusal.
+// What the programs share: the rim file on standard input.
 pub mod input;
-pub mod output;

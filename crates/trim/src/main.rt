@@ -1,13 +1,14 @@
 // The trim program (rule 5.9): the bench program for rims of at most 24 points.
-ghost use mathlib.Core.Path.{_≡_};
+use triangulator::Outcome;
 ghost use Rattle.terms.specs.Limits.{trimVertices};
+ghost use Rattle.patch_program.specs.Run.{Closes};
 
-fn limit() -> usize
-    ensures { λ r. ⌜ r ≡ trimVertices ⌝ }
+fn close() -> Outcome
+    ensures { λ r. ⌜ Closes trimVertices r ⌝ }
 {
-    terms::TRIM_VERTICES
+    patch_program::run(terms::TRIM_VERTICES)
 }
 
 fn main() {
-    patch_program::run(limit());
+    close();
 }
