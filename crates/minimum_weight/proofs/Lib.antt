@@ -4,5 +4,8 @@ pub mod Picks
 pub mod Edges
 pub mod Runs
 pub mod Filling
-pub mod Emission
+pub mod Turns
+pub mod Waiting
+pub mod Listing
 pub mod Answer
+pub mod TurnByTurn

@@ -8,6 +8,7 @@ ghost use Rattle.triangulation.specs.Jobs.{jobOf};
 ghost use Rattle.triangulation.specs.Recursion.{costOf, restOf, bestUnder, noTotal};
 ghost use Rattle.blocks.specs.Blocks.{Starts};
 ghost use Rattle.minimum_weight.specs.Tables.{WellFormed, AllReady};
+ghost use Rattle.minimum_weight.specs.Preorder.{partOf};
 
 // The part of the polygon from vertex `first` to vertex `last`, under the triangle `outer`.
 pub struct Part {
@@ -15,6 +16,17 @@ pub struct Part {
     pub first: u8,
     pub last: u8,
 }
+
+impl Part {
+    fn new(outer: usize, first: u8, last: u8) -> Part
+        ensures { λ r. ⌜ r ≡ partOf outer first last ⌝ }
+    {
+        Part { outer, first, last }
+    }
+}
+
+// The parts that wait at once, at most.
+const MOST_PARTS: usize = (terms::MAX_VERTICES - 1) / 2;
 
 // Writes the triangles of the whole polygon's best triangulation, where there is one. (weights is for the contract alone.)
 pub fn write_preorder(
@@ -31,12 +43,8 @@ pub fn write_preorder(
     ensures { λ _. ⌜ now (triangles .exit) ≡ filled (restOf (bestUnder (jobOf n (now (candidates .entry)) (now (weights .entry)) (now (rows .entry))) n (length (now (candidates .entry))) 0 (n - 1))) (now (triangles .entry)) ⌝ }
 {
     let last = (n - 1) as u8;
-    let whole = Part {
-        outer: candidates.len(),
-        first: 0,
-        last,
-    };
-    let mut stack = [whole; terms::MAX_VERTICES];
+    let whole = Part::new(candidates.len(), 0, last);
+    let mut stack = [whole; MOST_PARTS];
     let mut height: usize = 1;
     let mut count: usize = 0;
     while 0 < height {
@@ -45,24 +53,19 @@ pub fn write_preorder(
         let t = part.outer;
         let i = part.first;
         let j = part.last;
-        if 1 < j - i {
-            let pick = best_under(starts, candidates, work, rows, t, i, j);
-            let u = pick.at;
-            let triangle = candidates[u];
-            let b = triangle[1];
-            triangles[count] = u as u16;
-            count += 1;
-            stack[height] = Part {
-                outer: u,
-                first: b,
-                last: j,
-            };
-            stack[height + 1] = Part {
-                outer: u,
-                first: i,
-                last: b,
-            };
-            height += 2;
+        let pick = best_under(starts, candidates, work, rows, t, i, j);
+        let u = pick.at;
+        let triangle = candidates[u];
+        let b = triangle[1];
+        triangles[count] = u as u16;
+        count += 1;
+        if 1 < j - b {
+            stack[height] = Part::new(u, b, j);
+            height += 1;
+        }
+        if 1 < b - i {
+            stack[height] = Part::new(u, i, b);
+            height += 1;
         }
     }
 }

@@ -1,0 +1,45 @@
+-- How many parts wait after each turn of the loop that lists a patch (rule 3.12).
+use Prim.Native.Nat.{ℕ, zero, suc, _+_, _-_, _≤_, _<_}
+use mathlib.Core.Path.{_≡_, refl, sym, ap, _∙_}
+use mathlib.Core.List.{List, [], _∷_}
+use native.Mathlib.Omega.{arith}
+use lib.ListN.{length, getD, length-append, length-drop}
+use lib.Dec.{ltb}
+use Rattle.lists.proofs.Choice.{Truth, holds, fails, truth, yes, no}
+use Rattle.triangulation.specs.Triangulations.{Job}
+use Rattle.minimum_weight.specs.declared.preorder.Part.{Part}
+use Rattle.minimum_weight.specs.Preorder.{partOf, beneath, halves, turn, partsAfter, mostParts}
+use Rattle.minimum_weight.proofs.Turns.{Tiled, patchOf, patch-length, going, parts-few}
+
+-- a turn puts two parts at most for the one that it takes
+beneath-length : (u i j : ℕ) → length (beneath u i j) ≤ 1
+beneath-length u i j = go (truth (ltb (i + 1) j))
+  where
+    go : Truth (ltb (i + 1) j) → length (beneath u i j) ≤ 1
+    go (holds e) = omega (arith, ap (length {A = Part}) (yes (partOf u i j ∷ []) [] e))
+    go (fails e) = omega (arith, ap (length {A = Part}) (no (partOf u i j ∷ []) [] e))
+
+turn-length : (job : Job) (l : List Part) (u : ℕ) → length (turn job l u) ≤ length l + 1
+turn-length job [] u = omega arith
+turn-length job (p ∷ l) u = omega (
+  arith,
+  length-append (halves job p u) l,
+  length-append (beneath u (p .first) (job .b u)) (beneath u (job .b u) (p .last)),
+  beneath-length u (p .first) (job .b u),
+  beneath-length u (job .b u) (p .last),
+)
+
+-- all parts but one came with a triangle that is listed
+one-more : (job : Job) (l : List ℕ) (k : ℕ) → length (partsAfter job l k) ≤ k + 1
+unfolding partsAfter
+one-more job l zero = omega arith
+one-more job l (suc k) = omega (arith, one-more job l k, turn-length job (partsAfter job l k) (getD l k 0))
+
+module _ {job : Job} (t : Tiled job) where
+  -- no more parts wait than triangles are still to be listed: each part that waits has a triangle
+  pub no-more-wait : (k : ℕ) → length (partsAfter job (patchOf t) k) ≤ length (patchOf t) - k
+  no-more-wait k = omega (arith, parts-few job (t .valid) (t .bounded) (partsAfter job (patchOf t) k) (going t k .whole), ap length (going t k .left), length-drop k (patchOf t))
+
+  -- so all of them have a place
+  pub few-wait : (k : ℕ) → length (partsAfter job (patchOf t) k) ≤ mostParts
+  few-wait k = omega (arith, no-more-wait k, one-more job (patchOf t) k, patch-length t, t .bounded .few)

@@ -1,0 +1,67 @@
+-- The loop that lists a patch, turn by turn (rule 3.12). Definitions only.
+use Prim.Native.Nat.{ℕ, zero, suc, _+_, _-_, _/_, _≤_, _<_}
+use mathlib.Core.Path.{_≡_}
+use mathlib.Core.List.{List, [], _∷_, _++_, List·Memᴰ}
+use lib.ListN.{getD, length, take}
+use lib.Dec.{ltb}
+use Rattle.terms.specs.Limits.{maxVertices}
+use Rattle.lists.specs.Lists.{filled, when}
+use Rattle.triangulation.specs.Triangulations.{Job}
+use Rattle.minimum_weight.specs.declared.preorder.Part.{Part}
+
+-- the part of the polygon from vertex i to vertex j, under triangle t
+abbrev pub partOf : ℕ → ℕ → ℕ → Part
+partOf t i j = record { outer = t; first = i; last = j }
+
+-- the part beneath the edge (i, j) of triangle u; beneath a rim edge there is none
+abbrev pub beneath : ℕ → ℕ → ℕ → List Part
+beneath u i j = when (ltb (i + 1) j) (partOf u i j)
+
+module _ (job : Job) where
+  -- the parts beneath a part's triangle u: left before right
+  abbrev pub halves : Part → ℕ → List Part
+  halves p u = beneath u (p .first) (job .b u) ++ beneath u (job .b u) (p .last)
+
+  -- a turn that lists triangle u: the parts beneath it take the place of the next part
+  abbrev pub turn : List Part → ℕ → List Part
+  turn [] u = []
+  turn (p ∷ rest) u = halves p u ++ rest
+
+  -- the parts that wait after k turns, the next one first, where the patch has the triangles l: before the first turn the whole polygon, under a number
+  -- that no row names
+  unfoldable pub partsAfter : List ℕ → ℕ → List Part
+  partsAfter l zero = partOf (job .size) 0 (job .n - 1) ∷ []
+  partsAfter l (suc k) = turn (partsAfter l k) (getD l k 0)
+
+-- turn k + 1 takes the part that comes next, and lists the triangle on the edge of this part: number k of the patch
+pub record NextListed (job : Job) (l : List ℕ) (k : ℕ) : Type 0 where
+  pub next : Part
+  pub rest : List Part
+  pub comes-next : partsAfter job l k ≡ next ∷ rest
+  pub on-first : job .a (getD l k 0) ≡ next .first
+  pub on-last : job .c (getD l k 0) ≡ next .last
+
+-- what is promised of the loop that lists the triangles l: each turn lists one, no rim edge is a part, and after each turn no more parts wait than
+-- triangles are still to be listed
+pub record TurnByTurn (job : Job) (l : List ℕ) : Type 0 where
+  pub one-each : (k : ℕ) → k < length l → NextListed job l k
+  pub no-rim-edge : (k : ℕ) (p : Part) → List·Memᴰ p (partsAfter job l k) → p .first + 1 < p .last
+  pub no-more-wait : (k : ℕ) → length (partsAfter job l k) ≤ length l - k
+
+-- the parts that wait at once, at most: no more than triangles are still to be listed, and all but one of them came with a triangle that is listed
+abbrev pub mostParts : ℕ
+mostParts = (maxVertices - 1) / 2
+
+-- the parts in the first places of a stack, the highest first: it is the next one
+abbrev pub waiting : List Part → ℕ → List Part
+waiting stack zero = []
+waiting stack (suc k) = getD stack k (partOf 0 0 0) ∷ waiting stack k
+
+-- what holds of the loop before its first turn and after each, when `count` triangles of l are listed in the table, which held `before`, and `height`
+-- parts of the stack wait
+pub record Listing (job : Job) (l before : List ℕ) (stack : List Part) (height count : ℕ) (table : List ℕ) : Type 0 where
+  pub listed : table ≡ filled (take count l) before
+  pub parts : waiting stack height ≡ partsAfter job l count
+  pub places : length stack ≡ mostParts
+  -- no more parts wait than triangles are still to be listed
+  pub no-more-wait : height ≤ length l - count
