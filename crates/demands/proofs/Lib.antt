@@ -7,5 +7,7 @@ pub mod Conversion
 pub mod Base
 pub mod OnePatch
 pub mod Limits
+pub mod Turns
+pub mod Comb
 pub mod Worked
 pub mod Cases

@@ -4,4 +4,5 @@ pub mod Base
 pub mod Conversion
 pub mod OnePatch
 pub mod Limits
+pub mod Comb
 pub mod Worked

@@ -13,13 +13,13 @@ use Rattle.lists.proofs.Choice.{yes, no}
 use Rattle.lists.proofs.Writing.{filled-length, filled-next}
 use Rattle.triangulation.specs.Triangulations.{Job}
 use Rattle.minimum_weight.specs.declared.preorder.Part.{Part}
-use Rattle.minimum_weight.specs.Preorder.{partOf, waiting, beneath, mostParts, halves, turn, partsAfter, Listing}
+use Rattle.minimum_weight.specs.Preorder.{partUnder, waiting, beneath, mostParts, halves, turn, partsAfter, Listing}
 use Rattle.minimum_weight.proofs.Turns.{Tiled, Whole, AllWhole, part-and, pending, firstTriangle, patchOf, patch-length, next-part, going}
 use Rattle.minimum_weight.proofs.Waiting.{no-more-wait, few-wait}
 
 -- the part that is taken from a stack
 abbrev pub top : List Part → ℕ → Part
-top stack height = getD stack (height - 1) (partOf 0 0 0)
+top stack height = getD stack (height - 1) (partUnder 0 0 0)
 
 -- a stack as a list of parts
 waiting-length : (stack : List Part) (k : ℕ) → length (waiting stack k) ≡ k
@@ -28,7 +28,7 @@ waiting-length stack (suc k) = ap suc (waiting-length stack k)
 
 waiting-set : (stack : List Part) (i k : ℕ) (x : Part) → k ≤ i → waiting (set stack i x) k ≡ waiting stack k
 waiting-set stack i zero x h = refl
-waiting-set stack i (suc k) x h = ap₂ (λ (p : Part) (l : List Part). p ∷ l) (getD-set-other stack i k x (partOf 0 0 0) (λ (e : k ≡ i). omega arith)) (waiting-set stack i k x (omega arith))
+waiting-set stack i (suc k) x h = ap₂ (λ (p : Part) (l : List Part). p ∷ l) (getD-set-other stack i k x (partUnder 0 0 0) (λ (e : k ≡ i). omega arith)) (waiting-set stack i k x (omega arith))
 
 waiting-top : (stack : List Part) (height : ℕ) → 0 < height → waiting stack height ≡ top stack height ∷ waiting stack (height - 1)
 waiting-top stack height h = ap (waiting stack) (let e : height ≡ suc (height - 1) = omega arith in e)
@@ -40,22 +40,22 @@ pub record Waits (stack : List Part) (height : ℕ) (l : List Part) : Type 0 whe
 
 -- the part beneath an edge is put on it, or there is none
 module _ {stack new : List Part} {k m : ℕ} (u i j : ℕ) {l : List Part} (w : Waits stack k l) where
-  pub put : {x : Part} → k < mostParts → 1 < j - i → x ≡ partOf u i j → new ≡ set stack k x → m ≡ k + 1 → Waits new m (beneath u i j ++ l)
+  pub put : {x : Part} → k < mostParts → 1 < j - i → x ≡ partUnder u i j → new ≡ set stack k x → m ≡ k + 1 → Waits new m (beneath u i j ++ l)
   put {x} h far q s t = record {
     parts-are = ap₂ waiting s (t ∙ add-one k)
-        ∙ ap₂ (λ (p : Part) (r : List Part). p ∷ r) (getD-set-same stack k x (partOf 0 0 0) (omega (arith, w .places)) ∙ q) (waiting-set stack k k x (le-refl k) ∙ w .parts-are)
-        ∙ ap (λ r. r ++ l) (sym (yes (partOf u i j ∷ []) [] (lt-ltb (i + 1) j (omega arith))));
+        ∙ ap₂ (λ (p : Part) (r : List Part). p ∷ r) (getD-set-same stack k x (partUnder 0 0 0) (omega (arith, w .places)) ∙ q) (waiting-set stack k k x (le-refl k) ∙ w .parts-are)
+        ∙ ap (λ r. r ++ l) (sym (yes (partUnder u i j ∷ []) [] (lt-ltb (i + 1) j (omega arith))));
     places = ap length s ∙ length-set stack k x ∙ w .places;
   }
 
   pub skip : j - i ≤ 1 → new ≡ stack → m ≡ k → Waits new m (beneath u i j ++ l)
   skip near s t = record {
-    parts-are = ap₂ waiting s t ∙ w .parts-are ∙ ap (λ r. r ++ l) (sym (no (partOf u i j ∷ []) [] (le-ltb (i + 1) j (omega arith))));
+    parts-are = ap₂ waiting s t ∙ w .parts-are ∙ ap (λ r. r ++ l) (sym (no (partUnder u i j ∷ []) [] (le-ltb (i + 1) j (omega arith))));
     places = ap length s ∙ w .places;
   }
 
 module _ {job : Job} (t : Tiled job) where
-  pub start : (p : Part) (before : List ℕ) → p ≡ partOf (job .size) 0 (job .n - 1) → Listing job (patchOf t) before (replicate mostParts p) 1 0 before
+  pub start : (p : Part) (before : List ℕ) → p ≡ partUnder (job .size) 0 (job .n - 1) → Listing job (patchOf t) before (replicate mostParts p) 1 0 before
   unfolding partsAfter
   start p before e = record { listed = refl; parts = ap (λ q. q ∷ []) e; places = length-replicate mostParts p; no-more-wait = omega (arith, t .valid .n3, patch-length t) }
 
@@ -105,7 +105,7 @@ module _ {job : Job} (t : Tiled job) where
             arith,
             few-wait t (count + 1),
             ap length next-parts,
-            ap (λ r. length (r ++ l)) (yes (partOf u (top stack height .first) (job .b u) ∷ []) [] (lt-ltb (top stack height .first + 1) (job .b u) (omega arith))),
+            ap (λ r. length (r ++ l)) (yes (partUnder u (top stack height .first) (job .b u) ∷ []) [] (lt-ltb (top stack height .first + 1) (job .b u) (omega arith))),
             ap length (w .parts-are),
             waiting-length new m,
           )

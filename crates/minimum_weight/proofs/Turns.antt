@@ -18,7 +18,7 @@ use Rattle.triangulation.proofs.Bounds.{edge-light}
 use Rattle.minimum_weight.specs.declared.choice.Pick.{Pick}
 use Rattle.minimum_weight.specs.declared.preorder.Part.{Part}
 use Rattle.minimum_weight.specs.Tables.{Found}
-use Rattle.minimum_weight.specs.Preorder.{partOf, beneath, halves, turn, partsAfter}
+use Rattle.minimum_weight.specs.Preorder.{partUnder, beneath, halves, turn, partsAfter}
 use Rattle.minimum_weight.proofs.Edges.{found-below}
 
 -- the parts of a joined key that is no 'none'
@@ -65,7 +65,7 @@ module _ (job : Job) where
     pub right : job .b u < p .last
     pub left-some : costOf (bestUnder job (job .n) u (p .first) (job .b u)) < noTotal
     pub right-some : costOf (bestUnder job (job .n) u (job .b u) (p .last)) < noTotal
-    pub list : trianglesOf p ≡ u ∷ (trianglesOf (partOf u (p .first) (job .b u)) ++ trianglesOf (partOf u (job .b u) (p .last)))
+    pub list : trianglesOf p ≡ u ∷ (trianglesOf (partUnder u (p .first) (job .b u)) ++ trianglesOf (partUnder u (job .b u) (p .last)))
 
   pending-append : (k l : List Part) → pending (k ++ l) ≡ pending k ++ pending l
   pending-append [] l = refl
@@ -121,15 +121,15 @@ module _ (job : Job) (good : Valid job) (bound : Bounded job) where
     beneath-whole k s = go (truth (ltb (i + 1) j))
       where
         go : Truth (ltb (i + 1) j) → AllWhole job (beneath u i j)
-        go (holds e) = subst (AllWhole job) (sym (yes (partOf u i j ∷ []) [] e)) (part-and (record { order = ltb-true (i + 1) j e; within = k; some = s }) no-part)
-        go (fails e) = subst (AllWhole job) (sym (no (partOf u i j ∷ []) [] e)) no-part
+        go (holds e) = subst (AllWhole job) (sym (yes (partUnder u i j ∷ []) [] e)) (part-and (record { order = ltb-true (i + 1) j e; within = k; some = s }) no-part)
+        go (fails e) = subst (AllWhole job) (sym (no (partUnder u i j ∷ []) [] e)) no-part
 
-    beneath-list : pending job (beneath u i j) ≡ trianglesOf job (partOf u i j)
+    beneath-list : pending job (beneath u i j) ≡ trianglesOf job (partUnder u i j)
     beneath-list = go (truth (ltb (i + 1) j))
       where
-        go : Truth (ltb (i + 1) j) → pending job (beneath u i j) ≡ trianglesOf job (partOf u i j)
-        go (holds e) = ap (pending job) (yes (partOf u i j ∷ []) [] e) ∙ append-nil (trianglesOf job (partOf u i j))
-        go (fails e) = ap (pending job) (no (partOf u i j ∷ []) [] e) ∙ sym (ap restOf (edge-step job good u i j (omega (arith, ltb-false (i + 1) j e))))
+        go : Truth (ltb (i + 1) j) → pending job (beneath u i j) ≡ trianglesOf job (partUnder u i j)
+        go (holds e) = ap (pending job) (yes (partUnder u i j ∷ []) [] e) ∙ append-nil (trianglesOf job (partUnder u i j))
+        go (fails e) = ap (pending job) (no (partUnder u i j ∷ []) [] e) ∙ sym (ap restOf (edge-step job good u i j (omega (arith, ltb-false (i + 1) j e))))
 
   module _ (p : Part) (u : ℕ) (w : Whole job p) (d : Down job p u) where
     halves-whole : AllWhole job (halves job p u)
@@ -147,7 +147,7 @@ module _ (job : Job) (good : Valid job) (bound : Bounded job) where
 
 module _ {job : Job} (t : Tiled job) where
   abbrev polygon : Part
-  polygon = partOf (job .size) 0 (job .n - 1)
+  polygon = partUnder (job .size) 0 (job .n - 1)
 
   -- the triangles of the patch
   abbrev pub patchOf : List ℕ

@@ -8,7 +8,7 @@ use lib.Dec.{ltb}
 use Rattle.lists.proofs.Choice.{Truth, holds, fails, truth, yes, no}
 use Rattle.triangulation.specs.Triangulations.{Job}
 use Rattle.minimum_weight.specs.declared.preorder.Part.{Part}
-use Rattle.minimum_weight.specs.Preorder.{partOf, beneath, halves, turn, partsAfter, mostParts}
+use Rattle.minimum_weight.specs.Preorder.{partUnder, beneath, halves, turn, partsAfter, mostParts}
 use Rattle.minimum_weight.proofs.Turns.{Tiled, patchOf, patch-length, going, parts-few}
 
 -- a turn puts two parts at most for the one that it takes
@@ -16,8 +16,8 @@ beneath-length : (u i j : ℕ) → length (beneath u i j) ≤ 1
 beneath-length u i j = go (truth (ltb (i + 1) j))
   where
     go : Truth (ltb (i + 1) j) → length (beneath u i j) ≤ 1
-    go (holds e) = omega (arith, ap (length {A = Part}) (yes (partOf u i j ∷ []) [] e))
-    go (fails e) = omega (arith, ap (length {A = Part}) (no (partOf u i j ∷ []) [] e))
+    go (holds e) = omega (arith, ap (length {A = Part}) (yes (partUnder u i j ∷ []) [] e))
+    go (fails e) = omega (arith, ap (length {A = Part}) (no (partUnder u i j ∷ []) [] e))
 
 turn-length : (job : Job) (l : List Part) (u : ℕ) → length (turn job l u) ≤ length l + 1
 turn-length job [] u = omega arith

@@ -10,12 +10,12 @@ use Rattle.triangulation.specs.Triangulations.{Job}
 use Rattle.minimum_weight.specs.declared.preorder.Part.{Part}
 
 -- the part of the polygon from vertex i to vertex j, under triangle t
-abbrev pub partOf : ℕ → ℕ → ℕ → Part
-partOf t i j = record { outer = t; first = i; last = j }
+abbrev pub partUnder : ℕ → ℕ → ℕ → Part
+partUnder t i j = record { outer = t; first = i; last = j }
 
 -- the part beneath the edge (i, j) of triangle u; beneath a rim edge there is none
 abbrev pub beneath : ℕ → ℕ → ℕ → List Part
-beneath u i j = when (ltb (i + 1) j) (partOf u i j)
+beneath u i j = when (ltb (i + 1) j) (partUnder u i j)
 
 module _ (job : Job) where
   -- the parts beneath a part's triangle u: left before right
@@ -30,7 +30,7 @@ module _ (job : Job) where
   -- the parts that wait after k turns, the next one first, where the patch has the triangles l: before the first turn the whole polygon, under a number
   -- that no row names
   unfoldable pub partsAfter : List ℕ → ℕ → List Part
-  partsAfter l zero = partOf (job .size) 0 (job .n - 1) ∷ []
+  partsAfter l zero = partUnder (job .size) 0 (job .n - 1) ∷ []
   partsAfter l (suc k) = turn (partsAfter l k) (getD l k 0)
 
 -- turn k + 1 takes the part that comes next, and lists the triangle on the edge of this part: number k of the patch
@@ -55,7 +55,7 @@ mostParts = (maxVertices - 1) / 2
 -- the parts in the first places of a stack, the highest first: it is the next one
 abbrev pub waiting : List Part → ℕ → List Part
 waiting stack zero = []
-waiting stack (suc k) = getD stack k (partOf 0 0 0) ∷ waiting stack k
+waiting stack (suc k) = getD stack k (partUnder 0 0 0) ∷ waiting stack k
 
 -- what holds of the loop before its first turn and after each, when `count` triangles of l are listed in the table, which held `before`, and `height`
 -- parts of the stack wait

@@ -1,4 +1,4 @@
-// Writing the triangles of the best triangulation in preorder, with a stack of parts still to write.
+// Writing the triangles of the best triangulation in preorder: a loop over the parts still to be listed.
 use crate::choice::best_under;
 ghost use mathlib.Core.Path.{_≡_};
 ghost use Prim.Native.Nat.{_+_, _-_, _<_, _≤_};
@@ -8,9 +8,9 @@ ghost use Rattle.triangulation.specs.Jobs.{jobOf};
 ghost use Rattle.triangulation.specs.Recursion.{costOf, restOf, bestUnder, noTotal};
 ghost use Rattle.blocks.specs.Blocks.{Starts};
 ghost use Rattle.minimum_weight.specs.Tables.{WellFormed, AllReady};
-ghost use Rattle.minimum_weight.specs.Preorder.{partOf};
+ghost use Rattle.minimum_weight.specs.Preorder.{partUnder};
 
-// The part of the polygon from vertex `first` to vertex `last`, under the triangle `outer`.
+// The part of the polygon from vertex `first` to vertex `last`, under the triangle `outer`. It has a triangle: a rim edge is no part.
 pub struct Part {
     pub outer: usize,
     pub first: u8,
@@ -19,13 +19,13 @@ pub struct Part {
 
 impl Part {
     fn new(outer: usize, first: u8, last: u8) -> Part
-        ensures { λ r. ⌜ r ≡ partOf outer first last ⌝ }
+        ensures { λ r. ⌜ r ≡ partUnder outer first last ⌝ }
     {
         Part { outer, first, last }
     }
 }
 
-// The parts that wait at once, at most.
+// The parts that wait at once, at most: `mostParts` of the contracts.
 const MOST_PARTS: usize = (terms::MAX_VERTICES - 1) / 2;
 
 // Writes the triangles of the whole polygon's best triangulation, where there is one. (weights is for the contract alone.)
@@ -47,6 +47,7 @@ pub fn write_preorder(
     let mut stack = [whole; MOST_PARTS];
     let mut height: usize = 1;
     let mut count: usize = 0;
+    // Each turn lists one triangle, and after it no more parts wait than triangles are still to be listed: `no-more-wait` in specs/Preorder.
     while 0 < height {
         height -= 1;
         let part = stack[height];
@@ -59,6 +60,7 @@ pub fn write_preorder(
         let b = triangle[1];
         triangles[count] = u as u16;
         count += 1;
+        // The right part first, so that the left one is the next to be taken.
         if 1 < j - b {
             stack[height] = Part::new(u, b, j);
             height += 1;

@@ -1,0 +1,30 @@
+-- A direct job on whose patch as many parts wait at once as on any (rule 3.12). Definitions only.
+use Prim.Native.Nat.{ℕ, zero, suc, _+_, _*_}
+use mathlib.Core.List.{List, [], _∷_, _++_, map}
+use lib.ListN.{replicate}
+use Rattle.terms.specs.Limits.{maxVertices}
+use Rattle.terms.specs.Entries.{triple}
+use Rattle.triangulation.specs.Triangulations.{Job, upFrom}
+use Rattle.triangulation.specs.Jobs.{jobOf}
+
+-- (0, 1, 3); then (0, 3, 5), .. , (0, 61, 63); and on the right of each (1, 2, 3), .. , (61, 62, 63)
+unfoldable pub comb : List (List ℕ)
+comb = triple 0 1 3 ∷ (map (λ k. triple 0 (2 * k + 1) (2 * k + 3)) (upFrom 1 30) ++ map (λ k. triple (2 * k + 1) (2 * k + 2) (2 * k + 3)) (upFrom 0 31))
+
+-- each weighs 1
+unfoldable pub ones : List ℕ
+ones = replicate 62 1
+
+-- there are no rows
+abbrev pub combJob : Job
+combJob = jobOf maxVertices comb ones []
+
+-- k, .. , 1, 0
+unfoldable pub down : ℕ → List ℕ
+down zero = 0 ∷ []
+down (suc k) = suc k ∷ down k
+
+-- walk order: down the long ones, then up on their right
+unfoldable pub combWalk : List ℕ
+unfolding down
+combWalk = down 30 ++ upFrom 31 31
