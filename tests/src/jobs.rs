@@ -41,6 +41,22 @@ pub fn hanging_pairs(candidates: &[Triangle]) -> Vec<Row> {
     rows
 }
 
+/// The triangles of a tiling of n vertices, in the order of a job: `middle` picks the third vertex
+/// of the triangle on an edge.
+pub fn tiling(n: usize, mut middle: impl FnMut(u8, u8) -> u8) -> Vec<Triangle> {
+    let mut triangles = Vec::new();
+    let mut edges = vec![(0, (n - 1) as u8)];
+    while let Some((first, last)) = edges.pop() {
+        if last - first > 1 {
+            let b = middle(first, last);
+            triangles.push([first, b, last]);
+            edges.extend([(first, b), (b, last)]);
+        }
+    }
+    triangles.sort_unstable();
+    triangles
+}
+
 /// A job over a random part of the triples: of `keep` in 100 candidates and `rows` in 100 rows,
 /// with weights up to `highest`.
 pub fn random_job(n: usize, keep: usize, rows: usize, highest: u32, random: &mut Random) -> Job {

@@ -1,18 +1,18 @@
 -- What is promised of the loop that lists a patch holds of every job that has one (rule 3.12).
-use Prim.Native.Nat.{ℕ, _+_, _-_, _<_}
+use Prim.Native.Nat.{ℕ, _-_, _<_}
 use mathlib.Core.Path.{_≡_, refl, sym, ap, _∙_, subst}
-use mathlib.Core.Bool.{Bool, true, false, false≢true}
+use mathlib.Core.Bool.{false≢true}
 use mathlib.Core.Logic.{⊎-elim}
 use mathlib.Core.List.{List, [], _∷_, List·Memᴰ, List·Memᴰ·not-nil, List·Memᴰ·cases-cons}
 use native.Mathlib.Omega.{arith}
-use lib.ListN.{length, getD, drop, length-drop}
-use Rattle.triangulation.specs.Triangulations.{Job, Answer, none, patch, answerOf, bestKey, best}
+use lib.ListN.{length, drop, length-drop}
+use Rattle.triangulation.specs.Triangulations.{Job, patch, answerOf, bestKey, best}
 use Rattle.triangulation.specs.Jobs.{jobOf}
 use Rattle.triangulation.specs.Recursion.{restOf, costOf, noTotal}
 use Rattle.minimum_weight.specs.declared.preorder.Part.{Part}
 use Rattle.minimum_weight.specs.Tables.{WellFormed}
 use Rattle.minimum_weight.specs.Preorder.{partsAfter, NextListed, TurnByTurn}
-use Rattle.minimum_weight.proofs.Turns.{Tiled, AllWhole, no-part, part-and, Whole, pending, patchOf, down-first, next-part, going}
+use Rattle.minimum_weight.proofs.Turns.{Tiled, AllWhole, part-and, Whole, pending, patchOf, down-first, next-part, going}
 use Rattle.minimum_weight.proofs.Waiting.{no-more-wait}
 use Rattle.minimum_weight.proofs.Answer.{answer-whole, answer-light}
 

@@ -1,4 +1,4 @@
--- The turns of the loop that lists a patch (rule 3.12): what is listed and the triangles of the parts that wait make up the answer.
+-- The turns of the loop that lists a patch (rule 3.12): the triangles that are not listed yet are those of the parts that wait.
 use Prim.Native.Nat.{ℕ, zero, suc, _+_, _-_, _≤_, _<_}
 use mathlib.Core.Path.{_≡_, refl, sym, ap, ap₂, _∙_, subst}
 use mathlib.Core.Logic.{⊎-elim, _≢_}
@@ -47,6 +47,7 @@ module _ (job : Job) where
     pub within : p .last < job .n
     pub some : costOf (bestUnder job (job .n) (p .outer) (p .first) (p .last)) < noTotal
 
+  -- each of a list is one
   pub data AllWhole : List Part → Type 0 where
     no-part : AllWhole []
     part-and : {p : Part} {l : List Part} → Whole p → AllWhole l → AllWhole (p ∷ l)

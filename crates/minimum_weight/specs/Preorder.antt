@@ -33,7 +33,7 @@ module _ (job : Job) where
   partsAfter l zero = partUnder (job .size) 0 (job .n - 1) ∷ []
   partsAfter l (suc k) = turn (partsAfter l k) (getD l k 0)
 
--- turn k + 1 takes the part that comes next, and lists the triangle on the edge of this part: number k of the patch
+-- the turn after k turns takes the part that comes next, and lists the triangle on its edge: the patch's triangle at place k (rule 3.12)
 pub record NextListed (job : Job) (l : List ℕ) (k : ℕ) : Type 0 where
   pub next : Part
   pub rest : List Part
@@ -41,14 +41,14 @@ pub record NextListed (job : Job) (l : List ℕ) (k : ℕ) : Type 0 where
   pub on-first : job .a (getD l k 0) ≡ next .first
   pub on-last : job .c (getD l k 0) ≡ next .last
 
--- what is promised of the loop that lists the triangles l: each turn lists one, no rim edge is a part, and after each turn no more parts wait than
--- triangles are still to be listed
+-- what is promised of the loop that lists the triangles l (rule 3.12): each turn lists one, no rim edge is a part, and after each turn no more parts
+-- wait than triangles are still to be listed
 pub record TurnByTurn (job : Job) (l : List ℕ) : Type 0 where
   pub one-each : (k : ℕ) → k < length l → NextListed job l k
   pub no-rim-edge : (k : ℕ) (p : Part) → List·Memᴰ p (partsAfter job l k) → p .first + 1 < p .last
   pub no-more-wait : (k : ℕ) → length (partsAfter job l k) ≤ length l - k
 
--- the parts that wait at once, at most: no more than triangles are still to be listed, and all but one of them came with a triangle that is listed
+-- the parts that wait at once, at most (rule 3.12): no more than triangles are still to be listed, and no more than are listed and one
 abbrev pub mostParts : ℕ
 mostParts = (maxVertices - 1) / 2
 
@@ -57,8 +57,8 @@ abbrev pub waiting : List Part → ℕ → List Part
 waiting stack zero = []
 waiting stack (suc k) = getD stack k (partUnder 0 0 0) ∷ waiting stack k
 
--- what holds of the loop before its first turn and after each, when `count` triangles of l are listed in the table, which held `before`, and `height`
--- parts of the stack wait
+-- the loop before its first turn and after each (rule 3.12): `count` triangles of l are listed in the table, which held `before`, and `height` parts
+-- of the stack wait
 pub record Listing (job : Job) (l before : List ℕ) (stack : List Part) (height count : ℕ) (table : List ℕ) : Type 0 where
   pub listed : table ≡ filled (take count l) before
   pub parts : waiting stack height ≡ partsAfter job l count

@@ -25,7 +25,7 @@ impl Part {
     }
 }
 
-// The parts that wait at once, at most: `mostParts` of the contracts.
+// The parts that wait at once, at most: `mostParts` of specs/Preorder.
 const MOST_PARTS: usize = (terms::MAX_VERTICES - 1) / 2;
 
 // Writes the triangles of the whole polygon's best triangulation, where there is one. (weights is for the contract alone.)

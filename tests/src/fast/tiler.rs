@@ -139,19 +139,18 @@ impl Job<'_> {
     }
 
     fn write(&self, n: usize, work: &[u64], triangles: &mut [u16]) {
-        let mut stack = Vec::with_capacity(64);
+        let mut stack = Vec::with_capacity(31);
         stack.push(Part { outer: u32::MAX, first: 0, last: (n - 1) as u8 });
         let mut places = triangles.iter_mut();
         while let Some(part) = stack.pop() {
-            if part.last - part.first == 1 {
-                continue;
-            }
             let (_, u) = self.best_under(part, self.rows_of(part.outer), work);
             let middle = self.candidates[u][1];
             *places.next().expect("n - 2 places") = u as u16;
-            let outer = u as u32;
-            stack.push(Part { outer, first: middle, last: part.last });
-            stack.push(Part { outer, first: part.first, last: middle });
+            for (first, last) in [(middle, part.last), (part.first, middle)] {
+                if last - first > 1 {
+                    stack.push(Part { outer: u as u32, first, last });
+                }
+            }
         }
     }
 }
