@@ -140,15 +140,18 @@ module _ (n : ℕ) (candidates : List (List ℕ)) (weights : List ℕ) (rows : L
   jobHere = jobOf n candidates weights rows
 
   -- the pick at an edge is what the recursion has beneath it
-  pub found-edge : (work : List ℕ) (t i j : ℕ) → ReadyAt jobHere work i j → (p : Pick) → p ≡ pickAtEdge candidates work rows t i j → Found jobHere t i j p
+  pub found-far : (work : List ℕ) (t i j : ℕ) → ReadyAt jobHere work i j → j ≢ i + 1 → (p : Pick) → p ≡ pickUnder candidates work rows t i j → Found jobHere t i j p
   unfolding pickUnder
+  found-far work t i j h far p e = rw e (found-below jobHere (ok .valid) (ok .bounded) t i j far (λ k. getD work k 0)
+      (λ u l o. let d = both-eq (jobHere .a u) i (jobHere .c u) j o in h u l (d .0) (d .1)))
+
+  pub found-edge : (work : List ℕ) (t i j : ℕ) → ReadyAt jobHere work i j → (p : Pick) → p ≡ pickAtEdge candidates work rows t i j → Found jobHere t i j p
   found-edge work t i j h p e = go (eqb j (i + 1)) refl
     where
       go : (b : Bool) → eqb j (i + 1) ≡ b → Found jobHere t i j p
       go true q = let d : j ≡ i + 1 = eqb-true j (i + 1) q in
           rw (e ∙ yes _ _ q) (record { cost = sym (ap costOf (edge-step jobHere (ok .valid) t i j d)); at = λ f. absurd (f d) })
-      go false q = rw (e ∙ no _ _ q) (found-below jobHere (ok .valid) (ok .bounded) t i j (eqb-false j (i + 1) q) (λ k. getD work k 0)
-          (λ u l o. let d = both-eq (jobHere .a u) i (jobHere .c u) j o in h u l (d .0) (d .1)))
+      go false q = found-far work t i j h (eqb-false j (i + 1) q) p (e ∙ no _ _ q)
 
 -- the total of a triangle over its parts
 Light : List ℕ → Type 0

@@ -49,7 +49,7 @@ fn better(
 }
 
 // The best candidate (i, x, j) under t, the first of equal ones: all of them stand in the block of i.
-fn best_in_block(
+pub fn best_in_block(
     starts: &[usize; blocks::STARTS],
     candidates: &[[u8; 3]],
     work: &[u64],

@@ -1,5 +1,5 @@
 // Writing the triangles of the best triangulation in preorder: a loop over the parts still to be listed.
-use crate::choice::best_under;
+use crate::choice::best_in_block;
 ghost use mathlib.Core.Path.{_≡_};
 ghost use Prim.Native.Nat.{_+_, _-_, _<_, _≤_};
 ghost use lib.ListN.{length};
@@ -54,7 +54,7 @@ pub fn write_preorder(
         let t = part.outer;
         let i = part.first;
         let j = part.last;
-        let pick = best_under(starts, candidates, work, rows, t, i, j);
+        let pick = best_in_block(starts, candidates, work, rows, t, i, j);
         let u = pick.at;
         let triangle = candidates[u];
         let b = triangle[1];

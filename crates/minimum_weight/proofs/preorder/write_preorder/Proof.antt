@@ -1,5 +1,5 @@
 -- The triangles are written in preorder: the loop is at the turn of the definition that its count names (`Listing`), and each turn leaves one triangle fewer to be listed.
-use Prim.Native.Nat.{_-_, _≤_, _<_}
+use Prim.Native.Nat.{_+_, _-_, _≤_, _<_}
 use mathlib.Core.Path.{_≡_, refl, sym, ap, _∙_, subst}
 use mathlib.Core.Logic.{⊎-elim}
 use mathlib.Core.List.{_++_}
@@ -11,7 +11,7 @@ use Rattle.triangulation.specs.Triangulations.{Job}
 use Rattle.triangulation.specs.Jobs.{jobOf}
 use Rattle.triangulation.specs.Recursion.{bestUnder, restOf}
 use Rattle.minimum_weight.specs.Preorder.{waiting, beneath, mostParts, Listing}
-use Rattle.minimum_weight.proofs.Edges.{found-edge}
+use Rattle.minimum_weight.proofs.Edges.{found-far}
 use Rattle.minimum_weight.proofs.Turns.{Tiled, Whole, Down, firstTriangle, patchOf, patch-length, down-first, found-first}
 use Rattle.minimum_weight.proofs.Listing.{top, Waits, put, skip, start, turn-due, top-whole, turn-place, top-place, rest-waits, left-place, one-turn, end}
 use Rattle.minimum_weight.proofs.preorder.write_preorder.Statement.{statement}
@@ -38,33 +38,33 @@ whole : (c : tie.After-part Inv-loop μ-loop) → Whole (job (c .before .before 
 whole c = top-whole (tiled (c .before .before .before .before .before .before .before)) (c .before .before .loop .inv) (c .before .loop-test .taken)
 
 -- the triangle that it lists
-first : (c : tie.After-best-under Inv-loop μ-loop) → c .best-under .result .at ≡ firstTriangle (job (c .before .before .before .before .before .before .before .before)) (top (c .before .before .before .loop .stack) (c .before .before .before .loop .height))
+first : (c : tie.After-best-in-block Inv-loop μ-loop) → c .best-in-block .result .at ≡ firstTriangle (job (c .before .before .before .before .before .before .before .before)) (top (c .before .before .before .loop .stack) (c .before .before .before .loop .height))
 first c =
     let s = c .before .before .before .before .before .before .before .before in
     let ok = s .pre .0 .0 in
     let p = top (c .before .before .before .loop .stack) (c .before .before .before .loop .height) in
-    found-first (job s) (ok .valid) (ok .bounded) p (c .best-under .result) (whole (c .before))
-    (found-edge (s .args .n) _ _ _ ok (s .args .work .now) (p .outer) (p .first) (p .last) (λ u m _ _. s .pre .1 .0 u m) (c .best-under .result) (c .best-under .ensures))
+    found-first (job s) (ok .valid) (ok .bounded) p (c .best-in-block .result) (whole (c .before))
+    (found-far (s .args .n) _ _ _ ok (s .args .work .now) (p .outer) (p .first) (p .last) (λ u m _ _. s .pre .1 .0 u m) (λ (e : p .last ≡ p .first + 1). omega (arith, whole (c .before) .order)) (c .best-in-block .result) (c .best-in-block .ensures))
 
 -- and what is beneath it
-down : (c : tie.After-best-under Inv-loop μ-loop) → Down (job (c .before .before .before .before .before .before .before .before)) (top (c .before .before .before .loop .stack) (c .before .before .before .loop .height)) (c .best-under .result .at)
+down : (c : tie.After-best-in-block Inv-loop μ-loop) → Down (job (c .before .before .before .before .before .before .before .before)) (top (c .before .before .before .loop .stack) (c .before .before .before .loop .height)) (c .best-in-block .result .at)
 down c =
     let s = c .before .before .before .before .before .before .before .before in
     let ok = s .pre .0 .0 in
     subst (Down (job s) _) (sym (first c)) (down-first (job s) (ok .valid) (ok .bounded) _ (whole (c .before)))
 
 -- the right part has been put on the stack, or is a rim edge
-right : (c : tie.Joined1 Inv-loop μ-loop) → Waits (c .if1 .stack) (c .if1 .height) (beneath (c .before .before .best-under .result .at) (job (c .before .before .before .before .before .before .before .before .before .before) .b (c .before .before .best-under .result .at)) (top (c .before .before .before .before .before .loop .stack) (c .before .before .before .before .before .loop .height) .last) ++ waiting (c .before .before .before .before .before .loop .stack) (c .before .before .before .before .before .loop .height - 1))
+right : (c : tie.Joined1 Inv-loop μ-loop) → Waits (c .if1 .stack) (c .if1 .height) (beneath (c .before .before .best-in-block .result .at) (job (c .before .before .before .before .before .before .before .before .before .before) .b (c .before .before .best-in-block .result .at)) (top (c .before .before .before .before .before .loop .stack) (c .before .before .before .before .before .loop .height) .last) ++ waiting (c .before .before .before .before .before .loop .stack) (c .before .before .before .before .before .loop .height - 1))
 right c =
     let s = c .before .before .before .before .before .before .before .before .before .before in
     let l = c .before .before .before .before .before .loop in
     let m = c .before .before .before .before .loop-test .taken in
     let p = top (l .stack) (l .height) in
-    let u = c .before .before .best-under .result .at in
+    let u = c .before .before .best-in-block .result .at in
     let w = rest-waits (tiled s) (l .inv) m in
     ⊎-elim
-    (λ z. put u (job s .b u) (p .last) w (top-place (tiled s) (l .inv) m) (z .0 .taken) (z .1 .ensures) (z .2) (z .3))
-    (λ z. skip u (job s .b u) (p .last) w (z .0 .left) (z .1) (z .2))
+    (λ z. put u (job s .b u) (p .last) w (top-place (tiled s) (l .inv) m) (omega (arith, z .0 .taken)) (z .1 .ensures) (z .2) (z .3))
+    (λ z. skip u (job s .b u) (p .last) w (omega (arith, z .0 .left)) (z .1) (z .2))
     (c .if1 .came)
 
 sub-last : tie.Need-sub-last Inv-loop μ-loop
@@ -88,8 +88,8 @@ mul-part c = let h = top-place (tiled (c .before .before .before .before .before
 array-copy-out-part : tie.Need-array-copy-out-part Inv-loop μ-loop
 array-copy-out-part c = top-place (tiled (c .before .before .before .before .before .before)) (c .before .loop .inv) (c .loop-test .taken)
 
-best-under-requires : tie.Need-best-under-requires Inv-loop μ-loop
-best-under-requires c κs = let s = c .before .before .before .before .before .before .before in let w = whole c in (s .pre .0 .1, s .pre .0 .0 .rows-ascend, s .pre .0 .2, omega (arith, w .order), omega (arith, w .within, s .pre .0 .0 .bounded .few))
+best-in-block-requires : tie.Need-best-in-block-requires Inv-loop μ-loop
+best-in-block-requires c κs = let s = c .before .before .before .before .before .before .before in let w = whole c in (s .pre .0 .1, s .pre .0 .0 .rows-ascend, s .pre .0 .2, omega (arith, w .order, w .within, s .pre .0 .0 .bounded .few))
 
 mul-triangle : tie.Need-mul-triangle Inv-loop μ-loop
 mul-triangle c = let s = c .before .before .before .before .before .before .before .before in omega (arith, s .pre .0 .0 .few, down c .valid)
@@ -138,7 +138,7 @@ left : (c : tie.After-row-known Inv-loop μ-loop) → c .before .before .before 
 left c =
     let s = c .before .before .before .before .before .before .before .before .before .before .before .before .before in
     let l = c .before .before .before .before .before .before .before .before .loop in
-    left-place (tiled s) (l .inv) (c .before .before .before .before .before .before .before .loop-test .taken) (c .before .before .before .before .before .best-under .result .at) (first (c .before .before .before .before .before)) (c .before .before .if2 .taken) (right (c .before .before .before))
+    left-place (tiled s) (l .inv) (c .before .before .before .before .before .before .before .loop-test .taken) (c .before .before .before .before .before .best-in-block .result .at) (first (c .before .before .before .before .before)) (omega (arith, c .before .before .if2 .taken)) (right (c .before .before .before))
 
 mul-stack-2 : tie.Need-mul-stack-2 Inv-loop μ-loop
 mul-stack-2 c = let h = left c in omega arith
@@ -153,13 +153,13 @@ loop-less : tie.Need-loop-less Inv-loop μ-loop
 loop-less c = let s = c .before .before .before .before .before .before .before .before .before .before .before .before .before in let h = turn-due (tiled s) (c .before .before .before .before .before .before .before .before .loop .inv) (c .before .before .before .before .before .before .before .loop-test .taken) in omega (arith, patch-length (tiled s))
 
 loop-again : tie.Need-loop-again Inv-loop μ-loop
-loop-again c = let s = c .before .before .before .before .before .before .before .before .before .before .before .before .before in let l = c .before .before .before .before .before .before .before .before .loop in let u = c .before .before .before .before .before .best-under .result .at in let p = top (l .stack) (l .height) in one-turn (tiled s) (l .inv) (c .before .before .before .before .before .before .before .loop-test .taken) u (first (c .before .before .before .before .before)) (room s) (put u (p .first) (job s .b u) (right (c .before .before .before)) (left c) (c .before .before .if2 .taken) (c .before .new3 .ensures) refl refl)
+loop-again c = let s = c .before .before .before .before .before .before .before .before .before .before .before .before .before in let l = c .before .before .before .before .before .before .before .before .loop in let u = c .before .before .before .before .before .best-in-block .result .at in let p = top (l .stack) (l .height) in one-turn (tiled s) (l .inv) (c .before .before .before .before .before .before .before .loop-test .taken) u (first (c .before .before .before .before .before)) (room s) (put u (p .first) (job s .b u) (right (c .before .before .before)) (left c) (omega (arith, c .before .before .if2 .taken)) (c .before .new3 .ensures) refl refl)
 
 loop-less-2 : tie.Need-loop-less-2 Inv-loop μ-loop
 loop-less-2 c = let s = c .before .before .before .before .before .before .before .before .before .before .before in let h = turn-due (tiled s) (c .before .before .before .before .before .before .loop .inv) (c .before .before .before .before .before .loop-test .taken) in omega (arith, patch-length (tiled s))
 
 loop-again-2 : tie.Need-loop-again-2 Inv-loop μ-loop
-loop-again-2 c = let s = c .before .before .before .before .before .before .before .before .before .before .before in let l = c .before .before .before .before .before .before .loop in let u = c .before .before .before .best-under .result .at in let p = top (l .stack) (l .height) in one-turn (tiled s) (l .inv) (c .before .before .before .before .before .loop-test .taken) u (first (c .before .before .before)) (room s) (skip u (p .first) (job s .b u) (right (c .before)) (c .if2 .left) refl refl)
+loop-again-2 c = let s = c .before .before .before .before .before .before .before .before .before .before .before in let l = c .before .before .before .before .before .before .loop in let u = c .before .before .before .best-in-block .result .at in let p = top (l .stack) (l .height) in one-turn (tiled s) (l .inv) (c .before .before .before .before .before .loop-test .taken) u (first (c .before .before .before)) (room s) (skip u (p .first) (job s .b u) (right (c .before)) (omega (arith, c .if2 .left)) refl refl)
 
 same-length : tie.Need-same-length Inv-loop μ-loop
 same-length c = let s = c .before .before .before .before .before .before in ap length (end (tiled s) (c .before .loop .inv) (c .loop-test .left)) ∙ filled-length (patchOf (tiled s)) (s .args .triangles .now) (room s)
@@ -180,7 +180,7 @@ write-preorder-spec =
     sub-height
     mul-part
     array-copy-out-part
-    best-under-requires
+    best-in-block-requires
     mul-triangle
     shared-slice-copy-out-triangle
     array-read-b
