@@ -139,12 +139,13 @@ module _ (n : ℕ) (candidates : List (List ℕ)) (weights : List ℕ) (rows : L
   abbrev jobHere : Job
   jobHere = jobOf n candidates weights rows
 
-  -- the pick at an edge is what the recursion has beneath it
+  -- the best candidate on an edge that is no rim edge (i, i + 1) starts what the recursion has beneath it
   pub found-far : (work : List ℕ) (t i j : ℕ) → ReadyAt jobHere work i j → j ≢ i + 1 → (p : Pick) → p ≡ pickUnder candidates work rows t i j → Found jobHere t i j p
   unfolding pickUnder
   found-far work t i j h far p e = rw e (found-below jobHere (ok .valid) (ok .bounded) t i j far (λ k. getD work k 0)
       (λ u l o. let d = both-eq (jobHere .a u) i (jobHere .c u) j o in h u l (d .0) (d .1)))
 
+  -- the pick at any edge is what the recursion has beneath it
   pub found-edge : (work : List ℕ) (t i j : ℕ) → ReadyAt jobHere work i j → (p : Pick) → p ≡ pickAtEdge candidates work rows t i j → Found jobHere t i j p
   found-edge work t i j h p e = go (eqb j (i + 1)) refl
     where

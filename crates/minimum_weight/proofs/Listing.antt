@@ -13,8 +13,8 @@ use Rattle.lists.proofs.Choice.{yes, no}
 use Rattle.lists.proofs.Writing.{filled-length, filled-next}
 use Rattle.triangulation.specs.Triangulations.{Job}
 use Rattle.minimum_weight.specs.declared.preorder.Part.{Part}
-use Rattle.minimum_weight.specs.Preorder.{partUnder, waiting, beneath, mostParts, halves, turn, partsAfter, Listing}
-use Rattle.minimum_weight.proofs.Turns.{Tiled, Whole, AllWhole, part-and, pending, firstTriangle, patchOf, patch-length, next-part, going}
+use Rattle.minimum_weight.specs.Preorder.{partUnder, waiting, beneath, mostParts, halves, turn, partsAfter, Waits, Listing}
+use Rattle.minimum_weight.proofs.Turns.{HasTriangulation, Whole, AllWhole, part-and, pending, firstTriangle, patchOf, patch-length, next-part, going}
 use Rattle.minimum_weight.proofs.Waiting.{no-more-wait, few-wait}
 
 -- the part that is taken from a stack
@@ -33,31 +33,26 @@ waiting-set stack i (suc k) x h = ap₂ (λ (p : Part) (l : List Part). p ∷ l)
 waiting-top : (stack : List Part) (height : ℕ) → 0 < height → waiting stack height ≡ top stack height ∷ waiting stack (height - 1)
 waiting-top stack height h = ap (waiting stack) (let e : height ≡ suc (height - 1) = omega arith in e)
 
--- the list l is on the stack
-pub record Waits (stack : List Part) (height : ℕ) (l : List Part) : Type 0 where
-  pub parts-are : waiting stack height ≡ l
-  pub places : length stack ≡ mostParts
-
 -- the part beneath an edge is put on it, or there is none
 module _ {stack new : List Part} {k m : ℕ} (u i j : ℕ) {l : List Part} (w : Waits stack k l) where
   pub put : {x : Part} → k < mostParts → 1 < j - i → x ≡ partUnder u i j → new ≡ set stack k x → m ≡ k + 1 → Waits new m (beneath u i j ++ l)
   put {x} h far q s t = record {
-    parts-are = ap₂ waiting s (t ∙ add-one k)
-        ∙ ap₂ (λ (p : Part) (r : List Part). p ∷ r) (getD-set-same stack k x (partUnder 0 0 0) (omega (arith, w .places)) ∙ q) (waiting-set stack k k x (le-refl k) ∙ w .parts-are)
+    parts = ap₂ waiting s (t ∙ add-one k)
+        ∙ ap₂ (λ (p : Part) (r : List Part). p ∷ r) (getD-set-same stack k x (partUnder 0 0 0) (omega (arith, w .places)) ∙ q) (waiting-set stack k k x (le-refl k) ∙ w .parts)
         ∙ ap (λ r. r ++ l) (sym (yes (partUnder u i j ∷ []) [] (lt-ltb (i + 1) j (omega arith))));
     places = ap length s ∙ length-set stack k x ∙ w .places;
   }
 
   pub skip : j - i ≤ 1 → new ≡ stack → m ≡ k → Waits new m (beneath u i j ++ l)
   skip near s t = record {
-    parts-are = ap₂ waiting s t ∙ w .parts-are ∙ ap (λ r. r ++ l) (sym (no (partUnder u i j ∷ []) [] (le-ltb (i + 1) j (omega arith))));
+    parts = ap₂ waiting s t ∙ w .parts ∙ ap (λ r. r ++ l) (sym (no (partUnder u i j ∷ []) [] (le-ltb (i + 1) j (omega arith))));
     places = ap length s ∙ w .places;
   }
 
-module _ {job : Job} (t : Tiled job) where
+module _ {job : Job} (t : HasTriangulation job) where
   pub start : (p : Part) (before : List ℕ) → p ≡ partUnder (job .size) 0 (job .n - 1) → Listing job (patchOf t) before (replicate mostParts p) 1 0 before
   unfolding partsAfter
-  start p before e = record { listed = refl; parts = ap (λ q. q ∷ []) e; places = length-replicate mostParts p; no-more-wait = omega (arith, t .valid .n3, patch-length t) }
+  start p before e = record { listed = refl; waits = record { parts = ap (λ q. q ∷ []) e; places = length-replicate mostParts p }; no-more-wait = omega (arith, t .valid .n3, patch-length t) }
 
   module _ {before : List ℕ} {stack : List Part} {height count : ℕ} {table : List ℕ} (e : Listing job (patchOf t) before stack height count table) (z : 0 < height) where
     -- a triangle is still to be listed
@@ -65,7 +60,7 @@ module _ {job : Job} (t : Tiled job) where
     turn-due = omega (arith, e .no-more-wait)
 
     due-parts : partsAfter job (patchOf t) count ≡ top stack height ∷ waiting stack (height - 1)
-    due-parts = sym (e .parts) ∙ waiting-top stack height z
+    due-parts = sym (e .waits .parts) ∙ waiting-top stack height z
 
     pub top-whole : Whole job (top stack height)
     top-whole = go (subst (AllWhole job) due-parts (going t count .whole))
@@ -74,19 +69,19 @@ module _ {job : Job} (t : Tiled job) where
         go (part-and w v) = w
 
     -- the next triangle is the first of the part that comes next
-    pub next-triangle : getD (patchOf t) count 0 ≡ firstTriangle job (top stack height)
-    next-triangle = next-part t count (top stack height) (waiting stack (height - 1)) top-whole (going t count .left ∙ ap (pending job) due-parts) .1
+    next-triangle : getD (patchOf t) count 0 ≡ firstTriangle job (top stack height)
+    next-triangle = next-part t count (top stack height) (waiting stack (height - 1)) top-whole (going t count .left ∙ ap (pending job) due-parts) .0
 
     -- the triangle has its place, and so has the part that it comes from
     pub turn-place : length (patchOf t) ≤ length before → count < length table
     turn-place r = omega (arith, turn-due, ap length (e .listed), filled-length (take count (patchOf t)) before (omega (arith, turn-due, length-take-le count (patchOf t) (omega (arith, turn-due)))))
 
     pub top-place : height - 1 < mostParts
-    top-place = omega (arith, few-wait t count, ap length (e .parts), waiting-length stack height)
+    top-place = omega (arith, few-wait t count, ap length (e .waits .parts), waiting-length stack height)
 
     -- the stack without that part
     pub rest-waits : Waits stack (height - 1) (waiting stack (height - 1))
-    rest-waits = record { parts-are = refl; places = e .places }
+    rest-waits = record { parts = refl; places = e .waits .places }
 
     module _ (u : ℕ) (first : u ≡ firstTriangle job (top stack height)) where
       -- what waits after the turn
@@ -106,7 +101,7 @@ module _ {job : Job} (t : Tiled job) where
             few-wait t (count + 1),
             ap length next-parts,
             ap (λ r. length (r ++ l)) (yes (partUnder u (top stack height .first) (job .b u) ∷ []) [] (lt-ltb (top stack height .first + 1) (job .b u) (omega arith))),
-            ap length (w .parts-are),
+            ap length (w .parts),
             waiting-length new m,
           )
 
@@ -117,14 +112,13 @@ module _ {job : Job} (t : Tiled job) where
         listed = ap₂ (λ x v. set x count v) (e .listed) (first ∙ sym next-triangle)
             ∙ filled-next (take count (patchOf t)) before (getD (patchOf t) count 0) count (sym (length-take-le count (patchOf t) (omega (arith, turn-due)))) (omega (arith, turn-due))
             ∙ ap (λ l. filled l before) (sym (ap (λ k. take k (patchOf t)) (add-one count) ∙ take-suc (patchOf t) count 0 turn-due));
-        parts = w .parts-are ∙ next-parts;
-        places = w .places;
-        no-more-wait = omega (arith, no-more-wait t (count + 1), ap length (w .parts-are ∙ next-parts), waiting-length new m);
+        waits = record { parts = w .parts ∙ next-parts; places = w .places };
+        no-more-wait = omega (arith, no-more-wait t (count + 1), ap length (w .parts ∙ next-parts), waiting-length new m);
       }
 
   -- no part waits: all is listed
   pub end : {before : List ℕ} {stack : List Part} {height count : ℕ} {table : List ℕ} → Listing job (patchOf t) before stack height count table → height ≤ 0 → table ≡ filled (patchOf t) before
   end {before} {stack} {height} {count} e z =
-      let l : partsAfter job (patchOf t) count ≡ [] = sym (e .parts) ∙ ap (waiting stack) (let o : height ≡ 0 = omega arith in o) in
+      let l : partsAfter job (patchOf t) count ≡ [] = sym (e .waits .parts) ∙ ap (waiting stack) (let o : height ≡ 0 = omega arith in o) in
       let d : drop count (patchOf t) ≡ [] = going t count .left ∙ ap (pending job) l in
       e .listed ∙ ap (λ x. filled x before) (take-all count (patchOf t) (omega (arith, length-drop count (patchOf t), ap length d)))

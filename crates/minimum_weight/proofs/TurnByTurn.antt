@@ -1,5 +1,5 @@
 -- What is promised of the loop that lists a patch holds of every job that has one (rule 3.12).
-use Prim.Native.Nat.{ℕ, _-_, _<_}
+use Prim.Native.Nat.{ℕ, _<_}
 use mathlib.Core.Path.{_≡_, refl, sym, ap, _∙_, subst}
 use mathlib.Core.Bool.{false≢true}
 use mathlib.Core.Logic.{⊎-elim}
@@ -12,11 +12,11 @@ use Rattle.triangulation.specs.Recursion.{restOf, costOf, noTotal}
 use Rattle.minimum_weight.specs.declared.preorder.Part.{Part}
 use Rattle.minimum_weight.specs.Tables.{WellFormed}
 use Rattle.minimum_weight.specs.Preorder.{partsAfter, NextListed, TurnByTurn}
-use Rattle.minimum_weight.proofs.Turns.{Tiled, AllWhole, part-and, Whole, pending, patchOf, down-first, next-part, going}
+use Rattle.minimum_weight.proofs.Turns.{HasTriangulation, AllWhole, part-and, Whole, pending, patchOf, down-first, next-part, going}
 use Rattle.minimum_weight.proofs.Waiting.{no-more-wait}
 use Rattle.minimum_weight.proofs.Answer.{answer-whole, answer-light}
 
-module _ {job : Job} (t : Tiled job) where
+module _ {job : Job} (t : HasTriangulation job) where
   -- a turn takes a part as long as a triangle is to be listed
   next-listed : (k : ℕ) → k < length (patchOf t) → NextListed job (patchOf t) k
   next-listed k h = go (partsAfter job (patchOf t) k) refl (going t k .whole) (going t k .left)
@@ -24,7 +24,7 @@ module _ {job : Job} (t : Tiled job) where
       go : (l : List Part) → partsAfter job (patchOf t) k ≡ l → AllWhole job l → drop k (patchOf t) ≡ pending job l → NextListed job (patchOf t) k
       go [] e v d = absurd (omega (arith, length-drop k (patchOf t), ap length d))
       go (p ∷ l) e (part-and w v) d =
-          let u = next-part t k p l w d .1 in
+          let u = next-part t k p l w d .0 in
           let f = down-first job (t .valid) (t .bounded) p w in
           record { next = p; rest = l; comes-next = e; on-first = ap (job .a) u ∙ f .on-first; on-last = ap (job .c) u ∙ f .on-last }
 
@@ -48,5 +48,5 @@ module _ (n : ℕ) (candidates : List (List ℕ)) (weights : List ℕ) (rows : L
       let k : bestKey jobHere ≡ total ∷ l = key-is (bestKey jobHere) total l e in
       let w = answer-whole n candidates weights rows ok in
       let s : costOf (bestKey jobHere) < noTotal = ⊎-elim (λ z. absurd (omega (arith, ap length (sym k ∙ z)))) (λ z. z) (answer-light n candidates weights rows ok) in
-      let t : Tiled jobHere = record { valid = ok .valid; bounded = ok .bounded; some = omega (arith, s, ap costOf w) } in
+      let t : HasTriangulation jobHere = record { valid = ok .valid; bounded = ok .bounded; some = omega (arith, s, ap costOf w) } in
       subst (TurnByTurn jobHere) (ap restOf (sym w ∙ k)) (turns t)

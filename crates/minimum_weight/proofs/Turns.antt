@@ -27,19 +27,25 @@ split-key w u r [] k′ h = absurd (omega arith)
 split-key w u r (x ∷ l) [] h = absurd (omega arith)
 split-key w u r (x ∷ l) (y ∷ m) h = (cons≢nil, cons≢nil, refl)
 
--- a job that has a triangulation
-pub record Tiled (job : Job) : Type 0 where
+-- a list from place k on: the element there, and the rest
+drop-next : (l : List ℕ) (k : ℕ) {u : ℕ} {m : List ℕ} → drop k l ≡ u ∷ m → (getD l k 0 ≡ u) × (drop (suc k) l ≡ m)
+drop-next l k e =
+    let d = sym (drop-cons l k 0 (omega (arith, length-drop k l, ap length e))) ∙ e in
+    (head-eq-of-cons-eq d, tail-eq-of-cons-eq d)
+
+-- a job that can be triangulated
+pub record HasTriangulation (job : Job) : Type 0 where
   pub valid : Valid job
   pub bounded : Bounded job
   pub some : costOf (bestUnder job (job .n) (job .size) 0 (job .n - 1)) < noTotal
 
 module _ (job : Job) where
   -- a part's triangles in preorder, and the first of them
-  abbrev pub trianglesOf : Part → List ℕ
-  trianglesOf p = restOf (bestUnder job (job .n) (p .outer) (p .first) (p .last))
+  abbrev pub partTriangles : Part → List ℕ
+  partTriangles p = restOf (bestUnder job (job .n) (p .outer) (p .first) (p .last))
 
   abbrev pub firstTriangle : Part → ℕ
-  firstTriangle p = getD (trianglesOf p) 0 0
+  firstTriangle p = getD (partTriangles p) 0 0
 
   -- a part that is more than a rim edge, and has a triangulation
   pub record Whole (p : Part) : Type 0 where
@@ -55,7 +61,7 @@ module _ (job : Job) where
   -- the triangles still to be listed, part by part
   abbrev pub pending : List Part → List ℕ
   pending [] = []
-  pending (p ∷ l) = trianglesOf p ++ pending l
+  pending (p ∷ l) = partTriangles p ++ pending l
 
   -- the triangle u comes first in a part: what is beneath it
   pub record Down (p : Part) (u : ℕ) : Type 0 where
@@ -66,11 +72,11 @@ module _ (job : Job) where
     pub right : job .b u < p .last
     pub left-some : costOf (bestUnder job (job .n) u (p .first) (job .b u)) < noTotal
     pub right-some : costOf (bestUnder job (job .n) u (job .b u) (p .last)) < noTotal
-    pub list : trianglesOf p ≡ u ∷ (trianglesOf (partUnder u (p .first) (job .b u)) ++ trianglesOf (partUnder u (job .b u) (p .last)))
+    pub list : partTriangles p ≡ u ∷ (partTriangles (partUnder u (p .first) (job .b u)) ++ partTriangles (partUnder u (job .b u) (p .last)))
 
   pending-append : (k l : List Part) → pending (k ++ l) ≡ pending k ++ pending l
   pending-append [] l = refl
-  pending-append (p ∷ k) l = ap (λ x. trianglesOf p ++ x) (pending-append k l) ∙ sym (append-assoc (trianglesOf p) (pending k) (pending l))
+  pending-append (p ∷ k) l = ap (λ x. partTriangles p ++ x) (pending-append k l) ∙ sym (append-assoc (partTriangles p) (pending k) (pending l))
 
   whole-append : {k l : List Part} → AllWhole k → AllWhole l → AllWhole (k ++ l)
   whole-append no-part v = v
@@ -81,10 +87,10 @@ module _ (job : Job) (good : Valid job) (bound : Bounded job) where
   edge-some t i j h k z = ⊎-elim (λ e. absurd (z e)) (λ q. omega arith) (edge-light job good bound t i j h k)
 
   -- a part from i to j has a triangle for each vertex between
-  list-length : (p : Part) → Whole job p → length (trianglesOf job p) + p .first + 1 ≡ p .last
+  list-length : (p : Part) → Whole job p → length (partTriangles job p) + p .first + 1 ≡ p .last
   list-length p w = go (edge-best job good (job .n) (p .outer) (p .first) (p .last) (omega (arith, w .order)) (omega (arith, w .within)))
     where
-      go : Best job (p .outer) (p .first) (p .last) (bestUnder job (job .n) (p .outer) (p .first) (p .last)) → length (trianglesOf job p) + p .first + 1 ≡ p .last
+      go : Best job (p .outer) (p .first) (p .last) (bestUnder job (job .n) (p .outer) (p .first) (p .last)) → length (partTriangles job p) + p .first + 1 ≡ p .last
       go (none e h) = absurd (omega (arith, w .some, ap costOf e))
       go (some l x e v h) = ap (λ k. length (restOf k) + p .first + 1) e ∙ part-length job v
 
@@ -125,11 +131,11 @@ module _ (job : Job) (good : Valid job) (bound : Bounded job) where
         go (holds e) = subst (AllWhole job) (sym (yes (partUnder u i j ∷ []) [] e)) (part-and (record { order = ltb-true (i + 1) j e; within = k; some = s }) no-part)
         go (fails e) = subst (AllWhole job) (sym (no (partUnder u i j ∷ []) [] e)) no-part
 
-    beneath-list : pending job (beneath u i j) ≡ trianglesOf job (partUnder u i j)
+    beneath-list : pending job (beneath u i j) ≡ partTriangles job (partUnder u i j)
     beneath-list = go (truth (ltb (i + 1) j))
       where
-        go : Truth (ltb (i + 1) j) → pending job (beneath u i j) ≡ trianglesOf job (partUnder u i j)
-        go (holds e) = ap (pending job) (yes (partUnder u i j ∷ []) [] e) ∙ append-nil (trianglesOf job (partUnder u i j))
+        go : Truth (ltb (i + 1) j) → pending job (beneath u i j) ≡ partTriangles job (partUnder u i j)
+        go (holds e) = ap (pending job) (yes (partUnder u i j ∷ []) [] e) ∙ append-nil (partTriangles job (partUnder u i j))
         go (fails e) = ap (pending job) (no (partUnder u i j ∷ []) [] e) ∙ sym (ap restOf (edge-step job good u i j (omega (arith, ltb-false (i + 1) j e))))
 
   module _ (p : Part) (u : ℕ) (w : Whole job p) (d : Down job p u) where
@@ -137,22 +143,22 @@ module _ (job : Job) (good : Valid job) (bound : Bounded job) where
     halves-whole = whole-append job (beneath-whole u (p .first) (job .b u) (d .left) (omega (arith, d .right, w .within)) (d .left-some))
         (beneath-whole u (job .b u) (p .last) (d .right) (w .within) (d .right-some))
 
-    halves-list : trianglesOf job p ≡ u ∷ pending job (halves job p u)
+    halves-list : partTriangles job p ≡ u ∷ pending job (halves job p u)
     halves-list = d .list ∙ ap (λ l. u ∷ l) (sym (pending-append job (beneath u (p .first) (job .b u)) (beneath u (job .b u) (p .last))
         ∙ ap₂ (λ k l. k ++ l) (beneath-list u (p .first) (job .b u) (d .left)) (beneath-list u (job .b u) (p .last) (d .right))))
 
   -- a part that waits has a triangle
   pub parts-few : (l : List Part) → AllWhole job l → length l ≤ length (pending job l)
   parts-few [] v = omega arith
-  parts-few (p ∷ l) (part-and w v) = omega (arith, parts-few l v, list-length p w, w .order, length-append (trianglesOf job p) (pending job l))
+  parts-few (p ∷ l) (part-and w v) = omega (arith, parts-few l v, list-length p w, w .order, length-append (partTriangles job p) (pending job l))
 
-module _ {job : Job} (t : Tiled job) where
+module _ {job : Job} (t : HasTriangulation job) where
   abbrev polygon : Part
   polygon = partUnder (job .size) 0 (job .n - 1)
 
   -- the triangles of the patch
   abbrev pub patchOf : List ℕ
-  patchOf = trianglesOf job polygon
+  patchOf = partTriangles job polygon
 
   polygon-whole : Whole job polygon
   polygon-whole = record { order = omega (arith, t .valid .n3); within = omega (arith, t .valid .n3); some = t .some }
@@ -166,18 +172,12 @@ module _ {job : Job} (t : Tiled job) where
     pub left : drop k patchOf ≡ pending job l
 
   -- the next part's first triangle is the next of the patch
-  next-is : {k : ℕ} {u : ℕ} {l : List ℕ} → drop k patchOf ≡ u ∷ l → (k < length patchOf) × (getD patchOf k 0 ≡ u) × (drop (suc k) patchOf ≡ l)
-  next-is {k} {u} {l} e =
-      let h : k < length patchOf = omega (arith, length-drop k patchOf, ap length e) in
-      let d = sym (drop-cons patchOf k 0 h) ∙ e in
-      (h, head-eq-of-cons-eq d, tail-eq-of-cons-eq d)
-
   pub next-part : (k : ℕ) (p : Part) (l : List Part) → Whole job p → drop k patchOf ≡ pending job (p ∷ l)
-      → (k < length patchOf) × (getD patchOf k 0 ≡ firstTriangle job p) × (drop (suc k) patchOf ≡ pending job (halves job p (firstTriangle job p) ++ l))
+      → (getD patchOf k 0 ≡ firstTriangle job p) × (drop (suc k) patchOf ≡ pending job (halves job p (firstTriangle job p) ++ l))
   next-part k p l w e =
       let u = firstTriangle job p in
       let d = down-first job (t .valid) (t .bounded) p w in
-      next-is (e ∙ ap (λ x. x ++ pending job l) (halves-list job (t .valid) (t .bounded) p u w d) ∙ ap (λ x. u ∷ x) (sym (pending-append job (halves job p u) l)))
+      drop-next patchOf k (e ∙ ap (λ x. x ++ pending job l) (halves-list job (t .valid) (t .bounded) p u w d) ∙ ap (λ x. u ∷ x) (sym (pending-append job (halves job p u) l)))
 
   go-on : (k : ℕ) (l : List Part) → Going k l → Going (suc k) (turn job l (getD patchOf k 0))
   go-on k [] g = record { whole = no-part; left = drop-of-length-le patchOf {i = suc k} (omega (arith, length-drop k patchOf, ap length (g .left))) }
@@ -187,8 +187,8 @@ module _ {job : Job} (t : Tiled job) where
       by (part-and w v) =
           let u = firstTriangle job p in
           let n = next-part k p l w (g .left) in
-          subst (λ x. Going (suc k) (turn job (p ∷ l) x)) (sym (n .1))
-          (record { whole = whole-append job (halves-whole job (t .valid) (t .bounded) p u w (down-first job (t .valid) (t .bounded) p w)) v; left = n .2 })
+          subst (λ x. Going (suc k) (turn job (p ∷ l) x)) (sym (n .0))
+          (record { whole = whole-append job (halves-whole job (t .valid) (t .bounded) p u w (down-first job (t .valid) (t .bounded) p w)) v; left = n .1 })
 
   pub going : (k : ℕ) → Going k (partsAfter job patchOf k)
   unfolding partsAfter

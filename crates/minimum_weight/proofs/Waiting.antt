@@ -9,7 +9,7 @@ use Rattle.lists.proofs.Choice.{Truth, holds, fails, truth, yes, no}
 use Rattle.triangulation.specs.Triangulations.{Job}
 use Rattle.minimum_weight.specs.declared.preorder.Part.{Part}
 use Rattle.minimum_weight.specs.Preorder.{partUnder, beneath, halves, turn, partsAfter, mostParts}
-use Rattle.minimum_weight.proofs.Turns.{Tiled, patchOf, patch-length, going, parts-few}
+use Rattle.minimum_weight.proofs.Turns.{HasTriangulation, patchOf, patch-length, going, parts-few}
 
 -- a turn puts two parts at most for the one that it takes
 beneath-length : (u i j : ℕ) → length (beneath u i j) ≤ 1
@@ -29,13 +29,13 @@ turn-length job (p ∷ l) u = omega (
   beneath-length u (job .b u) (p .last),
 )
 
--- all parts but one came with a triangle that is listed
+-- after k turns at most k + 1 parts wait
 one-more : (job : Job) (l : List ℕ) (k : ℕ) → length (partsAfter job l k) ≤ k + 1
 unfolding partsAfter
 one-more job l zero = omega arith
 one-more job l (suc k) = omega (arith, one-more job l k, turn-length job (partsAfter job l k) (getD l k 0))
 
-module _ {job : Job} (t : Tiled job) where
+module _ {job : Job} (t : HasTriangulation job) where
   -- no more parts wait than triangles are still to be listed: each part that waits has a triangle
   pub no-more-wait : (k : ℕ) → length (partsAfter job (patchOf t) k) ≤ length (patchOf t) - k
   no-more-wait k = omega (arith, parts-few job (t .valid) (t .bounded) (partsAfter job (patchOf t) k) (going t k .whole), ap length (going t k .left), length-drop k (patchOf t))

@@ -10,7 +10,8 @@ ghost use Rattle.blocks.specs.Blocks.{Starts};
 ghost use Rattle.minimum_weight.specs.Tables.{WellFormed, AllReady};
 ghost use Rattle.minimum_weight.specs.Preorder.{partUnder};
 
-// The part of the polygon from vertex `first` to vertex `last`, under the triangle `outer`. It has a triangle: a rim edge is no part.
+// The part of the polygon from vertex `first` to vertex `last`, under the triangle `outer`. It has a vertex between them: a rim edge
+// (i, i + 1) is no part.
 pub struct Part {
     pub outer: usize,
     pub first: u8,
@@ -47,7 +48,8 @@ pub fn write_preorder(
     let mut stack = [whole; MOST_PARTS];
     let mut height: usize = 1;
     let mut count: usize = 0;
-    // Each turn lists one triangle, and after it no more parts wait than triangles are still to be listed: `no-more-wait` in specs/Preorder.
+    // Each turn lists one triangle, and after it no more parts wait than triangles are still to be listed: `no-more-wait` of `Listing` in
+    // specs/Preorder.
     while 0 < height {
         height -= 1;
         let part = stack[height];

@@ -1,4 +1,5 @@
--- The triangles are written in preorder: the loop is at the turn of the definition that its count names (`Listing`), and each turn leaves one triangle fewer to be listed.
+-- The triangles are written in preorder: the stack is the list of parts that the count names (`Listing`), and each turn leaves one triangle fewer to be
+-- listed.
 use Prim.Native.Nat.{_+_, _-_, _≤_, _<_}
 use mathlib.Core.Path.{_≡_, refl, sym, ap, _∙_, subst}
 use mathlib.Core.Logic.{⊎-elim}
@@ -10,10 +11,10 @@ use Rattle.lists.proofs.Writing.{filled-length}
 use Rattle.triangulation.specs.Triangulations.{Job}
 use Rattle.triangulation.specs.Jobs.{jobOf}
 use Rattle.triangulation.specs.Recursion.{bestUnder, restOf}
-use Rattle.minimum_weight.specs.Preorder.{waiting, beneath, mostParts, Listing}
+use Rattle.minimum_weight.specs.Preorder.{waiting, beneath, mostParts, Waits, Listing}
 use Rattle.minimum_weight.proofs.Edges.{found-far}
-use Rattle.minimum_weight.proofs.Turns.{Tiled, Whole, Down, firstTriangle, patchOf, patch-length, down-first, found-first}
-use Rattle.minimum_weight.proofs.Listing.{top, Waits, put, skip, start, turn-due, top-whole, turn-place, top-place, rest-waits, left-place, one-turn, end}
+use Rattle.minimum_weight.proofs.Turns.{HasTriangulation, Whole, Down, firstTriangle, patchOf, patch-length, down-first, found-first}
+use Rattle.minimum_weight.proofs.Listing.{top, put, skip, start, turn-due, top-whole, turn-place, top-place, rest-waits, left-place, one-turn, end}
 use Rattle.minimum_weight.proofs.preorder.write_preorder.Statement.{statement}
 use Rattle.minimum_weight.proofs.preorder.write_preorder.Tie as tie
 
@@ -26,7 +27,7 @@ abbrev μ-loop : tie.MeasureT-loop
 abbrev job : tie.Start Inv-loop μ-loop → Job
 job s = jobOf (s .args .n) (s .args .candidates .now) (s .args .weights .now) (s .args .rows .now)
 
-tiled : (s : tie.Start Inv-loop μ-loop) → Tiled (job s)
+tiled : (s : tie.Start Inv-loop μ-loop) → HasTriangulation (job s)
 tiled s = record { valid = s .pre .0 .0 .valid; bounded = s .pre .0 .0 .bounded; some = s .pre .1 .1 }
 
 -- the table has a place for each triangle
@@ -104,16 +105,16 @@ cast-triangles : tie.Need-cast-triangles Inv-loop μ-loop
 cast-triangles c = let s = c .before .before .before .before .before .before .before .before .before in omega (arith, s .pre .0 .0 .few, down (c .before) .valid)
 
 mul-triangles : tie.Need-mul-triangles Inv-loop μ-loop
-mul-triangles c = let s = c .before .before .before .before .before .before .before .before .before in omega (arith, s .pre .0 .0 .bounded .few, patch-length (tiled s), turn-due (tiled (c .before .before .before .before .before .before .before .before .before)) (c .before .before .before .before .loop .inv) (c .before .before .before .loop-test .taken))
+mul-triangles c = let s = c .before .before .before .before .before .before .before .before .before in omega (arith, s .pre .0 .0 .bounded .few, patch-length (tiled s), turn-due (tiled s) (c .before .before .before .before .loop .inv) (c .before .before .before .loop-test .taken))
 
 slice-write-triangles : tie.Need-slice-write-triangles Inv-loop μ-loop
 slice-write-triangles c = let s = c .before .before .before .before .before .before .before .before .before in turn-place (tiled s) (c .before .before .before .before .loop .inv) (c .before .before .before .loop-test .taken) (room s)
 
 add-count : tie.Need-add-count Inv-loop μ-loop
-add-count c = let s = c .before .before .before .before .before .before .before .before .before in omega (arith, s .pre .0 .0 .bounded .few, patch-length (tiled s), turn-due (tiled (c .before .before .before .before .before .before .before .before .before)) (c .before .before .before .before .loop .inv) (c .before .before .before .loop-test .taken))
+add-count c = let s = c .before .before .before .before .before .before .before .before .before in omega (arith, s .pre .0 .0 .bounded .few, patch-length (tiled s), turn-due (tiled s) (c .before .before .before .before .loop .inv) (c .before .before .before .loop-test .taken))
 
 sub-if1 : tie.Need-sub-if1 Inv-loop μ-loop
-sub-if1 c = let d = down (c .before) in omega (arith, d .right)
+sub-if1 c = let d = down (c .before) in omega (arith, d .left, d .right)
 
 new-requires-2 : tie.Need-new-requires-2 Inv-loop μ-loop
 new-requires-2 c κs = search needs
@@ -128,7 +129,7 @@ add-height : tie.Need-add-height Inv-loop μ-loop
 add-height c = let h = top-place (tiled (c .before .before .before .before .before .before .before .before .before .before .before)) (c .before .before .before .before .before .before .loop .inv) (c .before .before .before .before .before .loop-test .taken) in omega arith
 
 sub-if2 : tie.Need-sub-if2 Inv-loop μ-loop
-sub-if2 c = let d = down (c .before .before) in omega (arith, d .left)
+sub-if2 c = let d = down (c .before .before) in omega (arith, d .left, d .right)
 
 new-requires-3 : tie.Need-new-requires-3 Inv-loop μ-loop
 new-requires-3 c κs = search needs
