@@ -89,7 +89,8 @@ fn fans_zigzags_and_combs() {
         };
         assert_eq!(most(|first, _| first + 1), 1);
         assert_eq!(most(|_, last| last - 1), 1);
-        assert_eq!(most(|first, last| if (first + last) % 2 == 0 { first + 1 } else { last - 1 }), 1);
+        let zigzag = |first: u8, last| if (first + last) % 2 == 0 { first + 1 } else { last - 1 };
+        assert_eq!(most(zigzag), 1);
         assert!(most(|first, last| first.midpoint(last)) <= 6);
         assert!(most(|first, last| (first + 2).min(last - 1)) <= 2);
         assert_eq!(most(|first, last| (last - 2).max(first + 1)), (n - 1) / 2);
