@@ -26,6 +26,7 @@ use Rattle.demands.proofs.Demand1.{accepted}
 use Rattle.demands.proofs.Demands.{file-demand3}
 
 module _ (n : ℕ) (candidates : List (List ℕ)) (weights : List ℕ) (rows : List (List ℕ)) where
+  -- an answer of which demand 3 holds is the answer
   right-answer : WellFormed n candidates weights rows → (a : Answer) → Demand3 (jobOf n candidates weights rows) a → (total : ℕ) (l : List ℕ) → a ≡ patch total l → TurnByTurn (jobOf n candidates weights rows) l
   right-answer ok a d total l e = turn-by-turn n candidates weights rows ok total l (sym (demand3-unique (jobOf n candidates weights rows) (ok .valid) a d) ∙ e)
 

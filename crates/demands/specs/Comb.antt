@@ -1,6 +1,6 @@
 -- A direct job on whose patch as many parts wait at once as on any (rule 3.12). Definitions only.
-use Prim.Native.Nat.{ℕ, zero, suc, _+_, _*_}
-use mathlib.Core.List.{List, [], _∷_, _++_, map}
+use Prim.Native.Nat.{ℕ, _+_, _*_}
+use mathlib.Core.List.{List, [], _∷_, _++_, map, reverse}
 use lib.ListN.{replicate}
 use Rattle.terms.specs.Limits.{maxVertices}
 use Rattle.terms.specs.Entries.{triple}
@@ -19,12 +19,6 @@ ones = replicate 62 1
 abbrev pub combJob : Job
 combJob = jobOf maxVertices comb ones []
 
--- k, .. , 1, 0
-unfoldable pub down : ℕ → List ℕ
-down zero = 0 ∷ []
-down (suc k) = suc k ∷ down k
-
--- walk order: down the long ones, then up on their right
+-- walk order: the long ones from the last to the first, then those on their right
 unfoldable pub combWalk : List ℕ
-unfolding down
-combWalk = down 30 ++ upFrom 31 31
+combWalk = reverse (upFrom 0 31) ++ upFrom 31 31

@@ -1,6 +1,6 @@
 // The calls that hosts in C and Rust link. An enum cannot cross this boundary, so an answer is a struct of numbers: the number due, 0 where none is,
-// and the counts and the total, which are 0 in a refusal. Each call on a rim file but the conversion stands
-// twice: with the limit that the host asks for, and with the largest.
+// and the counts and the total, which are 0 in a refusal. Each call on a rim file but the conversion stands twice: with the limit that the
+// host asks for, and with the largest.
 use converter::Conversion;
 use finder::Found;
 use finder::Sizes;

@@ -4,6 +4,7 @@ pub mod Picks
 pub mod Edges
 pub mod Runs
 pub mod Filling
+pub mod Beneath
 pub mod Turns
 pub mod Waiting
 pub mod Listing

@@ -7,13 +7,12 @@ use native.Mathlib.Nat.{le-refl}
 use native.Mathlib.Numerals.{add-one}
 use lib.ListN.{length, getD, set, take, drop, length-set, length-drop, replicate, length-replicate}
 use lib.Seq.{getD-set-same, getD-set-other, length-take-le, take-suc, take-all}
-use borrow.Author.Tests.{lt-ltb, le-ltb}
 use Rattle.lists.specs.Lists.{filled}
-use Rattle.lists.proofs.Choice.{yes, no}
 use Rattle.lists.proofs.Writing.{filled-length, filled-next}
 use Rattle.triangulation.specs.Triangulations.{Job}
 use Rattle.minimum_weight.specs.declared.preorder.Part.{Part}
 use Rattle.minimum_weight.specs.Preorder.{partUnder, waiting, beneath, mostParts, halves, turn, partsAfter, Waits, Listing}
+use Rattle.minimum_weight.proofs.Beneath.{one-beneath, none-beneath}
 use Rattle.minimum_weight.proofs.Turns.{HasTriangulation, Whole, AllWhole, part-and, pending, firstTriangle, patchOf, patch-length, next-part, going}
 use Rattle.minimum_weight.proofs.Waiting.{no-more-wait, few-wait}
 
@@ -39,13 +38,13 @@ module _ {stack new : List Part} {k m : ℕ} (u i j : ℕ) {l : List Part} (w : 
   put {x} h far q s t = record {
     parts = ap₂ waiting s (t ∙ add-one k)
         ∙ ap₂ (λ (p : Part) (r : List Part). p ∷ r) (getD-set-same stack k x (partUnder 0 0 0) (omega (arith, w .places)) ∙ q) (waiting-set stack k k x (le-refl k) ∙ w .parts)
-        ∙ ap (λ r. r ++ l) (sym (yes (partUnder u i j ∷ []) [] (lt-ltb (i + 1) j (omega arith))));
+        ∙ ap (λ r. r ++ l) (sym (one-beneath u i j (omega arith)));
     places = ap length s ∙ length-set stack k x ∙ w .places;
   }
 
   pub skip : j - i ≤ 1 → new ≡ stack → m ≡ k → Waits new m (beneath u i j ++ l)
   skip near s t = record {
-    parts = ap₂ waiting s t ∙ w .parts ∙ ap (λ r. r ++ l) (sym (no (partUnder u i j ∷ []) [] (le-ltb (i + 1) j (omega arith))));
+    parts = ap₂ waiting s t ∙ w .parts ∙ ap (λ r. r ++ l) (sym (none-beneath u i j (omega arith)));
     places = ap length s ∙ w .places;
   }
 
@@ -100,7 +99,7 @@ module _ {job : Job} (t : HasTriangulation job) where
             arith,
             few-wait t (count + 1),
             ap length next-parts,
-            ap (λ r. length (r ++ l)) (yes (partUnder u (top stack height .first) (job .b u) ∷ []) [] (lt-ltb (top stack height .first + 1) (job .b u) (omega arith))),
+            ap (λ r. length (r ++ l)) (one-beneath u (top stack height .first) (job .b u) (omega arith)),
             ap length (w .parts),
             waiting-length new m,
           )

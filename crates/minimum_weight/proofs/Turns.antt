@@ -6,20 +6,19 @@ use mathlib.Core.List.{List, [], _∷_, _++_, append-assoc, append-nil, cons≢n
 use native.Mathlib.Omega.{arith}
 use lib.ListN.{length, getD, drop, length-append, length-drop, drop-of-length-le}
 use lib.Seq.{drop-cons}
-use lib.Dec.{ltb}
-use borrow.Author.Tests.{ltb-true, ltb-false}
-use Rattle.lists.proofs.Choice.{Truth, holds, fails, truth, yes, no}
 use Rattle.triangulation.specs.Triangulations.{Job, Valid}
 use Rattle.triangulation.specs.Jobs.{Bounded}
 use Rattle.triangulation.specs.Recursion.{addRow, join, bestUnder, bestFrom, costOf, restOf, noTotal}
 use Rattle.triangulation.proofs.Parts.{part-length}
-use Rattle.triangulation.proofs.Recursion.{Best, none, some, edge-best, edge-step}
+use Rattle.triangulation.proofs.Recursion as R
+use Rattle.triangulation.proofs.Recursion.{Best, edge-best, edge-step}
 use Rattle.triangulation.proofs.Bounds.{edge-light}
 use Rattle.minimum_weight.specs.declared.choice.Pick.{Pick}
 use Rattle.minimum_weight.specs.declared.preorder.Part.{Part}
 use Rattle.minimum_weight.specs.Tables.{Found}
 use Rattle.minimum_weight.specs.Preorder.{partUnder, beneath, halves, turn, partsAfter}
 use Rattle.minimum_weight.proofs.Edges.{found-below}
+use Rattle.minimum_weight.proofs.Beneath.{Beneath, one, none, either-beneath}
 
 -- the parts of a joined key that is no 'none'
 split-key : (w u r : ℕ) (k k′ : List ℕ) → costOf (addRow r (join w u k k′)) < noTotal → (k ≢ []) × (k′ ≢ []) × (restOf (addRow r (join w u k k′)) ≡ u ∷ (restOf k ++ restOf k′))
@@ -91,8 +90,8 @@ module _ (job : Job) (good : Valid job) (bound : Bounded job) where
   list-length p w = go (edge-best job good (job .n) (p .outer) (p .first) (p .last) (omega (arith, w .order)) (omega (arith, w .within)))
     where
       go : Best job (p .outer) (p .first) (p .last) (bestUnder job (job .n) (p .outer) (p .first) (p .last)) → length (partTriangles job p) + p .first + 1 ≡ p .last
-      go (none e h) = absurd (omega (arith, w .some, ap costOf e))
-      go (some l x e v h) = ap (λ k. length (restOf k) + p .first + 1) e ∙ part-length job v
+      go (R.none e h) = absurd (omega (arith, w .some, ap costOf e))
+      go (R.some l x e v h) = ap (λ k. length (restOf k) + p .first + 1) e ∙ part-length job v
 
   down : (p : Part) (q : Pick) → Whole job p → Found job (p .outer) (p .first) (p .last) q → Down job p (q .at)
   unfolding bestFrom bestUnder
@@ -125,18 +124,18 @@ module _ (job : Job) (good : Valid job) (bound : Bounded job) where
   -- a rim edge has no triangle, and is no part
   module _ (u i j : ℕ) (h : i < j) where
     beneath-whole : j < job .n → costOf (bestUnder job (job .n) u i j) < noTotal → AllWhole job (beneath u i j)
-    beneath-whole k s = go (truth (ltb (i + 1) j))
+    beneath-whole k s = go (either-beneath u i j)
       where
-        go : Truth (ltb (i + 1) j) → AllWhole job (beneath u i j)
-        go (holds e) = subst (AllWhole job) (sym (yes (partUnder u i j ∷ []) [] e)) (part-and (record { order = ltb-true (i + 1) j e; within = k; some = s }) no-part)
-        go (fails e) = subst (AllWhole job) (sym (no (partUnder u i j ∷ []) [] e)) no-part
+        go : Beneath u i j → AllWhole job (beneath u i j)
+        go (one far e) = subst (AllWhole job) (sym e) (part-and (record { order = far; within = k; some = s }) no-part)
+        go (none near e) = subst (AllWhole job) (sym e) no-part
 
     beneath-list : pending job (beneath u i j) ≡ partTriangles job (partUnder u i j)
-    beneath-list = go (truth (ltb (i + 1) j))
+    beneath-list = go (either-beneath u i j)
       where
-        go : Truth (ltb (i + 1) j) → pending job (beneath u i j) ≡ partTriangles job (partUnder u i j)
-        go (holds e) = ap (pending job) (yes (partUnder u i j ∷ []) [] e) ∙ append-nil (partTriangles job (partUnder u i j))
-        go (fails e) = ap (pending job) (no (partUnder u i j ∷ []) [] e) ∙ sym (ap restOf (edge-step job good u i j (omega (arith, ltb-false (i + 1) j e))))
+        go : Beneath u i j → pending job (beneath u i j) ≡ partTriangles job (partUnder u i j)
+        go (one far e) = ap (pending job) e ∙ append-nil (partTriangles job (partUnder u i j))
+        go (none near e) = ap (pending job) e ∙ sym (ap restOf (edge-step job good u i j (omega arith)))
 
   module _ (p : Part) (u : ℕ) (w : Whole job p) (d : Down job p u) where
     halves-whole : AllWhole job (halves job p u)

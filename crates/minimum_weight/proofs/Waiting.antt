@@ -4,20 +4,19 @@ use mathlib.Core.Path.{ap}
 use mathlib.Core.List.{List, [], _∷_}
 use native.Mathlib.Omega.{arith}
 use lib.ListN.{length, getD, length-append, length-drop}
-use lib.Dec.{ltb}
-use Rattle.lists.proofs.Choice.{Truth, holds, fails, truth, yes, no}
 use Rattle.triangulation.specs.Triangulations.{Job}
 use Rattle.minimum_weight.specs.declared.preorder.Part.{Part}
-use Rattle.minimum_weight.specs.Preorder.{partUnder, beneath, halves, turn, partsAfter, mostParts}
+use Rattle.minimum_weight.specs.Preorder.{beneath, halves, turn, partsAfter, mostParts}
+use Rattle.minimum_weight.proofs.Beneath.{Beneath, one, none, either-beneath}
 use Rattle.minimum_weight.proofs.Turns.{HasTriangulation, patchOf, patch-length, going, parts-few}
 
 -- a turn puts two parts at most for the one that it takes
 beneath-length : (u i j : ℕ) → length (beneath u i j) ≤ 1
-beneath-length u i j = go (truth (ltb (i + 1) j))
+beneath-length u i j = go (either-beneath u i j)
   where
-    go : Truth (ltb (i + 1) j) → length (beneath u i j) ≤ 1
-    go (holds e) = omega (arith, ap (length {A = Part}) (yes (partUnder u i j ∷ []) [] e))
-    go (fails e) = omega (arith, ap (length {A = Part}) (no (partUnder u i j ∷ []) [] e))
+    go : Beneath u i j → length (beneath u i j) ≤ 1
+    go (one far e) = omega (arith, ap length e)
+    go (none near e) = omega (arith, ap length e)
 
 turn-length : (job : Job) (l : List Part) (u : ℕ) → length (turn job l u) ≤ length l + 1
 turn-length job [] u = omega arith

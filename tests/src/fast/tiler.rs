@@ -7,6 +7,9 @@ const HIGHEST_WEIGHT: u32 = 2_000_000_000;
 /// Above every total, and small enough that two of them can be added.
 const NONE: u64 = 1 << 62;
 
+/// The most parts that wait at once (rule 3.12).
+const MOST_PARTS: usize = 31;
+
 fn candidates_fit(n: usize, candidates: &[Triangle]) -> bool {
     let mut before = 0;
     for &[a, b, c] in candidates {
@@ -139,7 +142,7 @@ impl Job<'_> {
     }
 
     fn write(&self, n: usize, work: &[u64], triangles: &mut [u16]) {
-        let mut stack = Vec::with_capacity(31);
+        let mut stack = Vec::with_capacity(MOST_PARTS);
         stack.push(Part { outer: u32::MAX, first: 0, last: (n - 1) as u8 });
         let mut places = triangles.iter_mut();
         while let Some(part) = stack.pop() {
