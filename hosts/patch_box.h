@@ -62,7 +62,7 @@ enum {
     PATCH_BOX_OUT_OF_RANGE = 9,        /* a coordinate is not from -125 to 125 mm */
     PATCH_BOX_TOO_FEW_VERTICES = 10,   /* the rim has fewer than 3 vertices */
     PATCH_BOX_VERTEX_REPEATED = 11,    /* two vertices are at one grid point */
-    PATCH_BOX_COSPHERICAL = 12,        /* five vertices, not all in one plane, are on a sphere that has no vertex inside */
+    PATCH_BOX_COSPHERICAL = 12,        /* five vertices, not all in one plane, are on a sphere that has no vertex inside; in a flat rim, four on such a circle */
     PATCH_BOX_TABLE_TOO_SHORT = 13,    /* a lent table is too short */
     PATCH_BOX_VERTEX_COUNT = 14,       /* the n of a direct job, or the limit asked for, is not from 3 to 64 */
     PATCH_BOX_CANDIDATE = 15,          /* the candidates of a direct job are not vertices a < b < c < n in rising order */

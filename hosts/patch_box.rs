@@ -144,7 +144,9 @@ numbers! {
     OutOfRange = 9, "a coordinate is not from -125 to 125 mm";
     TooFewVertices = 10, "the rim has fewer than 3 vertices";
     VertexRepeated = 11, "two vertices are at one grid point";
-    Cospherical = 12, "five vertices, not all in one plane, are on a sphere that has no vertex inside";
+    Cospherical = 12,
+        "five vertices, not all in one plane, are on a sphere that has no vertex inside; \
+         in a flat rim, four on such a circle";
     TableTooShort = 13, "a lent table is too short";
     VertexCount = 14, "the n of a direct job, or the limit asked for, is not from 3 to 64";
     Candidate = 15, "the candidates of a direct job are not vertices a < b < c < n in rising order";

@@ -109,7 +109,7 @@ fn without_a_limit_it_is_64() {
 /// Rims as long as the limit are closed, so that the tests see filled tables.
 #[test]
 fn rims_that_fit_are_closed() {
-    for n in [23, 24, 25, 64] {
+    for n in [3, 23, 24, 25, 64] {
         for file in edges(n) {
             let answers = within(n, &file);
             assert_eq!(answers.read, Ok(n));

@@ -113,7 +113,7 @@ impl<T: Guard> Lent<T> {
     /// A table that holds a list and no more.
     pub fn holding(list: &[T]) -> Lent<T> {
         let mut lent = Lent::guarded(list.len());
-        lent.table().copy_from_slice(list);
+        lent.fill(list);
         lent
     }
 
@@ -123,6 +123,11 @@ impl<T: Guard> Lent<T> {
 
     pub fn view(&self) -> &[T] {
         &self.held[Self::MARGIN..Self::MARGIN + self.places]
+    }
+
+    /// The list in the first places.
+    pub fn fill(&mut self, list: &[T]) {
+        self.table()[..list.len()].copy_from_slice(list);
     }
 
     /// The first place that differs, counted from the table's first (negative: before it), in
@@ -186,6 +191,16 @@ impl Tables {
             rows: Lent::holding(&job.rows),
             work: Lent::guarded(work),
         }
+    }
+
+    /// The tables after a rim that has these lists and this patch (rules 3.8 and 3.9).
+    pub fn after(mut self, lists: &Job, walk: &[u16]) -> Tables {
+        self.triangles.fill(walk);
+        self.candidates.fill(&lists.candidates);
+        self.weights.fill(&lists.weights);
+        self.rows.fill(&lists.rows);
+        self.work.fill(&vec![0; lists.candidates.len()]);
+        self
     }
 
     /// What differs first, in words.

@@ -15,6 +15,7 @@ pub mod jobs;
 pub mod law;
 pub mod library;
 pub mod normals;
+pub mod planes;
 pub mod programs;
 pub mod random;
 pub mod rims;

@@ -13,8 +13,18 @@ pub const P: [Point; 4] = [[0, 0, 0], [8, 0, 0], [8, 8, 6], [0, 8, 0]];
 /// Five corners of a cube, which are on one sphere.
 pub const FIVE_CORNERS: [Point; 5] = [[0, 0, 0], [40, 0, 0], [40, 40, 0], [0, 40, 0], [0, 0, 40]];
 
-/// A rim in one plane.
+/// A flat rim.
 pub const FLAT: [Point; 5] = [[0, 0, 0], [90, 0, 0], [120, 70, 0], [40, 110, 0], [-30, 60, 0]];
+
+/// A flat rim in a plane that no axis is across of: seen along any of them, circles are ellipses.
+pub const TILTED_STAR: [Point; 6] =
+    [[-24, -32, 56], [16, -8, -8], [56, -24, -32], [-8, 16, -8], [-32, 56, -24], [-8, -8, 16]];
+
+/// The corners of a square, which are on one circle.
+pub const SQUARE: [Point; 4] = [[0, 0, 5], [8, 0, 5], [8, 8, 5], [0, 8, 5]];
+
+/// A rim on one line, so without a candidate.
+pub const LINE: [Point; 5] = [[0, 0, 1], [6, 3, -2], [2, 1, 0], [-4, -2, 3], [10, 5, -4]];
 
 /// A record of a rim file; the three floats as bits. Edition 1 leaves the normal out.
 #[derive(Clone, Copy, Debug)]
@@ -207,6 +217,7 @@ pub enum Shape {
     Spiral,
     Scattered,
     SkewLines,
+    /// Scattered in the plane z = x. Other planes are in `planes`.
     Flat,
     Collinear,
     CubeCorners,

@@ -1,12 +1,12 @@
 //! The worked cases (rules 6.1 to 6.5) and others worked by hand, by the reference and by what is
 //! under test.
 
-use outside_tests::calls::{Calls, Job, Lent, PatchAnswer, Places, Row, Tables, Triangle};
+use outside_tests::calls::{Calls, Job, PatchAnswer, Places, Row, Tables, Triangle};
 use outside_tests::law::finder::{bend, bend_of};
 use outside_tests::law::grid::{grid_number, GridNumber};
 use outside_tests::law::{reader, tilings, BY_INTERVALS, BY_SETS};
 use outside_tests::library::under_test;
-use outside_tests::rims::{Point, RimFile, FLAT, P};
+use outside_tests::rims::{Point, RimFile, FLAT, LINE, P, SQUARE, TILTED_STAR};
 use std::collections::HashMap;
 
 const P_TRIPLES: [Triangle; 4] = [[0, 1, 2], [0, 1, 3], [0, 2, 3], [1, 2, 3]];
@@ -40,22 +40,35 @@ fn expect(job: &Job, number: u32, walk: &[u16], total: u64) {
     }
 }
 
-#[test]
-fn rim_file_p() {
-    let file = RimFile::plain(&P, 1, 1).bytes();
+/// The lists, the patch and every other place of the tables of a rim with these factors, by each.
+fn expect_rim(points: &[Point], factors: [u16; 2], lists: &Job, walk: &[u16], total: u64) {
+    let file = RimFile::plain(points, factors[0], factors[1]).bytes();
     for calls in all() {
         let before = Tables::guarded(Places::BENCH);
         let mut left = before.clone();
         let answer = calls.patch_rim(&file, &mut left);
-        assert_eq!(answer, PatchAnswer { number: 0, triangles: 2, total: 469 });
-        let mut expected = before;
-        expected.triangles.table()[..2].copy_from_slice(&[1, 3]);
-        expected.candidates.table()[..4].copy_from_slice(&P_TRIPLES);
-        expected.weights.table()[..4].copy_from_slice(&[80, 64, 80, 93]);
-        expected.rows.table()[..2].copy_from_slice(&[[1, 3, 312], [2, 0, 360]]);
-        expected.work.table()[..4].fill(0);
-        assert_eq!(left.difference(&expected), None, "{}", calls.name());
+        let expected = PatchAnswer { number: 0, triangles: walk.len(), total };
+        assert_eq!(answer, expected, "{}, {points:?}", calls.name());
+        let difference = left.difference(&before.after(lists, walk));
+        assert_eq!(difference, None, "{}, {points:?}", calls.name());
     }
+}
+
+/// Each refuses the rim, and leaves the tables as they were.
+fn expect_refusal(points: &[Point], number: u32) {
+    let file = RimFile::plain(points, 1, 1).bytes();
+    for calls in all() {
+        let before = Tables::guarded(Places::BENCH);
+        let mut left = before.clone();
+        assert_eq!(calls.patch_rim(&file, &mut left), PatchAnswer::refused(number), "{points:?}");
+        assert_eq!(left.difference(&before), None, "{}, {points:?}", calls.name());
+    }
+}
+
+#[test]
+fn rim_file_p() {
+    let lists = job(4, &P_TRIPLES, &[80, 64, 80, 93], &[[1, 3, 312], [2, 0, 360]]);
+    expect_rim(&P, [1, 1], &lists, &[1, 3], 469);
 }
 
 #[test]
@@ -139,12 +152,7 @@ fn corners_of_a_cube() {
             for and_third in 0..and_other {
                 let kept = (0..8).filter(|k| ![left_out, and_other, and_third].contains(k));
                 let points: Vec<Point> = kept.map(corner).collect();
-                let file = RimFile::plain(&points, 1, 1).bytes();
-                for calls in all() {
-                    let mut tables = Tables::guarded(Places::BENCH);
-                    assert_eq!(calls.patch_rim(&file, &mut tables), PatchAnswer::refused(12));
-                    assert_eq!(tables.difference(&Tables::guarded(Places::BENCH)), None);
-                }
+                expect_refusal(&points, 12);
             }
         }
     }
@@ -166,19 +174,60 @@ fn a_vertex_on_a_sphere_that_does_not_count() {
     }
 }
 
+/// One candidate, level and tilted, in every order of the vertices.
 #[test]
-fn flat_rims_and_three_vertices_have_no_candidates() {
-    let square: [Point; 4] = [[0, 0, 5], [8, 0, 5], [8, 8, 5], [0, 8, 5]];
-    for points in [&FLAT[..], &FLAT[..3], &square[..]] {
-        let file = RimFile::plain(points, 3, 5).bytes();
-        for calls in all() {
-            let mut tables = Tables::guarded(Places::BENCH);
-            assert_eq!(calls.patch_rim(&file, &mut tables), PatchAnswer::NONE);
-            assert_eq!(tables.difference(&Tables::guarded(Places::BENCH)), None);
-            let mut short = Tables::guarded(Places::BENCH);
-            short.triangles = Lent::guarded(points.len() - 3);
-            assert_eq!(calls.patch_rim(&file, &mut short), PatchAnswer::refused(13));
+fn three_vertices() {
+    for (points, m) in
+        [([[0, 0, 0], [8, 0, 0], [0, 8, 0]], 64), ([[1, 2, 3], [4, 6, 3], [1, 2, 8]], 25)]
+    {
+        for [i, j, k] in [[0, 1, 2], [0, 2, 1], [1, 0, 2], [1, 2, 0], [2, 0, 1], [2, 1, 0]] {
+            let lists = job(3, &[[0, 1, 2]], &[3 * m], &[]);
+            expect_rim(&[points[i], points[j], points[k]], [3, 5], &lists, &[0], 3 * m as u64);
         }
+    }
+}
+
+/// The areas of the three candidates are half of 9900, 5700 and 6800, and all normals look up.
+#[test]
+fn flat_rim() {
+    let candidates = [[0, 1, 3], [0, 3, 4], [1, 2, 3]];
+    let lists = job(5, &candidates, &[9900, 5700, 6800], &[[0, 2, 0], [1, 0, 0]]);
+    expect_rim(&FLAT, [1, 1], &lists, &[1, 0, 2], 22_400);
+}
+
+#[test]
+fn corners_of_a_square() {
+    expect_refusal(&SQUARE, 12);
+    for left_out in 0..4 {
+        let three: Vec<Point> = (0..4).filter(|k| *k != left_out).map(|k| SQUARE[k]).collect();
+        expect_rim(&three, [1, 1], &job(3, &[[0, 1, 2]], &[64], &[]), &[0], 64);
+    }
+}
+
+/// The fifth vertex is inside the circle of the other four, so none of their threes counts. Candidate
+/// 034 is outside the polygon.
+#[test]
+fn a_square_with_a_dent() {
+    let points = [[0, 0, 0], [80, 0, 0], [80, 80, 0], [0, 80, 0], [32, 40, 0]];
+    let candidates = [[0, 1, 4], [0, 3, 4], [1, 2, 4], [2, 3, 4]];
+    let lists = job(5, &candidates, &[3200, 2560, 3840, 3200], &[[0, 2, 0], [2, 3, 0]]);
+    expect_rim(&points, [1, 1], &lists, &[0, 2, 3], 10_240);
+}
+
+/// A star of three points in the plane x + y + z = 0. The normals of its four triangles are 576 along
+/// each axis, those of the three candidates outside are -1600.
+#[test]
+fn a_tilted_star() {
+    let candidates = [[0, 1, 2], [0, 1, 5], [0, 4, 5], [1, 2, 3], [1, 3, 5], [2, 3, 4], [3, 4, 5]];
+    let weights = [2771, 997, 2771, 997, 997, 2771, 997];
+    let lists = job(6, &candidates, &weights, &[[1, 4, 0], [4, 3, 0], [4, 6, 0]]);
+    expect_rim(&TILTED_STAR, [1, 1], &lists, &[1, 4, 3, 6], 3988);
+}
+
+#[test]
+fn rims_on_one_line() {
+    for n in [3, 4, 5] {
+        expect_rim(&LINE[..n], [3, 5], &job(n, &[], &[], &[]), &[], 0);
     }
 }
 

@@ -1,16 +1,13 @@
 //! Own weights (rules 1.14, 2.14 and 2.15): the bends to the surfaces outside the rim, for every
 //! candidate, by hand and by a second formula.
 
-use outside_tests::calls::{Calls, Job, PatchAnswer, Places, Tables, Triangle};
-use outside_tests::fast::weights::Weights;
-use outside_tests::fast::{self, FAST};
+use outside_tests::calls::{Calls, Job, PatchAnswer, Places, Row, Tables, Triangle};
+use outside_tests::fast::FAST;
 use outside_tests::jobs::job_of;
-use outside_tests::law::finder::own_weight;
-use outside_tests::law::{self, reader::Rim};
 use outside_tests::library::each;
 use outside_tests::normals::{self, Normal};
 use outside_tests::random::{seeds, Random};
-use outside_tests::rims::{Point, RimFile, Shape, FLAT, P};
+use outside_tests::rims::{Point, RimFile, Shape, LINE, P};
 
 /// The job of a rim with these normals, the same by each.
 fn job_with(points: &[Point], factors: [u16; 2], normals: &[Normal]) -> Job {
@@ -138,7 +135,7 @@ fn normals_change_the_patch() {
 #[test]
 fn one_edge_at_a_time() {
     let mut random = Random::new(8);
-    for n in [4, 4, 5, 5, 6, 7, 9, 12, 20, 64] {
+    for n in [3, 4, 4, 5, 5, 6, 7, 9, 12, 20, 64] {
         let points = rim(n, &mut random);
         let plain = check(&points, [3, 5], &vec![normals::NONE; n]);
         let every: Vec<usize> = (0..n).collect();
@@ -161,7 +158,7 @@ fn one_edge_at_a_time() {
 fn two_edges_of_a_candidate() {
     let mut random = Random::new(9);
     let mut met = 0;
-    for n in [4, 5, 6, 8, 11] {
+    for n in [3, 4, 5, 6, 8, 11] {
         let points = rim(n, &mut random);
         let [one, two] = [[700, -1000, 3], [-1, 0, 0]];
         for first in 0..n {
@@ -183,7 +180,7 @@ fn two_edges_of_a_candidate() {
 #[test]
 fn normals_of_the_closing_edge() {
     let mut random = Random::new(10);
-    for n in [4, 5, 6, 9, 33] {
+    for n in [3, 4, 5, 6, 9, 33] {
         let points = rim(n, &mut random);
         let normals = normals::on_all(n, &mut random);
         let before = check(&points, [1, 1], &normals);
@@ -208,7 +205,7 @@ fn records_in_any_order() {
     for seed in seeds("normals of records in any order") {
         let mut random = Random::new(seed);
         for _ in 0..300 {
-            let n = random.between(4, 10) as usize;
+            let n = random.between(3, 10) as usize;
             let points = rim(n, &mut random);
             let normals = normals::along(&points, &mut random);
             let expected = check(&points, [1, 1], &normals);
@@ -225,7 +222,7 @@ fn records_in_any_order() {
 #[test]
 fn factors() {
     let mut random = Random::new(11);
-    for n in [4, 5, 8, 40] {
+    for n in [3, 4, 5, 8, 40] {
         let points = rim(n, &mut random);
         for factors in [[0, 1], [1, 0], [0, 0], [16, 65_535], [16, 0], [0, 65_535]] {
             for normals in [normals::on_all(n, &mut random), normals::along(&points, &mut random)] {
@@ -240,38 +237,39 @@ fn factors() {
     }
 }
 
-/// With three vertices all three edges are on the rim. No call weighs such a triangle, so the
-/// references are asked themselves.
+/// With three vertices all three edges are on the rim: none of them has a surface outside, or one,
+/// two or three.
 #[test]
 fn three_rim_edges() {
     let points = [[0, 0, 0], [8, 0, 0], [0, 8, 0]];
-    let normals = [([0, 0, 1], 0), ([0, 3, 4], 200), ([5, 0, 0], 1000), ([0, 0, -7], 2000)];
-    for [i, j, k] in [[0, 1, 2], [1, 2, 3], [3, 0, 1], [2, 3, 0], [0, 0, 3]] {
-        let surfaces = [i, j, k].map(|normal| normals[normal].0);
-        let expected = 2 * 64 + 3 * [i, j, k].iter().map(|&normal| normals[normal].1).sum::<u64>();
-        let rim = Rim {
-            area_factor: 2,
-            bend_factor: 3,
-            points: points.to_vec(),
-            surfaces: surfaces.map(Some).to_vec(),
-        };
-        assert_eq!(own_weight(&rim, [0, 1, 2], [0, 0, 64]), expected);
-        let file =
-            RimFile::plain(&points, 2, 3).with_normals(&surfaces.map(|n| n.map(|x| x as i16)));
-        let polygon = fast::reader::read(&file.bytes()).expect("accepted");
-        let normal = fast::weights::Normal::of(&polygon, [0, 1, 2]);
-        assert_eq!(Weights::new(&polygon).own([0, 1, 2], &normal) as u64, expected);
-        assert_eq!(law::reader::read(&file.bytes()), Ok(rim));
+    let normals = [
+        (normals::NONE, 0),
+        ([0, 0, 1], 0),
+        ([0, 3, 4], 200),
+        ([5, 0, 0], 1000),
+        ([0, 0, -7], 2000),
+    ];
+    for (i, j, k) in (0..125).map(|some| (some % 5, some / 5 % 5, some / 25)) {
+        let edges = [normals[i], normals[j], normals[k]];
+        let expected = 2 * 64 + 3 * edges.iter().map(|edge| edge.1).sum::<u32>();
+        let job = check(&points, [2, 3], &edges.map(|edge| edge.0));
+        assert_eq!((job.candidates, job.weights), (vec![[0, 1, 2]], vec![expected]), "{edges:?}");
+        assert_eq!(job.rows, Vec::<Row>::new());
+        let file = RimFile::plain(&points, 2, 3).with_normals(&edges.map(|edge| edge.0)).bytes();
+        for calls in each() {
+            let answer = calls.patch_rim(&file, &mut Tables::guarded(Places::BENCH));
+            assert_eq!(answer, PatchAnswer { number: 0, triangles: 1, total: expected as u64 });
+        }
     }
 }
 
-/// Three vertices, or a flat rim, have no candidate that a normal could weigh on.
+/// A rim on one line has no candidate that a normal could weigh on.
 #[test]
 fn rims_without_candidates() {
-    for points in [&FLAT[..3], &[[0, 0, 0], [90, 0, 3], [40, 70, 0]], &FLAT[..4], &FLAT[..]] {
+    for n in [3, 4, 5] {
         for normal in [[0, 0, 1], [0, 0, -1], [1000; 3], normals::NONE] {
-            let normals = vec![normal; points.len()];
-            let file = RimFile::plain(points, 16, 65_535).with_normals(&normals).bytes();
+            let normals = vec![normal; n];
+            let file = RimFile::plain(&LINE[..n], 16, 65_535).with_normals(&normals).bytes();
             for calls in each() {
                 let mut left = Tables::guarded(Places::BENCH);
                 assert_eq!(calls.patch_rim(&file, &mut left), PatchAnswer::NONE);

@@ -3,9 +3,10 @@
 
 use outside_tests::damage::{self, damaged, number_due, undamaged};
 use outside_tests::law::program::{bench, trim, TRIM_LIMIT};
+use outside_tests::planes;
 use outside_tests::programs::{BENCH, TRIM};
 use outside_tests::random::{seeds, Random};
-use outside_tests::rims::{lattice, Edition, RimFile, Shape, P};
+use outside_tests::rims::{lattice, Edition, Point, RimFile, Shape, FLAT, LINE, P, SQUARE};
 use std::path::Path;
 
 fn compare(file: &[u8]) {
@@ -33,6 +34,15 @@ fn rim_file_p_with_normals() {
 }
 
 #[test]
+fn flat_rims() {
+    let file = |points: &[Point]| RimFile::plain(points, 1, 1).bytes();
+    expect(&file(&FLAT), "patch 5 3 22400\n0 3 4 5700 0\n0 1 3 9900 0\n1 2 3 6800 0\n");
+    expect(&file(&FLAT[..3]), "patch 3 1 6300\n0 1 2 6300 0\n");
+    expect(&file(&SQUARE), "refused 12\n");
+    expect(&file(&LINE), "none\n");
+}
+
+#[test]
 fn rims_of_every_shape() {
     for seed in seeds("rims for the programs") {
         let mut random = Random::new(seed);
@@ -44,6 +54,9 @@ fn rims_of_every_shape() {
         }
         for n in 4..9 {
             compare(&RimFile::plain(&lattice(n, 3, &mut random), 1, 1).bytes());
+            compare(
+                &RimFile::varied(&planes::any_rim(n, &mut random), [1, 3], &mut random).bytes(),
+            );
         }
     }
 }

@@ -4,7 +4,7 @@ use outside_tests::calls::{Job, Places, Tables};
 use outside_tests::comparison::{compare_job, compare_rim};
 use outside_tests::fast::FAST;
 use outside_tests::jobs::random_job;
-use outside_tests::law::finder::{centre, squared_distance};
+use outside_tests::law::finder::{centre_of_sphere, squared_distance};
 use outside_tests::law::grid::{grid_number, GridNumber};
 use outside_tests::law::{tilings, BY_INTERVALS, BY_SETS};
 use outside_tests::random::{seeds, Random};
@@ -55,7 +55,7 @@ fn spheres_pass_through_their_corners() {
         for size in [1, 3, 50, 1000] {
             for _ in 0..5_000 {
                 let four = lattice(4, size, &mut random);
-                if let Some(centre) = centre([four[0], four[1], four[2], four[3]]) {
+                if let Some(centre) = centre_of_sphere([four[0], four[1], four[2], four[3]]) {
                     let distances = four.iter().map(|&p| squared_distance(&centre, p));
                     let distances: Vec<i128> = distances.collect();
                     assert!(distances.iter().all(|&d| d == distances[0]), "{four:?}");

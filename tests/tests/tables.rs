@@ -5,8 +5,9 @@ use outside_tests::comparison::{compare_finder, compare_job, compare_rim};
 use outside_tests::jobs::random_job;
 use outside_tests::law::BY_SETS;
 use outside_tests::library::under_test;
+use outside_tests::planes;
 use outside_tests::random::{seeds, Random};
-use outside_tests::rims::{Edition, RimFile, Shape, FIVE_CORNERS, P};
+use outside_tests::rims::{Edition, RimFile, Shape, FIVE_CORNERS, FLAT, LINE, P, SQUARE};
 
 fn is_enough(places: Places, needed: Places) -> bool {
     needed.triangles <= places.triangles
@@ -23,13 +24,13 @@ fn check(file: &[u8], places: Places, needed: Places) {
     assert_eq!(answer.number, expected, "{places:?} for {needed:?}");
 }
 
-/// Every combination of lengths for rims of three to five vertices.
+/// Every combination of lengths for rims of three to five vertices, flat ones among them and two on
+/// one line, whose 'none' needs places for triangles too.
 #[test]
 fn every_combination_of_lengths() {
-    let flat = [[0, 0, 0], [9, 0, 0], [5, 7, 0]];
     let mut random = Random::new(2);
     let five = Shape::NoisyCircle.points(5, 100, &mut random);
-    let rims = [&P[..], &flat[..], &five[..]];
+    let rims = [&P[..], &five, &FLAT[..3], &FLAT[..4], &FLAT, &LINE[..3], &LINE];
     for (points, edition) in rims.iter().flat_map(|&points| Edition::BOTH.map(|e| (points, e))) {
         let file =
             RimFile::plain(points, 1, 1).in_edition(edition, points.len(), &mut random).bytes();
@@ -56,8 +57,10 @@ fn each_table_at_every_length() {
         let mut random = Random::new(seed);
         for _ in 0..40 {
             let n = random.between(3, 9) as usize;
-            let shape = random.one_of(&Shape::GENERAL);
-            let points = shape.points(n, 700, &mut random);
+            let points = match random.once_in(3) {
+                true => planes::any_rim(n, &mut random),
+                false => random.one_of(&Shape::GENERAL).points(n, 700, &mut random),
+            };
             let file = RimFile::varied(&points, [1, 1], &mut random).bytes();
             let Ok(need) = BY_SETS.sizes(&file) else { continue };
             for length in 0..=need.rows.max(need.candidates) + 2 {
@@ -78,7 +81,10 @@ fn tables_of_the_finder() {
         let mut random = Random::new(seed);
         for _ in 0..40 {
             let n = random.between(3, 8) as usize;
-            let points = Shape::Scattered.points(n, 700, &mut random);
+            let points = match random.once_in(3) {
+                true => planes::any_rim(n, &mut random),
+                false => Shape::Scattered.points(n, 700, &mut random),
+            };
             let file = RimFile::varied(&points, [1, 1], &mut random).bytes();
             let Ok(need) = BY_SETS.sizes(&file) else { continue };
             let need = Places { triangles: 0, work: 0, ..need };
@@ -98,21 +104,25 @@ fn tables_of_the_finder() {
     }
 }
 
-/// 12 comes before 13, whatever the tables.
+/// 12 comes before 13, whatever the tables: a fifth vertex on a sphere, a fourth on a circle.
 #[test]
-fn fifth_vertex_with_short_tables() {
-    let cube = RimFile::plain(&FIVE_CORNERS, 1, 1);
-    for (length, edition) in (0..=10).flat_map(|length| Edition::BOTH.map(|e| (length, e))) {
-        let cube = cube.clone().in_edition(edition, 5, &mut Random::new(length as u64));
-        let places = Places {
-            triangles: length % 4,
-            candidates: length,
-            weights: length,
-            rows: length,
-            work: length,
-        };
-        let tables = Tables::guarded(places);
-        assert_eq!(compare_rim(&BY_SETS, under_test(), &cube.bytes(), &tables).number, 12);
+fn number_12_with_short_tables() {
+    for (points, edition) in
+        [&FIVE_CORNERS[..], &SQUARE].iter().flat_map(|&points| Edition::BOTH.map(|e| (points, e)))
+    {
+        for length in 0..=10 {
+            let mut random = Random::new(length as u64);
+            let file = RimFile::plain(points, 1, 1).in_edition(edition, points.len(), &mut random);
+            let places = Places {
+                triangles: length % 4,
+                candidates: length,
+                weights: length,
+                rows: length,
+                work: length,
+            };
+            let tables = Tables::guarded(places);
+            assert_eq!(compare_rim(&BY_SETS, under_test(), &file.bytes(), &tables).number, 12);
+        }
     }
 }
 

@@ -31,19 +31,20 @@ RIM is a rim file of either edition. For POINTS and RIM, - is standard input.
   --bend N          bend factor, 0 to 65535 (default 1)
   --decimal-comma   1,5 is one and a half, not 1 and 5; then no comma separates
   --list            only the list of points that make takes back, with the normals
-  --from VIEW       top (default), front, side, corner, or a direction X,Y,Z to look from
+  --from VIEW       top, front, side, corner, or a direction X,Y,Z to look from (default: top; for a
+                    flat rim the one of top, front and side where it looks largest)
   -o FILE           write to FILE, which is replaced only by a complete one (default: standard output)
 
 Status: 0 done; 1 the list or the rim is refused, or has no patch to mill; 2 it could not run.
 ";
 
-/// What to write.
+/// What to write. A picture without a view is seen from where the rim shows best.
 #[derive(Clone, Copy, Debug, PartialEq)]
 pub enum Command {
     Make { area: u16, bend: u16, comma: Comma },
     Show,
     List,
-    Draw(View),
+    Draw(Option<View>),
     Stl,
     Obj,
 }
@@ -60,7 +61,7 @@ struct Options {
     bend: u16,
     comma: Comma,
     list: bool,
-    view: View,
+    view: Option<View>,
     output: Place,
 }
 
@@ -85,7 +86,7 @@ impl Options {
         bend: 1,
         comma: Comma::Separator,
         list: false,
-        view: View::TOP,
+        view: None,
         output: Place::Standard,
     };
 
@@ -103,7 +104,7 @@ impl Options {
             ("make", "--bend") => self.bend = factor(option, &value()?, u16::MAX)?,
             ("make", "--decimal-comma") => self.comma = Comma::DecimalMark,
             ("show", "--list") => self.list = true,
-            ("draw", "--from") => self.view = View::named(&value()?)?,
+            ("draw", "--from") => self.view = Some(View::named(&value()?)?),
             _ => return Err(format!("{command} has no option {option} (./rim --help)")),
         }
         Ok(())

@@ -1,10 +1,10 @@
 //! Where a rim file is wrong: the first number due of 1 to 12 and 18, in the order of rule 4.31, and
 //! the place it is due at. The library decides the number; this only says where to look.
 
+use crate::geometry::cospherical;
 use crate::rim_file::{grid_number, header, records, Edition, Header, Record};
 use crate::rim_file::{LEVEL_POINT, LIMIT, MAX_AREA_FACTOR, MAX_RECORDS, POINT};
 use crate::rim_file::{NORMAL_AXES, NORMAL_LIMIT};
-use crate::vectors::{cross, dot, minus};
 use patch_box::{Number, MAX_VERTICES};
 
 /// A vertex of the rim.
@@ -50,7 +50,7 @@ fn judge(file: &[u8], vertices: &mut Vec<Vertex>) -> Result<(), Due> {
         due(Number::TooFewVertices, format!("the chain has {} records", vertices.len()))?;
     }
     check_distinct(vertices)?;
-    check_spheres(vertices)
+    check_cospherical(vertices)
 }
 
 fn check_length(file: &[u8]) -> Result<Header, Due> {
@@ -176,64 +176,15 @@ fn check_distinct(vertices: &[Vertex]) -> Result<(), Due> {
     Ok(())
 }
 
-type Vector = [i64; 3];
-
-/// The sphere through four points, seen from the first: volume |x|² = slope · x on it, and on the
-/// inner side the difference has the sign opposite to the volume's. Grid numbers keep all in 64 bits.
-struct Sphere {
-    corner: Vector,
-    volume: i64,
-    slope: Vector,
-}
-
-impl Sphere {
-    /// None where the four are in one plane.
-    fn through([corner, b, c, d]: [Vector; 4]) -> Option<Sphere> {
-        let [u, v, w] = [b, c, d].map(|p| minus(p, corner));
-        let volume = dot(u, cross(v, w));
-        let parts = [(u, cross(v, w)), (v, cross(w, u)), (w, cross(u, v))];
-        let slope = [0, 1, 2].map(|k| parts.iter().map(|(p, n)| dot(*p, *p) * n[k]).sum());
-        (volume != 0).then_some(Sphere { corner, volume, slope })
-    }
-
-    /// Negative inside, 0 on the sphere, positive outside.
-    fn side(&self, p: Vector) -> i64 {
-        let x = minus(p, self.corner);
-        (self.volume * dot(x, x) - dot(self.slope, x)) * self.volume.signum()
-    }
-}
-
-/// Another vertex on the sphere of four that count (rules 2.3 and 4.12).
-fn fifth(points: &[Vector], four: [usize; 4]) -> Option<usize> {
-    let sphere = Sphere::through(four.map(|k| points[k]))?;
-    let mut on = None;
-    for (k, &point) in points.iter().enumerate() {
-        match sphere.side(point) {
-            side if side < 0 => return None,
-            0 if !four.contains(&k) => on = on.or(Some(k)),
-            _ => {}
-        }
-    }
-    on
-}
-
-fn check_spheres(vertices: &[Vertex]) -> Result<(), Due> {
-    let points: Vec<Vector> = vertices.iter().map(|vertex| vertex.point).collect();
-    let n = points.len();
-    for a in 0..n {
-        for b in a + 1..n {
-            for c in b + 1..n {
-                for d in c + 1..n {
-                    if let Some(e) = fifth(&points, [a, b, c, d]) {
-                        let place = format!(
-                            "vertices {a}, {b}, {c}, {d} and {e}; \
-                             moving one of them by 0.125 mm can help"
-                        );
-                        due(Number::Cospherical, place)?;
-                    }
-                }
-            }
-        }
-    }
-    Ok(())
+/// Five vertices on a sphere or, in a flat rim, four on a circle (rule 4.12).
+fn check_cospherical(vertices: &[Vertex]) -> Result<(), Due> {
+    let points: Vec<[i64; 3]> = vertices.iter().map(|vertex| vertex.point).collect();
+    let Some(met) = cospherical(&points) else { return Ok(()) };
+    let numbers: Vec<String> = met.iter().map(usize::to_string).collect();
+    let (last, others) = numbers.split_last().expect("corners and another");
+    let flat = if met.len() == 4 { " of a flat rim" } else { "" };
+    let others = others.join(", ");
+    let place =
+        format!("vertices {others} and {last}{flat}; moving one of them by 0.125 mm can help");
+    due(Number::Cospherical, place)
 }

@@ -5,6 +5,7 @@
 
 pub mod arguments;
 pub mod diagnosis;
+pub mod geometry;
 pub mod list;
 pub mod mesh;
 pub mod output;

@@ -1,6 +1,7 @@
 //! The patch of a rim file, by the library.
 
 use crate::diagnosis::diagnose;
+use crate::geometry::{meeting_edges, rim_edges};
 use patch_box::{Candidate, Number, Outcome, OwnedTables, Row};
 
 /// A triangle of the patch.
@@ -25,14 +26,17 @@ pub struct Patch {
     pub none: Option<String>,
 }
 
-/// Why the answer is 'none'. A rim has no candidates when it is flat (rule 2.5); a rim edge that is in
-/// no candidate cannot be closed (rule 3.3).
-fn why_none(vertices: usize, candidates: &[Candidate]) -> String {
+/// Why the answer is 'none'. A rim has no candidates when one line holds it (rules 2.5 and 2.17). A rim
+/// edge that is in no candidate cannot be closed (rule 3.3). Candidates do not cross, so of two edges
+/// that meet one is in none of them, and no further point helps.
+fn why_none(points: &[[i64; 3]], candidates: &[Candidate]) -> String {
     if candidates.is_empty() {
-        return "none: the rim is flat, so it has no candidates".into();
+        return "none: all vertices are on one line, so there are no candidates".into();
     }
-    let mut rim_edges = (0..vertices).map(|k| [k, (k + 1) % vertices]);
-    let open = rim_edges.find(|edge| {
+    if let Some([[i, j], [k, l]]) = meeting_edges(points) {
+        return format!("none: the rim edges from {i} to {j} and from {k} to {l} meet");
+    }
+    let open = rim_edges(points.len()).find(|edge| {
         !candidates.iter().any(|t| edge.iter().all(|&vertex| t.contains(&(vertex as u8))))
     });
     match open {
@@ -63,11 +67,12 @@ pub fn close(file: &[u8]) -> Result<Patch, Number> {
         Outcome::Patch { triangles, total } => (triangles, total),
     };
     let chain = diagnose(file).vertices;
+    let vertices: Vec<[i64; 3]> = chain.iter().map(|vertex| vertex.point).collect();
     Ok(Patch {
         triangles: (0..count).map(|i| triangle(&tables, i)).collect(),
         total,
-        none: (count == 0).then(|| why_none(chain.len(), &tables.candidates)),
-        vertices: chain.iter().map(|vertex| vertex.point).collect(),
+        none: (count == 0).then(|| why_none(&vertices, &tables.candidates)),
+        vertices,
         normals: chain.iter().map(|vertex| vertex.normal).collect(),
     })
 }

@@ -40,7 +40,8 @@ struct Drawing<'a> {
 }
 
 /// The picture of a patch; of 'none', the rim alone.
-pub fn svg(patch: &Patch, view: View) -> String {
+pub fn svg(patch: &Patch, view: Option<View>) -> String {
+    let view = view.unwrap_or_else(|| View::showing(&patch.vertices));
     let points: Vec<Vector> = patch.vertices.iter().map(|point| point.map(millimetres)).collect();
     let camera = Camera::new(view);
     let flat: Vec<Flat> = points.iter().map(|&p| camera.flat(p)).collect();

@@ -1,5 +1,6 @@
 //! Where a picture is seen from, and how its millimetres become pixels.
 
+use crate::geometry::plane_normal;
 use crate::vectors::{cross, dot, unit};
 
 pub type Vector = [f64; 3];
@@ -13,15 +14,24 @@ pub struct View {
     direction: Vector,
 }
 
-const NAMED: [View; 4] = [
-    View::TOP,
-    View { name: Some("front"), direction: [0.0, -1.0, 0.0] },
-    View { name: Some("side"), direction: [1.0, 0.0, 0.0] },
-    View { name: Some("corner"), direction: [1.0, -1.0, 1.0] },
-];
+const TOP: View = View { name: Some("top"), direction: [0.0, 0.0, 1.0] };
+const FRONT: View = View { name: Some("front"), direction: [0.0, -1.0, 0.0] };
+const SIDE: View = View { name: Some("side"), direction: [1.0, 0.0, 0.0] };
+const CORNER: View = View { name: Some("corner"), direction: [1.0, -1.0, 1.0] };
+const NAMED: [View; 4] = [TOP, FRONT, SIDE, CORNER];
 
 impl View {
-    pub const TOP: View = View { name: Some("top"), direction: [0.0, 0.0, 1.0] };
+    /// From the top; but a flat rim, which can be a line from there, from where it looks largest.
+    pub fn showing(points: &[[i64; 3]]) -> View {
+        let [x, y, z] = plane_normal(points).unwrap_or_default().map(i64::abs);
+        if z >= x.max(y) {
+            TOP
+        } else if y >= x {
+            FRONT
+        } else {
+            SIDE
+        }
+    }
 
     /// The view of a name, or of a direction X,Y,Z.
     pub fn named(word: &str) -> Result<View, String> {

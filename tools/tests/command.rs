@@ -2,7 +2,7 @@
 
 mod common;
 
-use common::{bytes_of, example, run, run_in, Folder};
+use common::{bytes_of, example, made, run, run_in, Folder};
 use std::fs;
 use std::process::{Command, Stdio};
 
@@ -115,19 +115,47 @@ fn a_closed_pipe_is_a_failure() {
 
 #[test]
 fn rims_without_a_patch() {
-    let none = "standard input: none: the rim is flat, so it has no candidates";
+    let none = "none: all vertices are on one line, so there are no candidates";
     for command in ["stl", "obj"] {
-        run(&[command, "-"], &bytes_of("flat5.rim")).refused(1, none);
+        let line = format!("standard input: {none}");
+        run(&[command, "-"], &bytes_of("line.rim")).refused(1, &line);
     }
-    let picture = run(&["draw", "-"], &bytes_of("flat5.rim")).done().text();
-    assert!(picture.contains("5 vertices; none: the rim is flat, so it has no candidates"));
-    let list = b"-55 -65 30\n30 -8 31\n72 43 -53\n14 6 88\n34 95 -6\n51 -9 -7\n14 -58 93\n";
-    let rim = run(&["make", "-"], list).done().out;
+    let picture = run(&["draw", "-"], &bytes_of("line.rim")).done().text();
+    assert!(picture.contains(&format!("5 vertices; {none}")));
+    ends_in("1 2 3\n5 4 3\n-1 1 3\n", none);
+    let list = "-55 -65 30\n30 -8 31\n72 43 -53\n14 6 88\n34 95 -6\n51 -9 -7\n14 -58 93\n";
     let open = "none: no candidate has the rim edge from 1 to 2; a further point on it can help";
-    run(&["stl", "-"], &rim).refused(1, &format!("standard input: {open}"));
-    assert!(run(&["show", "-"], &rim).done().text().ends_with(&format!("\n{open}\n")));
+    ends_in(list, open);
+    run(&["stl", "-"], &made(list)).refused(1, &format!("standard input: {open}"));
     for command in ["draw", "stl", "obj"] {
         let line = "standard input: refused 9: a coordinate is not from -125 to 125 mm: record 4, vertex 3: y = 126";
         run(&[command, "-"], &bytes_of("out-of-range.rim")).refused(1, line);
+    }
+}
+
+/// `show` takes the rim of a list, and says this of its patch.
+fn ends_in(list: &str, last: &str) {
+    let shown = run(&["show", "-"], &made(list)).done().text();
+    assert_eq!(shown.lines().last(), Some(last), "{list}");
+}
+
+/// The rim edge from 0 to 1 runs between two vertices that are nearer to each other than its ends are.
+#[test]
+fn a_further_point_helps() {
+    let open = "none: no candidate has the rim edge from 0 to 1; a further point on it can help";
+    ends_in("0 0 0\n20 0\n10 2\n30 0\n10 -2\n", open);
+    run(&["stl", "-"], &made("0 0 0\n10 0\n20 0\n10 2\n30 0\n10 -2\n")).done();
+}
+
+/// Level, in a tilted plane, there and back on one line, and not flat.
+#[test]
+fn rims_that_meet_themselves() {
+    for list in [
+        "0 0 0\n10 10\n10 0\n0 9\n",
+        "0 0 0\n10 5 5\n10 0 10\n0 4 -4\n",
+        "0 0 0\n10 0\n5 0\n5 7\n",
+        "0 0 0\n10 10\n10 0\n0 9\n-8 4 7\n",
+    ] {
+        ends_in(list, "none: the rim edges from 0 to 1 and from 2 to 3 meet");
     }
 }

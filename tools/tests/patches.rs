@@ -2,13 +2,14 @@
 
 mod common;
 
-use common::{bytes_of, example, run};
+use common::{bytes_of, example, made, run};
 use patch_box::{Number, Outcome, OwnedTables, TRIM_VERTICES};
 use rim::patch::{close, Triangle};
 use std::collections::HashMap;
 
-const RIMS: [&str; 10] = [
+const RIMS: [&str; 11] = [
     "p.rim",
+    "flat5.rim",
     "cut24.rim",
     "cut25.rim",
     "saddle12.rim",
@@ -146,7 +147,7 @@ fn stl_is_the_same_surface() {
 /// Every element is closed, every number is finite, each vertex has its number.
 #[test]
 fn pictures_from_every_side() {
-    for name in RIMS.into_iter().chain(["flat5.rim"]) {
+    for name in RIMS.into_iter().chain(["line.rim"]) {
         for view in ["top", "front", "side", "corner", "0,0,-1", "-3,2,0.5", "1e-5,0,0"] {
             let svg = run(&["draw", "--from", view, "-"], &bytes_of(name)).done().text();
             assert!(svg.starts_with("<svg ") && svg.ends_with("</svg>\n"), "{name} {view}");
@@ -185,4 +186,23 @@ fn normals_lead_the_patch() {
 fn flat_rim_edge_on() {
     let svg = run(&["draw", "--from", "front", "-"], &bytes_of("flat5.rim")).done().text();
     assert!(svg.contains("seen from the front"));
+    assert_eq!(svg.matches("<polygon").count(), 3);
+}
+
+/// Without --from a flat rim is seen from where it looks largest, and any other from the top.
+#[test]
+fn flat_rims_show_their_face() {
+    for (list, view) in [
+        ("0 0 2\n4 0 2\n5 3 2\n2 5 2\n", "top"),
+        ("0 2 0\n4 2 0\n5 2 3\n2 2 5\n", "front"),
+        ("2 0 0\n2 4 0\n2 5 3\n2 2 5\n", "side"),
+        ("0 0 0\n4 0 0\n0 3 2\n", "top"),
+        ("0 0 0\n4 0 0\n0 2 3\n", "front"),
+        ("0 0 0\n0 4 0\n2 0 3\n", "side"),
+        ("1 0 0\n0 1 0\n0 0 1\n", "top"),
+        ("2 0 0\n2 4 0\n2 5 3\n2.125 2 5\n", "top"),
+    ] {
+        let svg = run(&["draw", "-"], &made(list)).done().text();
+        assert!(svg.contains(&format!("seen from the {view}")), "{list}");
+    }
 }

@@ -2,9 +2,11 @@
 
 mod common;
 
-use common::{bytes_of, run, with_normals};
+use common::{bytes_of, made, run, with_normals};
 use patch_box::Number;
 use rim::diagnosis::diagnose;
+use rim::patch::close;
+use rim::rim_file::{encode, Point};
 
 #[test]
 fn rim_file_p() {
@@ -60,6 +62,22 @@ patch of 2 triangles, total 809
 ";
     let file = run(&["make", "-"], list.as_bytes()).done().out;
     assert_eq!(run(&["show", "-"], &file).done().text(), text);
+}
+
+/// By hand: 5.5, 10 and 5.5 square millimetres, at 128 each, and no bends. The circle of 0, 1, 2 and 4
+/// has vertex 3 inside, so 12 is not due.
+#[test]
+fn rim_file_flat5() {
+    let text = "
+patch of 3 triangles, total 2688
+
+     a      b      c   own weight  bend weight
+     0      3      4          704            0
+     0      1      3         1280            0
+     1      2      3          704            0
+";
+    let shown = run(&["show", "-"], &bytes_of("flat5.rim")).done().text();
+    assert!(shown.ends_with(text), "{shown}");
 }
 
 /// P with some bytes changed.
@@ -131,6 +149,22 @@ fn every_number_of_a_file_with_its_place() {
     let cube = run(&["show", "-"], &bytes_of("cube5.rim")).text();
     let place = "vertices 0, 1, 2, 4 and 3; moving one of them by 0.125 mm can help";
     assert!(cube.ends_with(&format!("{}: {place}\n", Number::Cospherical)), "{cube}");
+}
+
+/// A level square, one after another vertex, and one that is no square as seen along any axis.
+#[test]
+fn four_on_a_circle() {
+    for (list, vertices) in [
+        ("0 0 5\n4 0\n4 4\n0 4\n", "0, 1, 2 and 3"),
+        ("9 2 5\n4 4\n0 4\n0 0\n4 0\n", "1, 2, 3 and 4"),
+        ("0 0 0\n1 2 2\n3 3 0\n2 1 -2\n", "0, 1, 2 and 3"),
+    ] {
+        let help = "moving one of them by 0.125 mm can help";
+        let place = format!("vertices {vertices} of a flat rim; {help}");
+        last_line(&made(list), Number::Cospherical, &place);
+    }
+    // On one circle as seen from the top, but not in its own plane.
+    run(&["show", "-"], &made("5 0 5\n0 5 0\n-5 0 -5\n3 -4 3\n")).done();
 }
 
 /// A place of a file, and the two bytes put there.
@@ -208,7 +242,15 @@ impl Numbers {
 fn the_diagnosis_is_the_librarys() {
     let mut numbers = Numbers(1);
     let mut met = [0; 19];
-    let names = ["p.rim", "flat5.rim", "cube5.rim", "saddle12.rim", "gap.rim", "ridge-normals.rim"];
+    let names = [
+        "p.rim",
+        "flat5.rim",
+        "line.rim",
+        "cube5.rim",
+        "saddle12.rim",
+        "gap.rim",
+        "ridge-normals.rim",
+    ];
     let mut files = names.map(bytes_of).to_vec();
     files.push(with_normals(&bytes_of("saddle12.rim"), [-1000, 3, 1000]));
     for case in 0..50_000 {
@@ -234,4 +276,39 @@ fn the_diagnosis_is_the_librarys() {
     }
     let all = [0, 1, 2, 3, 4, 6, 7, 8, 9, 10, 11, 12, 18];
     assert!(all.iter().all(|&number| met[number] > 0), "{met:?}");
+}
+
+/// A rim of points that small numbers of steps along two vectors lead to, in whole millimetres.
+fn flat_rim(numbers: &mut Numbers) -> Vec<u8> {
+    let mut vector = || [(); 3].map(|()| numbers.below(9) as f32 - 4.0);
+    let [u, v] = [vector(), vector()];
+    let count = numbers.below(6) + 3;
+    let mut point = || {
+        let [s, t] = [(); 2].map(|()| numbers.below(6) as f32);
+        let [x, y, z] = [0, 1, 2].map(|k| s * u[k] + t * v[k]);
+        Point { x, y, height: Some(z), normal: None }
+    };
+    encode(&(0..count).map(|_| point()).collect::<Vec<_>>(), 1, 1)
+}
+
+/// The tool finds the library's number on flat rims too, in planes of every tilt. A flat rim whose edges
+/// are all in candidates is closed, so the reason of 'none' is an edge, or that all is on one line.
+#[test]
+fn flat_rims_in_many_planes() {
+    let mut numbers = Numbers(2);
+    let mut met = [0; 13];
+    let mut reasons = ["on one line", "meet", "can help"].map(|reason| (reason, 0));
+    for _ in 0..20_000 {
+        let file = flat_rim(&mut numbers);
+        let expected = patch_box::sizes(&file).err();
+        let found = diagnose(&file).due.map(|due| due.number);
+        assert_eq!(found, expected, "{file:?}");
+        met[expected.map_or(0, |number| number.code() as usize)] += 1;
+        if let Some(why) = close(&file).ok().and_then(|patch| patch.none) {
+            let reason = reasons.iter_mut().find(|(reason, _)| why.contains(*reason));
+            reason.unwrap_or_else(|| panic!("{why}: {file:?}")).1 += 1;
+        }
+    }
+    assert!([0, 11, 12].iter().all(|&number| met[number] > 100), "{met:?}");
+    assert!(reasons.iter().all(|&(_, count)| count > 100), "{reasons:?}");
 }

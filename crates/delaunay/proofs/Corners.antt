@@ -1,6 +1,6 @@
 -- Three corners and four, as the search computes them: their pencil and their sphere, and what a vertex's position says of the fours. Assumes nothing.
-use mathlib.Core.Path.{_≡_, refl, sym, _∙_, ap, subst}
-use mathlib.Core.Bool.{Bool, true, false, not}
+use mathlib.Core.Path.{_≡_, sym, _∙_, ap, subst}
+use mathlib.Core.Bool.{true, false}
 use mathlib.Core.List.{List}
 use Prim.Native.Nat.{ℕ, _<_}
 use lib.IntN.{pos}
@@ -11,19 +11,18 @@ use Rattle.geometry.specs.declared.sphere.Lifted.{Lifted}
 use Rattle.geometry.specs.declared.sphere.Pencil.{Pencil}
 use Rattle.geometry.specs.declared.sphere.Sphere.{Sphere}
 use Rattle.geometry.specs.declared.sphere.Position.{Position}
-use Rattle.geometry.specs.declared.sphere.Position.the-variants.{Inside, On, Outside}
+use Rattle.geometry.specs.declared.sphere.Position.the-variants.{Inside}
 use Rattle.integers.specs.Order.{equal}
 use Rattle.geometry.specs.Spheres.{coplanar}
 use Rattle.geometry.specs.Bounds.{LiftedBounds, PencilBounds, SphereBounds}
 use Rattle.geometry.specs.Lifting.{positionOf, liftOf, pencilOf, sphereOf, positionBy}
 use Rattle.geometry.specs.Facets.{separatesBy, refutedBy}
-use Rattle.geometry.proofs.Spheres.{lift-bounds, pencil-bounds, sphere-bounds, computedSphere, coplanar-is, position-is, position-inside, position-on, position-outside}
+use Rattle.geometry.proofs.Spheres.{lift-bounds, pencil-bounds, sphere-bounds, computedSphere, coplanar-is, position-is}
 use Rattle.geometry.proofs.Facets.{separates-is, refuted-is}
-use Rattle.lists.specs.Lists.{both}
-use Rattle.lists.proofs.Choice.{true-not-false}
-use Rattle.delaunay.specs.Candidates.{vertex, insideFour, onFour, counts, isCorner, isFifth}
-use Rattle.delaunay.specs.Search.{Lifts, isOn, unlifted}
-use Rattle.delaunay.proofs.Scanning.{not-counts-inside, not-counts-between}
+use Rattle.delaunay.specs.Candidates.{vertex, insideFour, onFour, counts}
+use Rattle.delaunay.specs.Search.{Lifts, unlifted}
+use Rattle.delaunay.proofs.Placing.{Placed, placed}
+use Rattle.delaunay.proofs.Counting.{not-counts-inside, not-counts-between}
 
 -- the triangle (a, b, c), as seen from a
 pub record Three (p : Polygon) (a b c : ℕ) (lifted : List Lifted) (pencil : Pencil) : Type 0 where
@@ -66,32 +65,17 @@ module _ {p : Polygon} {a b c : ℕ} {lifted : List Lifted} {pencil : Pencil} (t
 
     -- where a vertex lies
     module _ (solid : coplanar (vertex p a) (vertex p b) (vertex p c) (vertex p d) ≡ false) (v : ℕ) (v<n : v < p .n) {place : Position} (ep : place ≡ positionBy ball (getD lifted v unlifted)) where
-      place-is : place ≡ positionOf (vertex p a) (vertex p b) (vertex p c) (vertex p d) (vertex p v)
-      place-is = ep ∙ (λ i. positionBy (sphere-of i) (t .lifts .at v v<n i)) ∙ position-is (vertex p a) (vertex p b) (vertex p c) (vertex p d) (vertex p v) solid
-
-      is-inside : place ≡ Inside → insideFour p a b c d v ≡ true
-      is-inside e = position-inside (vertex p a) (vertex p b) (vertex p c) (vertex p d) (vertex p v) (sym place-is ∙ e)
+      pub place-is : Placed place (insideFour p a b c d v) (onFour p a b c d v)
+      unfolding positionOf
+      place-is = placed place _ _ (ep ∙ (λ i. positionBy (sphere-of i) (t .lifts .at v v<n i)) ∙ position-is (vertex p a) (vertex p b) (vertex p c) (vertex p d) (vertex p v) solid)
 
       -- inside: the four does not count
       pub drops : place ≡ Inside → counts p a b c d ≡ false
-      drops e = not-counts-inside p a b c d v v<n (is-inside e)
+      drops e = not-counts-inside p a b c d v v<n (place-is .when-inside e)
 
       -- inside, and on the other side of the triangle: no four of the three counts
       pub leaves : place ≡ Inside → separatesBy pencil (getD lifted d unlifted) (getD lifted v unlifted) ≡ true → (x : ℕ) → counts p a b c x ≡ false
       leaves e f x =
           not-counts-between p a b c x d v d<n v<n
           (sym (separates-is (vertex p a) (vertex p b) (vertex p c) (vertex p d) (vertex p v)) ∙ sym (λ i. separatesBy (pencil-of i) (t .lifts .at d d<n i) (t .lifts .at v v<n i)) ∙ f)
-          (is-inside e)
-
-      -- not inside, and on the sphere where the code says so
-      not-inside : (q : Position) → place ≡ q → (place ≡ Inside → ⊥) → (insideFour p a b c d v ≡ false) × (isOn place ≡ onFour p a b c d v)
-      not-inside Inside e n = absurd (n e)
-      not-inside On e n = let r = position-on (vertex p a) (vertex p b) (vertex p c) (vertex p d) (vertex p v) (sym place-is ∙ e) in (r .0, ap isOn e ∙ sym (r .1))
-      not-inside Outside e n = let r = position-outside (vertex p a) (vertex p b) (vertex p c) (vertex p d) (vertex p v) (sym place-is ∙ e) in (r .0, ap isOn e ∙ sym (r .1))
-
-      pub is-clear : (place ≡ Inside → ⊥) → insideFour p a b c d v ≡ false
-      is-clear n = not-inside place refl n .0
-
-      -- of a four that counts
-      pub is-fifth : counts p a b c d ≡ true → both (not (isCorner a b c d v)) (isOn place) ≡ isFifth p a b c d v
-      is-fifth full = ap (λ (t : Bool). both (not (isCorner a b c d v)) t) (not-inside place refl (λ e. true-not-false full (drops e)) .1)
+          (place-is .when-inside e)

@@ -1,116 +1,111 @@
--- The candidates that are marked and those that the fours to come will give make up all of them. Assumes nothing.
+-- A search over fours or threes: the triples that are marked, and those that the ones to come will give, make up all of them. Assumes nothing.
 use mathlib.Core.Path.{_≡_, refl, sym, _∙_, ap}
 use mathlib.Core.Bool.{Bool, true, false}
 use mathlib.Core.List.{List}
-use Prim.Native.Nat.{ℕ, _+_, _≤_, _<_}
+use Prim.Native.Nat.{ℕ, _≤_, _<_}
 use native.Mathlib.Omega.{arith}
 use lib.ListN.{length}
 use Rattle.terms.specs.Limits.{maxVertices}
 use Rattle.polygon.specs.declared.Polygon.{Polygon}
-use Rattle.lists.specs.Lists.{both, either, some}
-use Rattle.lists.proofs.Choice.{true-not-false}
-use Rattle.faces.specs.Faces.{isFace, triplesOf}
-use Rattle.faces.specs.Masks.{pairCount, has, emptySet, withFaces}
-use Rattle.lists.proofs.Bools.{either-no, either-swap, both-no, both-yes}
-use Rattle.faces.proofs.Fours.{left1, left3, left4, next4, leave4, out1}
-use Rattle.faces.proofs.Sets.{faces-in, faces-long, triples-same}
-use Rattle.delaunay.specs.Candidates.{counts, isFifth, isCandidate, candidatesOf, cospherical}
-use Rattle.delaunay.specs.Search.{Searched, Marked}
+use Rattle.lists.specs.Lists.{either}
+use Rattle.lists.proofs.Choice.{true-not-false, yes, no}
+use Rattle.lists.proofs.Bools.{either-no, either-swap}
+use Rattle.faces.specs.Faces.{triplesOf}
+use Rattle.faces.specs.Masks.{has, emptySet}
+use Rattle.faces.proofs.Sets.{triples-same}
+use Rattle.delaunay.specs.Candidates.{isCandidate, candidatesOf, isFlat, countsInPlane, isFaceOfFour, cocircular, cospherical, degenerate}
+use Rattle.delaunay.specs.Search.{Put, Searched, Marked}
 
--- a test of fours
-abbrev pub Test : Type 0
-Test = ℕ → ℕ → ℕ → ℕ → Bool
-
--- the four counts and has this face; it counts and has a fifth vertex on its sphere
-abbrev pub gives : Polygon → ℕ → ℕ → ℕ → Test
-gives p x y z a b c d = both (isFace a b c d x y z) (counts p a b c d)
-
-abbrev pub hasFifth : Polygon → Test
-hasFifth p a b c d = both (counts p a b c d) (some 0 (p .n) (isFifth p a b c d))
-
--- from one place of the search to a later one: what is marked and what is left make up the same
-pub record Kept (p : Polygon) (marks₀ marks : List ℕ) (left₀ left : Test → Bool) : Type 0 where
-  pub faces : (x y z : ℕ) → x < maxVertices → y < maxVertices → z < maxVertices → either (has marks x y z) (left (gives p x y z)) ≡ either (has marks₀ x y z) (left₀ (gives p x y z))
-  pub twelve : left (hasFifth p) ≡ left₀ (hasFifth p)
+-- T is the type of tests, of fours or of threes: `gives x y z` asks whether one gives the triple, `due` whether it makes 12 due;
+-- `left` says of a test whether it holds of one that is left. From one place of the search to a later one:
+pub record Kept {T : Type 0} (gives : ℕ → ℕ → ℕ → T) (due : T) (marks₀ marks : List ℕ) (left₀ left : T → Bool) : Type 0 where
+  pub faces : (x y z : ℕ) → x < maxVertices → y < maxVertices → z < maxVertices → either (has marks x y z) (left (gives x y z)) ≡ either (has marks₀ x y z) (left₀ (gives x y z))
+  pub twelve : left due ≡ left₀ due
   pub long : length marks ≡ length marks₀
 
-module _ {p : Polygon} where
-  pub kept-start : {marks : List ℕ} {left : Test → Bool} → Kept p marks marks left left
+-- 12 is due
+pub put-due : {n : ℕ} {test : ℕ → ℕ → ℕ → Bool} {twelve : Bool} {marks₀ marks : List ℕ} → twelve ≡ true → Put n test twelve marks₀ true marks
+put-due e = record { found = sym e; put = λ h. absurd (true-not-false refl h) }
+
+module _ {T : Type 0} {gives : ℕ → ℕ → ℕ → T} {due : T} where
+  pub kept-start : {marks : List ℕ} {left : T → Bool} → Kept gives due marks marks left left
   kept-start = record { faces = λ x y z h k l. refl; twelve = refl; long = refl }
 
-  pub kept-turn : {marks₀ marks : List ℕ} {left₀ left left′ : Test → Bool} → ((P : Test) → left P ≡ left′ P) → Kept p marks₀ marks left₀ left → Kept p marks₀ marks left₀ left′
-  kept-turn {marks = m} e k = record {
-    faces = λ x y z h i j. ap (λ (t : Bool). either (has m x y z) t) (sym (e (gives p x y z))) ∙ k .faces x y z h i j;
-    twelve = sym (e (hasFifth p)) ∙ k .twelve;
-    long = k .long;
-  }
-
-  pub kept-then : {marks₀ marks marks′ : List ℕ} {left₀ left left′ : Test → Bool} → Kept p marks₀ marks left₀ left → Kept p marks marks′ left left′ → Kept p marks₀ marks′ left₀ left′
+  pub kept-then : {marks₀ marks marks′ : List ℕ} {left₀ left left′ : T → Bool} → Kept gives due marks₀ marks left₀ left → Kept gives due marks marks′ left left′ → Kept gives due marks₀ marks′ left₀ left′
   kept-then k l = record {
     faces = λ x y z h i j. l .faces x y z h i j ∙ k .faces x y z h i j;
     twelve = l .twelve ∙ k .twelve;
     long = l .long ∙ k .long;
   }
 
-  module _ {marks₀ marks : List ℕ} {left₀ : Test → Bool} (a b c d : ℕ) (k : Kept p marks₀ marks left₀ (λ P. left4 (p .n) P a b c d)) (d<n : d < p .n) where
-    -- a four that does not count
-    pub kept-skip : counts p a b c d ≡ false → Kept p marks₀ marks left₀ (λ P. left4 (p .n) P a b c (d + 1))
-    kept-skip e = record {
-      faces = λ x y z h i j. ap (λ (t : Bool). either (has marks x y z) t) (sym (next4 (p .n) (gives p x y z) a b c d d<n ∙ ap (λ (t : Bool). either t (left4 (p .n) (gives p x y z) a b c (d + 1))) (both-no (isFace a b c d x y z) e))) ∙ k .faces x y z h i j;
-      twelve = sym (next4 (p .n) (hasFifth p) a b c d d<n ∙ ap (λ (t : Bool). either (both t (some 0 (p .n) (isFifth p a b c d))) (left4 (p .n) (hasFifth p) a b c (d + 1))) e) ∙ k .twelve;
-      long = k .long;
-    }
-
-    -- a four that counts, with no fifth vertex on its sphere
-    pub kept-mark : length marks ≡ pairCount → a < maxVertices → b < maxVertices → c < maxVertices → d < maxVertices → counts p a b c d ≡ true → some 0 (p .n) (isFifth p a b c d) ≡ false → Kept p marks₀ (withFaces marks a b c d) left₀ (λ P. left4 (p .n) P a b c (d + 1))
-    kept-mark long ha hb hc hd e f = record {
-      faces = λ x y z h i j.
-          let L = left4 (p .n) (gives p x y z) a b c (d + 1) in
-          let F = isFace a b c d x y z in
-          ap (λ (t : Bool). either t L) (faces-in marks long ha hb hc hd (record { first = h; second = i; third = j }))
-          ∙ either-swap F (has marks x y z) L
-          ∙ ap (λ (t : Bool). either (has marks x y z) t) (sym (next4 (p .n) (gives p x y z) a b c d d<n ∙ ap (λ (t : Bool). either t L) (both-yes F e)))
-          ∙ k .faces x y z h i j;
-      twelve = sym (next4 (p .n) (hasFifth p) a b c d d<n ∙ ap (λ (t : Bool). either t (left4 (p .n) (hasFifth p) a b c (d + 1))) (both-no (counts p a b c d) f)) ∙ k .twelve;
-      long = faces-long marks a b c d ∙ k .long;
-    }
-
-    -- a four that counts, with a fifth vertex on its sphere
-    pub twelve-here : counts p a b c d ≡ true → some 0 (p .n) (isFifth p a b c d) ≡ true → left₀ (hasFifth p) ≡ true
-    twelve-here e f = sym (k .twelve) ∙ next4 (p .n) (hasFifth p) a b c d d<n ∙ (λ i. either (both (e i) (f i)) (left4 (p .n) (hasFifth p) a b c (d + 1)))
-
-  -- three corners of which no four counts
-  pub kept-leave : {marks₀ marks : List ℕ} {left₀ : Test → Bool} (a b c d : ℕ) → Kept p marks₀ marks left₀ (λ P. left4 (p .n) P a b c d) → ((d : ℕ) → counts p a b c d ≡ false) → Kept p marks₀ marks left₀ (λ P. left3 (p .n) P a b (c + 1))
-  kept-leave {marks = marks} a b c d k none = record {
-    faces = λ x y z h i j. ap (λ (t : Bool). either (has marks x y z) t) (sym (leave4 (p .n) (gives p x y z) a b c d (λ d. both-no (isFace a b c d x y z) (none d)))) ∙ k .faces x y z h i j;
-    twelve = sym (leave4 (p .n) (hasFifth p) a b c d (λ d. ap (λ (t : Bool). both t (some 0 (p .n) (isFifth p a b c d))) (none d))) ∙ k .twelve;
+  -- what is left is the same, for the tests that matter
+  pub kept-leave : {marks₀ marks : List ℕ} {left₀ left left′ : T → Bool} → ((x y z : ℕ) → left (gives x y z) ≡ left′ (gives x y z)) → left due ≡ left′ due → Kept gives due marks₀ marks left₀ left → Kept gives due marks₀ marks left₀ left′
+  kept-leave {marks = m} e f k = record {
+    faces = λ x y z h i j. ap (λ (t : Bool). either (has m x y z) t) (sym (e x y z)) ∙ k .faces x y z h i j;
+    twelve = sym f ∙ k .twelve;
     long = k .long;
   }
 
-  -- 12 is due
-  pub twelve-due : {marks₀ marks : List ℕ} → left1 (p .n) (hasFifth p) 0 ≡ true → Searched p marks₀ true marks
-  unfolding cospherical
-  twelve-due e = record { twelve = sym e; faces = λ h. absurd (true-not-false refl h) }
+  pub kept-turn : {marks₀ marks : List ℕ} {left₀ left left′ : T → Bool} → ((P : T) → left P ≡ left′ P) → Kept gives due marks₀ marks left₀ left → Kept gives due marks₀ marks left₀ left′
+  kept-turn e k = kept-leave (λ x y z. e (gives x y z)) (e due) k
 
-  -- all fours are done
-  pub all-marked : {marks₀ marks : List ℕ} (a : ℕ) → p .n ≤ a + 3 → Kept p marks₀ marks (λ P. left1 (p .n) P 0) (λ P. left1 (p .n) P a) → Searched p marks₀ false marks
-  unfolding cospherical isCandidate
-  all-marked {marks₀} {marks} a h k = record {
-    twelve = sym (out1 (p .n) (hasFifth p) a h) ∙ k .twelve;
-    faces = λ e x y z hx hy hz. sym (ap (λ (t : Bool). either (has marks x y z) t) (out1 (p .n) (gives p x y z) a h) ∙ either-no (has marks x y z)) ∙ k .faces x y z hx hy hz;
+  -- on to the next four or three: `at` says of a test whether it holds of this one
+  module _ {marks₀ marks : List ℕ} {left₀ left : T → Bool} (left′ : T → Bool) (at : T → Bool) (next : (P : T) → left P ≡ either (at P) (left′ P)) (k : Kept gives due marks₀ marks left₀ left) where
+    pub kept-skip : ((x y z : ℕ) → at (gives x y z) ≡ false) → at due ≡ false → Kept gives due marks₀ marks left₀ left′
+    kept-skip e f =
+        kept-leave (λ x y z. next (gives x y z) ∙ ap (λ (t : Bool). either t (left′ (gives x y z))) (e x y z)) (next due ∙ ap (λ (t : Bool). either t (left′ due)) f) k
+
+    pub kept-mark : (marks′ : List ℕ) → length marks′ ≡ length marks →
+        ((x y z : ℕ) → x < maxVertices → y < maxVertices → z < maxVertices → has marks′ x y z ≡ either (at (gives x y z)) (has marks x y z)) → at due ≡ false →
+        Kept gives due marks₀ marks′ left₀ left′
+    kept-mark marks′ long e f = record {
+      faces = λ x y z h i j.
+          ap (λ (t : Bool). either t (left′ (gives x y z))) (e x y z h i j)
+          ∙ either-swap (at (gives x y z)) (has marks x y z) (left′ (gives x y z))
+          ∙ ap (λ (t : Bool). either (has marks x y z) t) (sym (next (gives x y z)))
+          ∙ k .faces x y z h i j;
+      twelve = sym (next due ∙ ap (λ (t : Bool). either t (left′ due)) f) ∙ k .twelve;
+      long = long ∙ k .long;
+    }
+
+    pub kept-due : at due ≡ true → left₀ due ≡ true
+    kept-due e = sym (k .twelve) ∙ next due ∙ ap (λ (t : Bool). either t (left′ due)) e
+
+  -- all fours or threes are done
+  pub put-all : {n : ℕ} {marks₀ marks : List ℕ} {left₀ left : T → Bool} → n ≤ maxVertices → ((P : T) → left P ≡ false) → Kept gives due marks₀ marks left₀ left → Put n (λ x y z. left₀ (gives x y z)) (left₀ due) marks₀ false marks
+  put-all {marks = marks} {left = left} few none k = record {
+    found = sym (none due) ∙ k .twelve;
+    put = λ e x y z hx hy hz.
+        sym (ap (λ (t : Bool). either (has marks x y z) t) (none (gives x y z)) ∙ either-no (has marks x y z))
+        ∙ k .faces x y z (omega arith) (omega arith) (omega arith);
   }
 
+module _ (p : Polygon) {marks₀ marks : List ℕ} {due : Bool} where
+  -- of a flat polygon the threes that count were put into the set, of another the faces of the fours
+  pub searched-flat : isFlat p ≡ true → Put (p .n) (countsInPlane p) (cocircular p) marks₀ due marks → Searched p marks₀ due marks
+  unfolding isCandidate degenerate
+  searched-flat e s = record {
+    found = s .found ∙ sym (yes (cocircular p) (cospherical p) e);
+    put = λ h x y z hx hy hz. s .put h x y z hx hy hz ∙ ap (λ (t : Bool). either (has marks₀ x y z) t) (sym (yes (countsInPlane p x y z) (isFaceOfFour p x y z) e));
+  }
+
+  pub searched-solid : isFlat p ≡ false → Put (p .n) (isFaceOfFour p) (cospherical p) marks₀ due marks → Searched p marks₀ due marks
+  unfolding isCandidate degenerate
+  searched-solid e s = record {
+    found = s .found ∙ sym (no (cocircular p) (cospherical p) e);
+    put = λ h x y z hx hy hz. s .put h x y z hx hy hz ∙ ap (λ (t : Bool). either (has marks₀ x y z) t) (sym (no (countsInPlane p x y z) (isFaceOfFour p x y z) e));
+  }
+
+module _ {p : Polygon} where
   -- after the search: the set is emptied where 12 is due
   pub marked-none : {marks₀ marks marks′ : List ℕ} {due : Bool} → Searched p marks₀ due marks → due ≡ true → marks′ ≡ emptySet → Marked p marks₀ true marks′
-  marked-none s e f = record { twelve = sym e ∙ s .twelve; faces = λ h. absurd (true-not-false refl h); empty = λ h. f }
+  marked-none s e f = record { searched = put-due (sym (s .found) ∙ e); empty = λ h. f }
 
   pub marked-all : {marks₀ marks : List ℕ} {due : Bool} → Searched p marks₀ due marks → due ≡ false → Marked p marks₀ false marks
-  marked-all s e = record { twelve = sym e ∙ s .twelve; faces = λ h. s .faces e; empty = λ h. absurd (true-not-false h refl) }
+  marked-all s e = record { searched = record { found = sym e ∙ s .found; put = λ h. s .put e }; empty = λ h. absurd (true-not-false h refl) }
 
   -- what was marked in an empty set lists the candidates
   pub listed-are : {marks₀ marks : List ℕ} {due : Bool} → p .n ≤ maxVertices → ((x y z : ℕ) → x < maxVertices → y < maxVertices → z < maxVertices → has marks₀ x y z ≡ false) → due ≡ false → Marked p marks₀ due marks → triplesOf (p .n) (has marks) ≡ candidatesOf p
   listed-are {marks₀} {marks} h none e m =
       triples-same (p .n) (has marks) (isCandidate p)
-      (λ x y z hx hy hz.
-      m .faces e x y z (omega arith) (omega arith) (omega arith)
-      ∙ ap (λ (t : Bool). either t (isCandidate p x y z)) (none x y z (omega arith) (omega arith) (omega arith)))
+      (λ x y z hx hy hz. m .searched .put e x y z hx hy hz ∙ ap (λ (t : Bool). either t (isCandidate p x y z)) (none x y z (omega arith) (omega arith) (omega arith)))

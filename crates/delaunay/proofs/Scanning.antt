@@ -1,18 +1,11 @@
--- The scans of the vertices for one four, by what is left to scan; and which fours do not count. Assumes nothing.
+-- The scans of the vertices for four corners or three, by what is left to scan. Assumes nothing.
 use mathlib.Core.Path.{_≡_, refl, sym, _∙_, ap, subst}
 use mathlib.Core.Bool.{Bool, true, false, not}
-use mathlib.Core.Logic.{⊎-elim}
 use Prim.Native.Nat.{ℕ, zero, suc, _+_, _-_, _≤_, _<_}
 use native.Mathlib.Omega.{arith}
-use Rattle.polygon.specs.declared.Polygon.{Polygon}
-use Rattle.geometry.specs.Spheres.{coplanar}
-use Rattle.geometry.specs.Facets.{separates}
-use Rattle.geometry.proofs.Facets.{no-empty-sphere}
-use Rattle.lists.specs.Lists.{both, every, some}
-use Rattle.lists.proofs.Choice.{Truth, truth, holds, fails, true-not-false, not-true-false}
-use Rattle.lists.proofs.Ranges.{every-on, every-end, every-at}
-use Rattle.lists.proofs.Bools.{both-no}
-use Rattle.delaunay.specs.Candidates.{vertex, insideFour, counts, isFifth}
+use Rattle.lists.specs.Lists.{every, some}
+use Rattle.lists.proofs.Choice.{true-not-false, not-true-false}
+use Rattle.lists.proofs.Ranges.{every-on, every-end, every-at, some-on, some-end}
 use Rattle.delaunay.specs.Search.{scannedAt}
 
 -- a turn after the first
@@ -25,40 +18,42 @@ pub scanned-in : (n last i v : ℕ) → last < n → i < n + 1 → v ≡ scanned
 scanned-in n last zero v h k e = omega (arith, e)
 scanned-in n last (suc i) v h k e = omega (arith, e)
 
-module _ (p : Polygon) (a b c d : ℕ) where
-  -- no vertex before v is strictly inside
-  abbrev pub Scanned : ℕ → Type 0
-  Scanned v = every v (p .n) (λ w. not (insideFour p a b c d w)) ≡ every 0 (p .n) (λ w. not (insideFour p a b c d w))
+-- of n vertices, by the test whether one is strictly inside
+module _ (n : ℕ) (inside : ℕ → Bool) where
+  abbrev pub noneInside : Bool
+  noneInside = every 0 n (λ w. not (inside w))
 
-  -- turn i of the scan
-  pub scan-turn : (last i v : ℕ) → v ≡ scannedAt last i → v < p .n → insideFour p a b c d v ≡ false → Scanned (i - 1) → Scanned (i + 1 - 1)
+  -- none before v is
+  abbrev pub Scanned : ℕ → Type 0
+  Scanned v = every v n (λ w. not (inside w)) ≡ noneInside
+
+  pub scan-on : (v : ℕ) → v < n → inside v ≡ false → Scanned v → Scanned (v + 1)
+  scan-on v h e s = sym (every-on v n _ h (ap not e)) ∙ s
+
+  -- turn i of a scan that looks at one vertex first
+  pub scan-turn : (last i v : ℕ) → v ≡ scannedAt last i → v < n → inside v ≡ false → Scanned (i - 1) → Scanned (i + 1 - 1)
   scan-turn last zero v k h e s = s
-  scan-turn last (suc i) v k h e s = subst Scanned (omega (arith, k)) (sym (every-on v (p .n) _ h (ap not e)) ∙ subst Scanned (ahead ∙ sym k) s)
+  scan-turn last (suc i) v k h e s = subst Scanned (omega (arith, k)) (scan-on v h e (subst Scanned (ahead ∙ sym k) s))
     where
       ahead : suc i - 1 ≡ i
       ahead = omega arith
 
-  -- no vertex before v is a fifth on the sphere
-  abbrev pub Passed : ℕ → Type 0
-  Passed v = some v (p .n) (isFifth p a b c d) ≡ some 0 (p .n) (isFifth p a b c d)
-
-  pub not-counts-flat : coplanar (vertex p a) (vertex p b) (vertex p c) (vertex p d) ≡ true → counts p a b c d ≡ false
-  unfolding counts
-  not-counts-flat e = ap (λ (t : Bool). both (not t) (every 0 (p .n) (λ w. not (insideFour p a b c d w)))) e
-
-  pub not-counts-inside : (v : ℕ) → v < p .n → insideFour p a b c d v ≡ true → counts p a b c d ≡ false
-  unfolding counts
-  not-counts-inside v h e = both-no (not (coplanar (vertex p a) (vertex p b) (vertex p c) (vertex p d))) (not-true-false _ (λ t. true-not-false (every-at 0 (p .n) _ t v (omega arith) h) (ap not e)))
-
-  -- two vertices between which the triangle (a, b, c) is not locally Delaunay: one of them is inside every sphere through it
-  pub not-counts-between : (s w : ℕ) → s < p .n → w < p .n → separates (vertex p a) (vertex p b) (vertex p c) (vertex p s) (vertex p w) ≡ true → insideFour p a b c s w ≡ true → counts p a b c d ≡ false
-  not-counts-between s w hs hw e f = by (truth (coplanar (vertex p a) (vertex p b) (vertex p c) (vertex p d)))
-    where
-      by : Truth (coplanar (vertex p a) (vertex p b) (vertex p c) (vertex p d)) → counts p a b c d ≡ false
-      by (holds flat) = not-counts-flat flat
-      by (fails solid) = ⊎-elim (not-counts-inside s hs) (not-counts-inside w hw) (no-empty-sphere (vertex p a) (vertex p b) (vertex p c) (vertex p s) (vertex p w) e f (vertex p d) solid)
-
   -- all are scanned
-  pub scanned-counts : (v : ℕ) → p .n ≤ v → Scanned v → coplanar (vertex p a) (vertex p b) (vertex p c) (vertex p d) ≡ false → counts p a b c d ≡ true
-  unfolding counts
-  scanned-counts v h s e = (λ i. both (not (e i)) (every 0 (p .n) (λ w. not (insideFour p a b c d w)))) ∙ sym s ∙ every-end v (p .n) _ h
+  pub scan-end : (v : ℕ) → n ≤ v → Scanned v → noneInside ≡ true
+  scan-end v h s = sym s ∙ every-end v n _ h
+
+  pub scan-found : (v : ℕ) → v < n → inside v ≡ true → noneInside ≡ false
+  scan-found v h e = not-true-false _ (λ t. true-not-false (every-at 0 n _ t v (omega arith) h) (ap not e))
+
+-- by the test whether one more is on the border
+module _ (n : ℕ) (other : ℕ → Bool) where
+  -- none before v is
+  abbrev pub Passed : ℕ → Type 0
+  Passed v = some v n other ≡ some 0 n other
+
+  pub pass-on : (v : ℕ) → v < n → other v ≡ false → Passed v → Passed (v + 1)
+  pass-on v h e s = sym (some-on v n other h e) ∙ s
+
+  -- all are passed
+  pub pass-end : (v : ℕ) → n ≤ v → Passed v → some 0 n other ≡ false
+  pass-end v h s = sym s ∙ some-end v n other h

@@ -1,5 +1,5 @@
--- The candidates of a polygon: the faces of its Delaunay tetrahedra. Definitions only.
-use mathlib.Core.Bool.{Bool, not}
+-- The candidates of a polygon: the faces of its Delaunay tetrahedra or, where it is flat, its Delaunay triangles. Definitions only.
+use mathlib.Core.Bool.{Bool, not, cond}
 use mathlib.Core.List.{List}
 use Prim.Native.Nat.{ℕ}
 use lib.Dec.{eqb}
@@ -7,8 +7,9 @@ use Rattle.grid.specs.declared.GridPoint.{GridPoint}
 use Rattle.polygon.specs.declared.Polygon.{Polygon}
 use Rattle.polygon.specs.Polygon.{vertexAt}
 use Rattle.geometry.specs.Spheres.{coplanar, strictlyInside, onSphere}
+use Rattle.planar.specs.Circles.{collinear, strictlyInsideCircle, onCircle}
 use Rattle.lists.specs.Lists.{both, either, every, some}
-use Rattle.faces.specs.Faces.{isFace, someFour, triplesOf}
+use Rattle.faces.specs.Faces.{isFace, someThree, someFour, triplesOf}
 
 -- vertex i of the rim (rule 1.8)
 abbrev pub vertex : Polygon → ℕ → GridPoint
@@ -27,21 +28,53 @@ unfoldable pub counts : Polygon → ℕ → ℕ → ℕ → ℕ → Bool
 counts p a b c d = both (not (coplanar (vertex p a) (vertex p b) (vertex p c) (vertex p d))) (every 0 (p .n) (λ v. not (insideFour p a b c d v)))
 
 -- (x, y, z) is a face of a four that counts (rule 2.4)
+unfoldable pub isFaceOfFour : Polygon → ℕ → ℕ → ℕ → Bool
+isFaceOfFour p x y z = someFour (p .n) (λ a b c d. both (isFace a b c d x y z) (counts p a b c d))
+
+-- vertex v is strictly inside the circle through the three (a, b, c) of a flat rim (rule 2.18)
+abbrev pub insideThree : Polygon → ℕ → ℕ → ℕ → ℕ → Bool
+insideThree p a b c v = strictlyInsideCircle (vertex p a) (vertex p b) (vertex p c) (vertex p v)
+
+-- it is on that circle (rule 2.18)
+abbrev pub onThree : Polygon → ℕ → ℕ → ℕ → ℕ → Bool
+onThree p a b c v = onCircle (vertex p a) (vertex p b) (vertex p c) (vertex p v)
+
+-- the three of a flat rim counts (rule 2.19)
+unfoldable pub countsInPlane : Polygon → ℕ → ℕ → ℕ → Bool
+countsInPlane p a b c = both (not (collinear (vertex p a) (vertex p b) (vertex p c))) (every 0 (p .n) (λ v. not (insideThree p a b c v)))
+
+-- the rim is flat (rule 2.5): each four of its vertices is in one plane. That is so exactly when some plane holds them all: proofs/Flat.antt
+unfoldable pub isFlat : Polygon → Bool
+isFlat p = not (someFour (p .n) (λ a b c d. not (coplanar (vertex p a) (vertex p b) (vertex p c) (vertex p d))))
+
+-- (x, y, z) is a candidate (rule 2.4)
 unfoldable pub isCandidate : Polygon → ℕ → ℕ → ℕ → Bool
-isCandidate p x y z = someFour (p .n) (λ a b c d. both (isFace a b c d x y z) (counts p a b c d))
+isCandidate p x y z = cond (isFlat p) (countsInPlane p x y z) (isFaceOfFour p x y z)
 
 -- the candidates, in order (rule 2.4)
 abbrev pub candidatesOf : Polygon → List (List ℕ)
 candidatesOf p = triplesOf (p .n) (isCandidate p)
 
--- vertex v is one of the four (rule 4.12)
-abbrev pub isCorner : ℕ → ℕ → ℕ → ℕ → ℕ → Bool
-isCorner a b c d v = either (eqb v a) (either (eqb v b) (either (eqb v c) (eqb v d)))
+-- vertex v is one of the three (rule 4.12)
+abbrev pub isCorner : ℕ → ℕ → ℕ → ℕ → Bool
+isCorner a b c v = either (eqb v a) (either (eqb v b) (eqb v c))
 
 -- vertex v is a fifth on the sphere of the four (rule 4.12)
 abbrev pub isFifth : Polygon → ℕ → ℕ → ℕ → ℕ → ℕ → Bool
-isFifth p a b c d v = both (not (isCorner a b c d v)) (onFour p a b c d v)
+isFifth p a b c d v = both (not (either (isCorner a b c v) (eqb v d))) (onFour p a b c d v)
 
--- 12 is due (rule 4.12)
+-- some four that counts has a fifth vertex on its sphere (rule 4.12)
 unfoldable pub cospherical : Polygon → Bool
 cospherical p = someFour (p .n) (λ a b c d. both (counts p a b c d) (some 0 (p .n) (isFifth p a b c d)))
+
+-- vertex v is a fourth on the circle of the three (rule 4.12)
+abbrev pub isFourth : Polygon → ℕ → ℕ → ℕ → ℕ → Bool
+isFourth p a b c v = both (not (isCorner a b c v)) (onThree p a b c v)
+
+-- some three that counts has a fourth vertex on its circle (rule 4.12)
+unfoldable pub cocircular : Polygon → Bool
+cocircular p = someThree (p .n) (λ a b c. both (countsInPlane p a b c) (some 0 (p .n) (isFourth p a b c)))
+
+-- 12 is due (rule 4.12)
+unfoldable pub degenerate : Polygon → Bool
+degenerate p = cond (isFlat p) (cocircular p) (cospherical p)

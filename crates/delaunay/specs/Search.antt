@@ -5,7 +5,6 @@ use mathlib.Core.List.{List}
 use Prim.Native.Nat.{ℕ, zero, suc, _<_}
 use lib.IntN.{pos}
 use lib.ListN.{getD}
-use Rattle.terms.specs.Limits.{maxVertices}
 use Rattle.polygon.specs.declared.Polygon.{Polygon}
 use Rattle.geometry.specs.declared.sphere.Lifted.{Lifted}
 use Rattle.geometry.specs.declared.sphere.Position.{Position}
@@ -13,7 +12,7 @@ use Rattle.geometry.specs.declared.sphere.Position.the-variants.{Inside, On, Ou
 use Rattle.geometry.specs.Lifting.{liftOf}
 use Rattle.lists.specs.Lists.{either}
 use Rattle.faces.specs.Masks.{has, emptySet}
-use Rattle.delaunay.specs.Candidates.{vertex, isCandidate, cospherical}
+use Rattle.delaunay.specs.Candidates.{vertex, isCandidate, degenerate}
 
 abbrev pub isOn : Position → Bool
 isOn Inside = false
@@ -32,13 +31,16 @@ abbrev pub scannedAt : ℕ → ℕ → ℕ
 scannedAt last zero = last
 scannedAt last (suc i) = i
 
--- where 12 is not due, the candidates were put into the set
-pub record Searched (p : Polygon) (before : List ℕ) (due : Bool) (after : List ℕ) : Type 0 where
-  pub twelve : due ≡ cospherical p
-  pub faces : due ≡ false → (x y z : ℕ) → x < maxVertices → y < maxVertices → z < maxVertices → has after x y z ≡ either (has before x y z) (isCandidate p x y z)
+-- the triples of n vertices for which a test holds were put into the set; where something was found that makes 12 due, some of them
+pub record Put (n : ℕ) (test : ℕ → ℕ → ℕ → Bool) (twelve : Bool) (before : List ℕ) (due : Bool) (after : List ℕ) : Type 0 where
+  pub found : due ≡ twelve
+  pub put : due ≡ false → (x y z : ℕ) → x < y → y < z → z < n → has after x y z ≡ either (has before x y z) (test x y z)
+
+-- the candidates were put into the set, where 12 is not due
+abbrev pub Searched : Polygon → List ℕ → Bool → List ℕ → Type 0
+Searched p = Put (p .n) (isCandidate p) (degenerate p)
 
 -- the same, and where 12 is due, the set is empty
 pub record Marked (p : Polygon) (before : List ℕ) (due : Bool) (after : List ℕ) : Type 0 where
-  pub twelve : due ≡ cospherical p
-  pub faces : due ≡ false → (x y z : ℕ) → x < maxVertices → y < maxVertices → z < maxVertices → has after x y z ≡ either (has before x y z) (isCandidate p x y z)
+  pub searched : Searched p before due after
   pub empty : due ≡ true → after ≡ emptySet

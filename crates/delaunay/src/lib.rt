@@ -1,22 +1,20 @@
-// The candidates of a polygon: the faces of its Delaunay tetrahedra.
-use geometry::facet;
+// The candidates of a polygon: the faces of its Delaunay tetrahedra or, where it is flat, its Delaunay triangles.
+mod circles;
+mod fours;
+
 use geometry::sphere;
 use geometry::sphere::Lifted;
-use geometry::sphere::Pencil;
 use geometry::sphere::Position;
 use polygon::Polygon;
 ghost use mathlib.Core.Path.{_≡_};
-ghost use mathlib.Core.Bool.{not, true};
-ghost use Prim.Native.Nat.{_≤_, _<_};
+ghost use mathlib.Core.Bool.{not};
+ghost use Prim.Native.Nat.{_<_};
 ghost use lib.ListN.{length};
-ghost use Rattle.terms.specs.Limits.{maxVertices};
-ghost use Rattle.geometry.specs.Bounds.{LiftedBounds, PencilBounds};
-ghost use Rattle.geometry.specs.Facets.{refutedBy};
 ghost use Rattle.lists.specs.Lists.{both};
 ghost use Rattle.faces.specs.Masks.{pairCount};
 ghost use Rattle.polygon.specs.Polygon.{Valid};
-ghost use Rattle.delaunay.specs.Candidates.{isCorner};
-ghost use Rattle.delaunay.specs.Search.{Lifts, Searched, Marked, isOn, scannedAt};
+ghost use Rattle.delaunay.specs.Candidates.{isFlat, isCorner};
+ghost use Rattle.delaunay.specs.Search.{Lifts, Searched, Marked, isOn};
 
 // The vertices as seen from vertex a.
 fn lift_vertices(p: Polygon, a: usize) -> [Lifted; terms::MAX_VERTICES]
@@ -33,8 +31,27 @@ fn lift_vertices(p: Polygon, a: usize) -> [Lifted; terms::MAX_VERTICES]
     lifted
 }
 
-fn is_corner(a: usize, b: usize, c: usize, d: usize, v: usize) -> bool
-    ensures { λ r. ⌜ r ≡ isCorner a b c d v ⌝ }
+// Are all vertices in one plane? They are where every two more are in one plane with vertices 0 and 1, which are two points.
+fn is_flat(p: Polygon) -> bool
+    requires { ⌜ Valid p ⌝ }
+    ensures { λ r. ⌜ r ≡ isFlat p ⌝ }
+{
+    let n = p.n;
+    let lifted = lift_vertices(p, 0);
+    for c in 2..n {
+        let pencil = sphere::pencil_through(lifted[1], lifted[c]);
+        for d in c + 1..n {
+            let ball = sphere::circumsphere(pencil, lifted[d]);
+            if ball.orient != 0 {
+                return false;
+            }
+        }
+    }
+    true
+}
+
+fn is_corner(a: usize, b: usize, c: usize, v: usize) -> bool
+    ensures { λ r. ⌜ r ≡ isCorner a b c v ⌝ }
 {
     if v == a {
         return true;
@@ -42,96 +59,36 @@ fn is_corner(a: usize, b: usize, c: usize, d: usize, v: usize) -> bool
     if v == b {
         return true;
     }
-    if v == c {
-        return true;
-    }
-    v == d
+    v == c
 }
 
-// Is vertex v, which lies at this place, a fifth on the sphere of the four corners?
-fn is_fifth(place: Position, a: usize, b: usize, c: usize, d: usize, v: usize) -> bool
-    ensures { λ r. ⌜ r ≡ both (not (isCorner a b c d v)) (isOn place) ⌝ }
+// Is vertex v, which lies at this place, on the sphere or the circle, and none of three corners?
+fn is_fourth(place: Position, a: usize, b: usize, c: usize, v: usize) -> bool
+    ensures { λ r. ⌜ r ≡ both (not (isCorner a b c v)) (isOn place) ⌝ }
 {
     if let Position::On = place {
-        return !is_corner(a, b, c, d, v);
+        return !is_corner(a, b, c, v);
     }
     false
 }
 
-// The vertex to look at in turn i of a scan: the one that dropped the last four, then all in their order.
-fn scanned(last: usize, i: usize) -> usize
-    ensures { λ r. ⌜ r ≡ scannedAt last i ⌝ }
-{
-    if i == 0 {
-        return last;
-    }
-    i - 1
-}
-
-// Do two vertices that an earlier three was left for, or dropped by, refute this one? Asked where six vertices or more come after c: fewer are tried sooner.
-fn still_refuted(n: usize, c: usize, pencil: Pencil, one: Lifted, other: Lifted) -> bool
-    requires { ⌜ (n ≤ maxVertices) × (c < n) × (PencilBounds pencil) × (LiftedBounds one) × (LiftedBounds other) ⌝ }
-    ensures { λ r. ⌜ (r ≡ true → refutedBy pencil one other ≡ true) ⌝ }
-{
-    if c + 6 < n {
-        return facet::refuted_by(pencil, one, other);
-    }
-    false
-}
-
-// Puts the faces of the fours that count into the set, up to the first four that has a fifth vertex on its sphere: true there.
-// A vertex inside the sphere drops the four; where the plane of (a, b, c) separates it from d, no four of this three counts, and the three is
-// left. The vertex that dropped the last four is looked at first, and with the d of the last three that was left it is tried on the next one.
-fn mark_fours(p: Polygon, masks: &mut [u64; faces::PAIRS]) -> bool
+// Puts the candidates into the set, up to the first four, or three of a flat polygon, for which 12 is due: true there.
+fn search(p: Polygon, masks: &mut [u64; faces::PAIRS]) -> bool
     requires { ⌜ (Valid p) × (length (now masks) ≡ pairCount) ⌝ }
     ensures { λ r. ⌜ Searched p (now (masks .entry)) r (now (masks .exit)) ⌝ }
 {
-    let n = p.n;
-    let mut last = 0;
-    let mut apex = 0;
-    for a in 0..n - 3 {
-        let lifted = lift_vertices(p, a);
-        for b in a + 1..n - 2 {
-            'three: for c in b + 1..n - 1 {
-                let pencil = sphere::pencil_through(lifted[b], lifted[c]);
-                if still_refuted(n, c, pencil, lifted[apex], lifted[last]) {
-                    continue 'three;
-                }
-                'four: for d in c + 1..n {
-                    let ball = sphere::circumsphere(pencil, lifted[d]);
-                    if ball.orient == 0 {
-                        continue 'four;
-                    }
-                    for i in 0..n + 1 {
-                        let v = scanned(last, i);
-                        if let Position::Inside = sphere::locate(ball, lifted[v]) {
-                            last = v;
-                            if facet::separates(pencil, lifted[d], lifted[v]) {
-                                apex = d;
-                                continue 'three;
-                            }
-                            continue 'four;
-                        }
-                    }
-                    for v in 0..n {
-                        if is_fifth(sphere::locate(ball, lifted[v]), a, b, c, d, v) {
-                            return true;
-                        }
-                    }
-                    faces::insert_faces(masks, a, b, c, d);
-                }
-            }
-        }
+    if is_flat(p) {
+        return circles::mark_circles(p, masks);
     }
-    false
+    fours::mark_fours(p, masks)
 }
 
-// Puts the candidates, the faces of the fours that count, into the set; true where 12 is due, and the set is left empty then.
+// Puts the candidates into the set; true where 12 is due, and the set is left empty then.
 pub fn mark_candidates(p: Polygon, masks: &mut [u64; faces::PAIRS]) -> bool
     requires { ⌜ (Valid p) × (length (now masks) ≡ pairCount) ⌝ }
     ensures { λ r. ⌜ Marked p (now (masks .entry)) r (now (masks .exit)) ⌝ }
 {
-    if mark_fours(p, masks) {
+    if search(p, masks) {
         faces::clear(masks);
         return true;
     }

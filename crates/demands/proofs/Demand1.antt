@@ -24,7 +24,7 @@ use Rattle.reader.proofs.Order.{none-first, Verdict, first-due, none-due, verdi
 use Rattle.reader.proofs.FirstNumber.{number-first}
 use Rattle.reader.proofs.Demand1.{read-only-when, refused-empty}
 use Rattle.reader.proofs.Accepted.{read-valid}
-use Rattle.delaunay.specs.Candidates.{candidatesOf, cospherical}
+use Rattle.delaunay.specs.Candidates.{candidatesOf, degenerate}
 use Rattle.finder.specs.Finding.{numberDue}
 use Rattle.finder.specs.Sizes.{placesOf}
 use Rattle.triangulation.specs.Triangulations.{best}
@@ -36,7 +36,7 @@ use Rattle.triangulator.proofs.Demands.{settled-taken}
 use Rattle.pipeline.specs.Patching.{Tables, Patching, refused, rowsIn, jobIn, tablesShort, patched, patchBy, polygonNumber, fileNumber, patchFile}
 use Rattle.demands.specs.Demand2.{Cospherical}
 use Rattle.demands.specs.Demand1.{polygonIn, TooShort, triangles, candidates, weights, rows, work, CallDue, by-reader, twelve, thirteen}
-use Rattle.demands.proofs.Demand2.{cospherical-true, true-cospherical}
+use Rattle.demands.proofs.Demand2.{degenerate-true, true-degenerate}
 
 -- ---- 13, as a test and as a statement
 module _ (p : Polygon) (t : Tables) where
@@ -105,10 +105,10 @@ module _ (limit : ℕ) (file : List ℕ) (bytes : Bytes file) (t : Tables) where
     number-is : fileNumber limit file t ≡ polygonNumber (polygonIn limit file) t
     number-is = ap (λ (k : ℕ). firstDue k (polygonNumber (polygonOf file) t)) e ∙ ap (λ (p : Polygon). polygonNumber p t) (sym polygon-is)
 
-    no-code : Truth (cospherical (polygonIn limit file)) → Truth (tablesShort (polygonIn limit file) t) → Decided
+    no-code : Truth (degenerate (polygonIn limit file)) → Truth (tablesShort (polygonIn limit file) t) → Decided
     unfolding numberDue
     no-code (holds a) b =
-        first-due 11 (record { place = rim; is-due = twelve (cospherical-true (polygonIn limit file) a); none-before = before })
+        first-due 11 (record { place = rim; is-due = twelve (degenerate-true (polygonIn limit file) a); none-before = before })
         (number-is ∙ yes _ _ (eq-eqb (codeOf (polygonIn limit file)) 0 (valid-code (polygonIn limit file) valid)) ∙ yes _ _ a)
       where
         before : (p : Place) (j : ℕ) → Precedes p j rim 12 → CallDue limit file t p j → ⊥
@@ -121,7 +121,7 @@ module _ (limit : ℕ) (file : List ℕ) (bytes : Bytes file) (t : Tables) where
       where
         before : (p : Place) (j : ℕ) → Precedes p j rim 13 → CallDue limit file t p j → ⊥
         before p j h (by-reader d) = no-reader p j d
-        before p j h (twelve d) = true-not-false (true-cospherical (polygonIn limit file) d) a
+        before p j h (twelve d) = true-not-false (true-degenerate (polygonIn limit file) d) a
         before _ _ (by-number l) (thirteen d) = omega arith
     no-code (fails a) (fails b) =
         none-due (record { none = nothing })
@@ -129,14 +129,14 @@ module _ (limit : ℕ) (file : List ℕ) (bytes : Bytes file) (t : Tables) where
       where
         nothing : (p : Place) (k : ℕ) → CallDue limit file t p k → ⊥
         nothing p k (by-reader d) = no-reader p k d
-        nothing p k (twelve d) = true-not-false (true-cospherical (polygonIn limit file) d) a
+        nothing p k (twelve d) = true-not-false (true-degenerate (polygonIn limit file) d) a
         nothing p k (thirteen d) = true-not-false (true-short (polygonIn limit file) t d) b
 
   verdict : Decided
   verdict = by (reader.numberDue limit file) refl
     where
       by : (k : ℕ) → reader.numberDue limit file ≡ k → Decided
-      by zero e = no-code e (truth (cospherical (polygonIn limit file))) (truth (tablesShort (polygonIn limit file) t))
+      by zero e = no-code e (truth (degenerate (polygonIn limit file))) (truth (tablesShort (polygonIn limit file) t))
       by (suc k) e = first-due k (reader-first k (number-first limit file k e)) (ap (λ (j : ℕ). firstDue j (polygonNumber (polygonOf file) t)) e)
 
   -- ---- the call

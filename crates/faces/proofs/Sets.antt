@@ -38,7 +38,7 @@ triple-same {a} {b} {c} {x} {y} {z} e =
     (eqb-true a x (both-left (eqb a x) (both (eqb b y) (eqb c z)) e), eqb-true b y (both-left (eqb b y) (eqb c z) t), eqb-true c z (both-right (eqb b y) (eqb c z) t))
 
 -- a triple put in
-put-in : (masks : List ℕ) {a b x y z : ℕ} (c : ℕ) → length masks ≡ pairCount → a < maxVertices → b < maxVertices → Vertices x y z →
+pub put-in : (masks : List ℕ) {a b x y z : ℕ} (c : ℕ) → length masks ≡ pairCount → a < maxVertices → b < maxVertices → Vertices x y z →
     has (withTriple masks a b c) x y z ≡ either (sameTriple a b c x y z) (has masks x y z)
 unfolding has
 put-in masks {a} {b} {x} {y} {z} c l ha hb k = go (truth (eqb (pairAt x y) (pairAt a b)))

@@ -17,6 +17,10 @@ isFace a b c d x y z = either (sameTriple a b c x y z) (either (sameTriple a b d
 abbrev pub triplesOf : ℕ → (ℕ → ℕ → ℕ → Bool) → List (List ℕ)
 triplesOf n P = over 0 n (λ a. over (a + 1) n (λ b. over (b + 1) n (λ c. when (P a b c) (triple a b c))))
 
+-- P holds of some three a < b < c of n vertices (rule 2.19)
+abbrev pub someThree : ℕ → (ℕ → ℕ → ℕ → Bool) → Bool
+someThree n P = some 0 n (λ a. some (a + 1) n (λ b. some (b + 1) n (λ c. P a b c)))
+
 -- P holds of some four a < b < c < d of n vertices (rule 2.3)
 abbrev pub someFour : ℕ → (ℕ → ℕ → ℕ → ℕ → Bool) → Bool
 someFour n P = some 0 n (λ a. some (a + 1) n (λ b. some (b + 1) n (λ c. some (c + 1) n (λ d. P a b c d))))

@@ -5,7 +5,7 @@ ghost use lib.ListN.{length};
 ghost use Rattle.terms.specs.Limits.{maxVertices};
 ghost use Rattle.lists.specs.Lists.{filled};
 ghost use Rattle.faces.specs.Faces.{triplesOf};
-ghost use Rattle.faces.specs.Masks.{pairAt, withVertex, hasVertex, has, emptySet, withFaces};
+ghost use Rattle.faces.specs.Masks.{pairAt, withVertex, hasVertex, has, emptySet, withTriple, withFaces};
 
 // A mask for each pair of vertices.
 pub const PAIRS: usize = terms::MAX_VERTICES * terms::MAX_VERTICES;
@@ -44,18 +44,24 @@ pub fn clear(masks: &mut [u64; PAIRS])
     *masks = [0; PAIRS];
 }
 
+// Inserts a triangle.
+pub fn insert(masks: &mut [u64; PAIRS], a: usize, b: usize, c: usize)
+    requires { ⌜ (a < maxVertices) × (b < maxVertices) × (c < maxVertices) ⌝ }
+    ensures { λ _. ⌜ now (masks .exit) ≡ withTriple (now (masks .entry)) a b c ⌝ }
+{
+    let ab = pair_index(a, b);
+    masks[ab] = with_vertex(masks[ab], c);
+}
+
 // Inserts the four faces of a tetrahedron.
 pub fn insert_faces(masks: &mut [u64; PAIRS], a: usize, b: usize, c: usize, d: usize)
     requires { ⌜ (a < maxVertices) × (b < maxVertices) × (c < maxVertices) × (d < maxVertices) ⌝ }
     ensures { λ _. ⌜ now (masks .exit) ≡ withFaces (now (masks .entry)) a b c d ⌝ }
 {
-    let ab = pair_index(a, b);
-    let ac = pair_index(a, c);
-    let bc = pair_index(b, c);
-    masks[bc] = with_vertex(masks[bc], d);
-    masks[ac] = with_vertex(masks[ac], d);
-    masks[ab] = with_vertex(masks[ab], d);
-    masks[ab] = with_vertex(masks[ab], c);
+    insert(masks, b, c, d);
+    insert(masks, a, c, d);
+    insert(masks, a, b, d);
+    insert(masks, a, b, c);
 }
 
 // Is (a, b, c) in the set?

@@ -11,7 +11,7 @@ use Rattle.terms.specs.Limits.{maxTriples}
 use Rattle.polygon.specs.declared.Polygon.{Polygon}
 use Rattle.polygon.specs.Polygon.{codeOf}
 use Rattle.polygon.proofs.Validity.{code-valid}
-use Rattle.delaunay.specs.Candidates.{candidatesOf, cospherical, isCandidate}
+use Rattle.delaunay.specs.Candidates.{candidatesOf, degenerate, isCandidate}
 use Rattle.dihedrals.specs.Dihedrals.{rowsOf}
 use Rattle.dihedrals.proofs.Rows.{row-count}
 use Rattle.faces.proofs.Sets.{triples-bound}
@@ -46,7 +46,7 @@ module _ (p : Polygon) where
   -- 13 comes last
   thirteen-last : (tooShort : Bool) → numberDue tooShort p ≡ then13 (numberDue false p) tooShort
   unfolding numberDue
-  thirteen-last tooShort = go (truth (eqb (codeOf p) 0)) (truth (cospherical p))
+  thirteen-last tooShort = go (truth (eqb (codeOf p) 0)) (truth (degenerate p))
     where
       at : {k : ℕ} → numberDue false p ≡ k → numberDue tooShort p ≡ then13 k tooShort → numberDue tooShort p ≡ then13 (numberDue false p) tooShort
       at e h = h ∙ sym (ap (λ (k : ℕ). then13 k tooShort) e)
@@ -55,7 +55,7 @@ module _ (p : Polygon) where
       own zero c e = absurd (true-not-false (eq-eqb (codeOf p) 0 c) e)
       own (suc k) c e = c ∙ ap (λ (k : ℕ). then13 k tooShort) (sym c)
 
-      go : Truth (eqb (codeOf p) 0) → Truth (cospherical p) → numberDue tooShort p ≡ then13 (numberDue false p) tooShort
+      go : Truth (eqb (codeOf p) 0) → Truth (degenerate p) → numberDue tooShort p ≡ then13 (numberDue false p) tooShort
       go (fails e) d = at (no _ _ e) (no _ _ e ∙ own (codeOf p) refl e)
       go (holds e) (holds d) = at (yes _ _ e ∙ yes _ _ d) (yes _ _ e ∙ yes _ _ d)
       go (holds e) (fails d) = at (yes _ _ e ∙ no _ _ d) (yes _ _ e ∙ no _ _ d)
@@ -63,14 +63,14 @@ module _ (p : Polygon) where
   -- where none is due
   pub record Clear (tooShort : Bool) : Type 0 where
     pub code : codeOf p ≡ 0
-    pub no-12 : cospherical p ≡ false
+    pub no-12 : degenerate p ≡ false
     pub no-13 : tooShort ≡ false
 
   pub clear : (tooShort : Bool) → numberDue tooShort p ≡ 0 → Clear tooShort
   unfolding numberDue
-  clear tooShort e = go tooShort (truth (eqb (codeOf p) 0)) (truth (cospherical p)) e
+  clear tooShort e = go tooShort (truth (eqb (codeOf p) 0)) (truth (degenerate p)) e
     where
-      go : (b : Bool) → Truth (eqb (codeOf p) 0) → Truth (cospherical p) → numberDue b p ≡ 0 → Clear b
+      go : (b : Bool) → Truth (eqb (codeOf p) 0) → Truth (degenerate p) → numberDue b p ≡ 0 → Clear b
       go b (fails d) f e = absurd (true-not-false (eq-eqb (codeOf p) 0 (sym (no _ _ d) ∙ e)) d)
       go b (holds d) (holds f) e = absurd (let z = sym (yes _ _ d ∙ yes _ _ f) ∙ e in omega (arith, z))
       go true (holds d) (fails f) e = absurd (let z = sym (yes _ _ d ∙ no _ _ f) ∙ e in omega (arith, z))

@@ -11,11 +11,13 @@ use Rattle.polygon.specs.declared.Polygon.{Polygon}
 use Rattle.polygon.specs.Polygon.{Valid}
 use Rattle.geometry.specs.Faces.{normalOf, lengthOf}
 use Rattle.geometry.specs.Spheres.{coplanar}
-use Rattle.geometry.proofs.Faces.{face-length-pqr, face-length-pqs, face-length-prs, face-length-qrs}
+use Rattle.geometry.proofs.Faces.{normal-within, length-above-0, face-length-pqr, face-length-pqs, face-length-prs, face-length-qrs}
+use Rattle.planar.specs.Circles.{collinear}
+use Rattle.integers.proofs.Order.{equal-is}
 use Rattle.terms.specs.Entries.{triple, entryAt, vertexA, vertexB, vertexC}
 use Rattle.jobs.proofs.Order.{Before, by-a, by-b, by-c}
 use Rattle.lists.specs.Lists.{both, either, every, over, when}
-use Rattle.lists.proofs.Choice.{both-left, both-right, either-cases}
+use Rattle.lists.proofs.Choice.{Truth, truth, holds, fails, yes, no, true-not-false, both-left, both-right, either-cases}
 use Rattle.lists.proofs.Members.{Ascending, over-member, when-member, over-ascending, when-ascending, ascending-at, entry-member}
 use Rattle.faces.specs.Faces.{sameTriple, isFace, triplesOf}
 use Rattle.faces.proofs.Sets.{triples-bound, triple-same}
@@ -24,7 +26,7 @@ use Rattle.faces.proofs.Members.{Triple, triples-member}
 use Rattle.hinges.specs.Hinges.{Sorted}
 use Rattle.dihedrals.specs.Dihedrals.{faceNormal}
 use Rattle.dihedrals.specs.Lists.{Solid}
-use Rattle.delaunay.specs.Candidates.{vertex, insideFour, counts, isCandidate, candidatesOf}
+use Rattle.delaunay.specs.Candidates.{vertex, insideFour, counts, isFaceOfFour, insideThree, countsInPlane, isFlat, isCandidate, candidatesOf}
 
 -- ---- a list of triples ascends
 module _ (n : ℕ) (P : ℕ → ℕ → ℕ → Bool) where
@@ -103,13 +105,31 @@ module _ (p : Polygon) (v : Valid p) where
         (either-cases (sameTriple a b d x y z) (either (sameTriple a c d x y z) (sameTriple b c d x y z)) g))
         (either-cases (sameTriple a b c x y z) (either (sameTriple a b d x y z) (either (sameTriple a c d x y z) (sameTriple b c d x y z))) f)
 
-  candidate-length : (x y z : ℕ) → isCandidate p x y z ≡ true → 0 < lengthOf (normalOf (vertex p x) (vertex p y) (vertex p z))
-  unfolding isCandidate
-  candidate-length x y z e =
+  abbrev HasLength : ℕ → ℕ → ℕ → Type 0
+  HasLength x y z = 0 < lengthOf (normalOf (vertex p x) (vertex p y) (vertex p z))
+
+  face-of-four-length : (x y z : ℕ) → isFaceOfFour p x y z ≡ true → HasLength x y z
+  unfolding isFaceOfFour
+  face-of-four-length x y z e =
       let f = four-found (p .n) (λ a b c d. both (isFace a b c d x y z) (counts p a b c d)) e in
       face-length (f .a) (f .b) (f .c) (f .d) (omega (arith, f .a<b, f .b<c, f .c<d, f .d<n)) (omega (arith, f .b<c, f .c<d, f .d<n)) (omega (arith, f .c<d, f .d<n)) (f .d<n)
       (both-right (isFace (f .a) (f .b) (f .c) (f .d) x y z) (counts p (f .a) (f .b) (f .c) (f .d)) (f .holds-of))
       x y z (both-left (isFace (f .a) (f .b) (f .c) (f .d) x y z) (counts p (f .a) (f .b) (f .c) (f .d)) (f .holds-of))
+
+  three-length : (x y z : ℕ) → x < p .n → y < p .n → z < p .n → countsInPlane p x y z ≡ true → HasLength x y z
+  unfolding countsInPlane
+  three-length x y z hx hy hz e =
+      let line = collinear (vertex p x) (vertex p y) (vertex p z) in
+      length-above-0 (normal-within (v .on-grid x hx) (v .on-grid y hy) (v .on-grid z hz))
+      (λ h. true-not-false (equal-is h) (not-true line (both-left (not line) (every 0 (p .n) (λ w. not (insideThree p x y z w))) e)))
+
+  candidate-length : (x y z : ℕ) → x < p .n → y < p .n → z < p .n → isCandidate p x y z ≡ true → HasLength x y z
+  unfolding isCandidate
+  candidate-length x y z hx hy hz e = by (truth (isFlat p))
+    where
+      by : Truth (isFlat p) → HasLength x y z
+      by (holds f) = three-length x y z hx hy hz (sym (yes (countsInPlane p x y z) (isFaceOfFour p x y z) f) ∙ e)
+      by (fails f) = face-of-four-length x y z (sym (no (countsInPlane p x y z) (isFaceOfFour p x y z) f) ∙ e)
 
   pub candidates-solid : Solid p (candidatesOf p)
   candidates-solid = record {
@@ -120,5 +140,5 @@ module _ (p : Polygon) (v : Valid p) where
       b<n = omega (arith, ap vertexB (t .is), t .b<c, t .c<n);
       c<n = omega (arith, ap vertexC (t .is), t .c<n);
     };
-    normals = λ i h. let t = candidate-at i h in subst (λ (s : List ℕ). 0 < lengthOf (faceNormal p s)) (sym (t .is)) (candidate-length (t .a) (t .b) (t .c) (t .holds-of));
+    normals = λ i h. let t = candidate-at i h in subst (λ (s : List ℕ). 0 < lengthOf (faceNormal p s)) (sym (t .is)) (candidate-length (t .a) (t .b) (t .c) (omega (arith, t .a<b, t .b<c, t .c<n)) (omega (arith, t .b<c, t .c<n)) (t .c<n) (t .holds-of));
   }

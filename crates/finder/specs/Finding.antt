@@ -6,7 +6,7 @@ use lib.Dec.{eqb, ltb}
 use lib.ListN.{length}
 use Rattle.polygon.specs.declared.Polygon.{Polygon}
 use Rattle.polygon.specs.Polygon.{codeOf}
-use Rattle.delaunay.specs.Candidates.{candidatesOf, cospherical}
+use Rattle.delaunay.specs.Candidates.{candidatesOf, degenerate}
 use Rattle.dihedrals.specs.Dihedrals.{rowsOf}
 use Rattle.weights.specs.Weights.{weightsOf}
 use Rattle.lists.specs.Lists.{either, filled}
@@ -70,7 +70,7 @@ shortBeside p trianglePlaces workPlaces = either (short trianglePlaces (p .n - 2
 
 -- the first number due, 0 where none is (rule 4.34): that of the polygon, then 12, then 13 where a table is too short
 unfoldable pub numberDue : Bool → Polygon → ℕ
-numberDue tooShort p = cond (eqb (codeOf p) 0) (cond (cospherical p) 12 (cond tooShort 13 0)) (codeOf p)
+numberDue tooShort p = cond (eqb (codeOf p) 0) (cond (degenerate p) 12 (cond tooShort 13 0)) (codeOf p)
 
 -- no number: the lists in the first places of the tables, all further places as they were (rule 3.9); a number changes no table (rule 4.30)
 abbrev pub findBy : ℕ → Polygon → List (List ℕ) → List ℕ → List (List ℕ) → Finding

@@ -1,6 +1,7 @@
-//! The Delaunay faces of a polygon as masks, and the lists made from them.
+//! The Delaunay faces of a polygon, or the Delaunay triangles of a flat one, as masks, and the lists
+//! made from them.
 
-use super::reader::Polygon;
+use super::reader::{Polygon, MOST};
 use super::vectors::{cross, dot, minus, Vector};
 use super::weights::{Normal, Weights};
 use crate::calls::{Row, Triangle};
@@ -10,6 +11,25 @@ use crate::calls::{Row, Triangle};
 struct Lifted {
     at: Vector,
     square: i64,
+}
+
+/// The vertices as seen from vertex a.
+fn lift(vertices: &[Vector], a: usize) -> [Lifted; MOST] {
+    let mut lifted = [Lifted { at: [0; 3], square: 0 }; MOST];
+    for (place, &vertex) in lifted.iter_mut().zip(vertices) {
+        let at = minus(vertex, vertices[a]);
+        *place = Lifted { at, square: dot(at, at) };
+    }
+    lifted
+}
+
+/// Are all vertices in one plane? Vertices 0 and 1 are two points, so with the first vertex that is
+/// not on their line they span the only plane that can hold all.
+fn is_flat(vertices: &[Vector]) -> bool {
+    let lifted = &lift(vertices, 0)[..vertices.len()];
+    let mut normals = lifted.iter().map(|q| cross(lifted[1].at, q.at));
+    let normal = normals.find(|normal| *normal != [0; 3]).unwrap_or_default();
+    lifted.iter().all(|q| dot(normal, q.at) == 0)
 }
 
 /// A sphere through the origin: q is inside where orient · (orient |q|² - bound · q) is negative.
@@ -82,6 +102,16 @@ impl Pencil {
         }
     }
 
+    /// The circle through the three, which says where a vertex of their plane is; none where they are
+    /// on one line. It is seen along the first axis that is not in the plane, with squared lengths in
+    /// space: the sphere whose fourth corner is that direction.
+    fn circle(&self) -> Option<Sphere> {
+        let across = self.normal.iter().position(|&x| x != 0)?;
+        let mut axis = Lifted { at: [0; 3], square: 0 };
+        axis.at[across] = 1;
+        self.sphere(&axis)
+    }
+
     /// Is s off the plane of the three, and w in it or on its other side?
     fn separates(&self, s: &Lifted, w: &Lifted) -> bool {
         let [i, j] = [s, w].map(|q| dot(self.normal, q.at));
@@ -121,7 +151,7 @@ pub struct Faces {
 }
 
 impl Faces {
-    /// The faces of the fours that count, or 12.
+    /// The faces of the fours that count, of a flat polygon the threes that do, or 12.
     pub fn of(polygon: &Polygon) -> Result<Faces, u32> {
         let mut faces = Faces {
             n: polygon.n,
@@ -129,7 +159,12 @@ impl Faces {
             candidates: 0,
             rows: 0,
         };
-        faces.mark(polygon)?;
+        let vertices = &polygon.vertices[..polygon.n];
+        if is_flat(vertices) {
+            faces.mark_threes(vertices)?;
+        } else {
+            faces.mark_fours(vertices)?;
+        }
         faces.count();
         Ok(faces)
     }
@@ -150,19 +185,34 @@ impl Faces {
         self.insert(b, c, d);
     }
 
-    fn mark(&mut self, polygon: &Polygon) -> Result<(), u32> {
-        let n = polygon.n;
-        let vertices = &polygon.vertices[..n];
-        let mut lifted = [Lifted { at: [0; 3], square: 0 }; 64];
+    fn mark_threes(&mut self, vertices: &[Vector]) -> Result<(), u32> {
+        let n = vertices.len();
+        // What dropped the last three.
+        let mut dropper = 0;
+        for a in 0..n - 2 {
+            let lifted = &lift(vertices, a)[..n];
+            for b in a + 1..n - 1 {
+                for c in b + 1..n {
+                    let pencil = Pencil::new(lifted[b], lifted[c]);
+                    let Some(circle) = pencil.circle() else { continue };
+                    match circle.scan(lifted, dropper) {
+                        Scan::Inside(v) => dropper = v,
+                        Scan::Empty { on } if on > 3 => return Err(12),
+                        Scan::Empty { .. } => self.insert(a, b, c),
+                    }
+                }
+            }
+        }
+        Ok(())
+    }
+
+    fn mark_fours(&mut self, vertices: &[Vector]) -> Result<(), u32> {
+        let n = vertices.len();
         // What dropped the last four, and the fourth corner of the last three that was left.
         let mut dropper = 0;
         let mut apex = 0;
         for a in 0..n - 3 {
-            for (place, &vertex) in lifted.iter_mut().zip(vertices) {
-                let at = minus(vertex, vertices[a]);
-                *place = Lifted { at, square: dot(at, at) };
-            }
-            let lifted = &lifted[..n];
+            let lifted = &lift(vertices, a)[..n];
             for b in a + 1..n - 2 {
                 'three: for c in b + 1..n - 1 {
                     let pencil = Pencil::new(lifted[b], lifted[c]);

@@ -1,7 +1,8 @@
-//! Candidates, weights and rows of a rim (rules 2.1 to 2.15), or number 12.
+//! Candidates, weights and rows of a rim (rules 2.1 to 2.19), or number 12.
 
 use super::reader::{Point, Rim};
 use crate::calls::{Row, Triangle};
+use crate::jobs::all_triples;
 use std::collections::BTreeSet;
 
 #[derive(Clone, Debug, PartialEq, Eq)]
@@ -11,7 +12,32 @@ pub struct Lists {
     pub rows: Vec<Row>,
 }
 
-/// The centre of a sphere: three numerators over one denominator, which is not zero.
+/// The points x with across · x = offset: a plane, unless `across` is three zeros.
+#[derive(Clone, Copy)]
+struct Plane {
+    across: [i128; 3],
+    offset: i128,
+}
+
+impl Plane {
+    /// x is as far from p as from q where 2 (q - p) · x = |q|² - |p|².
+    fn between(p: Point, q: Point) -> Plane {
+        let across = [0, 1, 2].map(|k| 2 * (q[k] - p[k]) as i128);
+        Plane { across, offset: squared(q) - squared(p) }
+    }
+
+    /// The plane of three points that are not on one line.
+    fn through(three: [Point; 3]) -> Plane {
+        let across = normal(&three, [0, 1, 2]).map(i128::from);
+        Plane { across, offset: dot(across, three[0]) }
+    }
+
+    fn holds(&self, p: Point) -> bool {
+        dot(self.across, p) == self.offset
+    }
+}
+
+/// The centre of a sphere or circle: three numerators over one denominator, which is not zero.
 #[derive(Clone, Copy, Debug)]
 pub struct Centre {
     pub numerators: [i128; 3],
@@ -24,28 +50,40 @@ fn determinant(m: [[i128; 3]; 3]) -> i128 {
         + m[0][2] * (m[1][0] * m[2][1] - m[1][1] * m[2][0])
 }
 
-fn squared(p: Point) -> i128 {
-    p.iter().map(|&x| x as i128 * x as i128).sum()
+fn dot(u: [i128; 3], p: Point) -> i128 {
+    u.iter().zip(p).map(|(&x, y)| x * y as i128).sum()
 }
 
-/// The centre of the sphere through four points; none where they are in one plane.
-pub fn centre([o, p, q, r]: [Point; 4]) -> Option<Centre> {
-    // x is as far from p as from o where 2 (p - o) · x = |p|² - |o|²; Cramer's rule for three such.
-    let plane = |s: Point| [0, 1, 2].map(|k| 2 * (s[k] - o[k]) as i128);
-    let planes = [plane(p), plane(q), plane(r)];
-    let right = [p, q, r].map(|s| squared(s) - squared(o));
-    let denominator = determinant(planes);
+fn squared(p: Point) -> i128 {
+    dot(p.map(i128::from), p)
+}
+
+/// The point that three planes share, by Cramer's rule; none where they do not share just one.
+fn shared_point(planes: [Plane; 3]) -> Option<Centre> {
+    let rows = planes.map(|plane| plane.across);
+    let denominator = determinant(rows);
     if denominator == 0 {
         return None;
     }
     let numerators = [0, 1, 2].map(|column| {
-        let mut replaced = planes;
-        for (row, value) in replaced.iter_mut().zip(right) {
-            row[column] = value;
+        let mut replaced = rows;
+        for (row, plane) in replaced.iter_mut().zip(planes) {
+            row[column] = plane.offset;
         }
         determinant(replaced)
     });
     Some(Centre { numerators, denominator })
+}
+
+/// The centre of the sphere through four points (rule 2.2); none where they are in one plane.
+pub fn centre_of_sphere([o, p, q, r]: [Point; 4]) -> Option<Centre> {
+    shared_point([p, q, r].map(|s| Plane::between(o, s)))
+}
+
+/// The centre of the circle through three points (rule 2.18), which is in their plane; none where
+/// they are on one line.
+pub fn centre_of_circle([o, p, q]: [Point; 3]) -> Option<Centre> {
+    shared_point([Plane::between(o, p), Plane::between(o, q), Plane::through([o, p, q])])
 }
 
 /// The squared distance to the centre, times the squared denominator.
@@ -54,56 +92,83 @@ pub fn squared_distance(centre: &Centre, p: Point) -> i128 {
     (0..3).map(|k| apart(k) * apart(k)).sum()
 }
 
-/// What a four is to its rim.
-enum Four {
+/// What three or four vertices are to their rim.
+enum Judged {
     Dropped,
     Counts,
-    /// It counts, and a fifth vertex is on its sphere.
-    Cospherical,
+    /// They count, and another vertex is on their circle or sphere.
+    OneMore,
 }
 
-fn judge(points: &[Point], corners: [usize; 4]) -> Four {
-    let Some(centre) = centre(corners.map(|k| points[k])) else {
-        return Four::Dropped;
+/// Rules 2.3 and 2.19.
+fn judge(points: &[Point], corners: &[u8], centre: Option<Centre>) -> Judged {
+    let Some(centre) = centre else {
+        return Judged::Dropped;
     };
-    let radius = squared_distance(&centre, points[corners[0]]);
-    let mut fifth = false;
+    let radius = squared_distance(&centre, points[corners[0] as usize]);
+    let mut one_more = false;
     for (k, &point) in points.iter().enumerate() {
         let distance = squared_distance(&centre, point);
         if distance < radius {
-            return Four::Dropped;
+            return Judged::Dropped;
         }
-        fifth = fifth || (distance == radius && !corners.contains(&k));
+        one_more = one_more || (distance == radius && !corners.contains(&(k as u8)));
     }
-    if fifth {
-        Four::Cospherical
+    if one_more {
+        Judged::OneMore
     } else {
-        Four::Counts
+        Judged::Counts
     }
 }
 
-/// Rule 2.4, as a set.
-fn faces(points: &[Point]) -> Result<BTreeSet<Triangle>, u32> {
-    let n = points.len();
-    let mut faces = BTreeSet::new();
-    for a in 0..n {
-        for b in a + 1..n {
-            for c in b + 1..n {
-                for d in c + 1..n {
-                    match judge(points, [a, b, c, d]) {
-                        Four::Dropped => {}
-                        Four::Cospherical => return Err(12),
-                        Four::Counts => {
-                            for face in [[a, b, c], [a, b, d], [a, c, d], [b, c, d]] {
-                                faces.insert(face.map(|k| k as u8));
-                            }
-                        }
-                    }
-                }
-            }
+/// Those of all threes or fours that count, or 12 (rule 4.12).
+fn counting<const N: usize>(
+    points: &[Point],
+    all: impl IntoIterator<Item = [u8; N]>,
+    centre: fn([Point; N]) -> Option<Centre>,
+) -> Result<Vec<[u8; N]>, u32> {
+    let mut counting = Vec::new();
+    for corners in all {
+        match judge(points, &corners, centre(corners.map(|k| points[k as usize]))) {
+            Judged::Dropped => {}
+            Judged::Counts => counting.push(corners),
+            Judged::OneMore => return Err(12),
         }
     }
-    Ok(faces)
+    Ok(counting)
+}
+
+/// Rule 2.5: some plane holds every vertex. Where three are not on one line, it can only be theirs.
+pub fn is_flat(points: &[Point]) -> bool {
+    let spans = |&three: &Triangle| normal(points, three) != [0; 3];
+    all_triples(points.len()).into_iter().find(spans).is_none_or(|three| {
+        let plane = Plane::through(three.map(|k| points[k as usize]));
+        points.iter().all(|&p| plane.holds(p))
+    })
+}
+
+/// Rule 2.19: the threes that count, as a set.
+pub fn threes(points: &[Point]) -> Result<BTreeSet<Triangle>, u32> {
+    let all = all_triples(points.len());
+    Ok(counting(points, all, centre_of_circle)?.into_iter().collect())
+}
+
+/// Rule 2.3: the faces of the fours that count, as a set.
+pub fn faces(points: &[Point]) -> Result<BTreeSet<Triangle>, u32> {
+    let n = points.len() as u8;
+    let all = all_triples(points.len()).into_iter();
+    let all = all.flat_map(|[a, b, c]| (c + 1..n).map(move |d| [a, b, c, d]));
+    let fours = counting(points, all, centre_of_sphere)?.into_iter();
+    Ok(fours.flat_map(|[a, b, c, d]| [[a, b, c], [a, b, d], [a, c, d], [b, c, d]]).collect())
+}
+
+/// Rule 2.4, as a set; or 12.
+pub fn candidates(points: &[Point]) -> Result<BTreeSet<Triangle>, u32> {
+    if is_flat(points) {
+        threes(points)
+    } else {
+        faces(points)
+    }
 }
 
 fn cross(u: Point, v: Point) -> Point {
@@ -133,8 +198,7 @@ pub fn bend(d: i128, m_inner: u64, m_outer: u64) -> u64 {
 
 /// The bend of two normals.
 pub fn bend_of(inner: Point, outer: Point) -> u64 {
-    let d = inner.iter().zip(outer).map(|(&x, y)| x as i128 * y as i128).sum();
-    bend(d, whole_length(inner), whole_length(outer))
+    bend(dot(inner.map(i128::from), outer), whole_length(inner), whole_length(outer))
 }
 
 /// Rule 2.9.
@@ -162,7 +226,7 @@ pub fn own_weight(rim: &Rim, t: Triangle, normal: Point) -> u64 {
 
 /// The candidates with their weights and rows, or 12.
 pub fn find(rim: &Rim) -> Result<Lists, u32> {
-    let candidates: Vec<Triangle> = faces(&rim.points)?.into_iter().collect();
+    let candidates: Vec<Triangle> = candidates(&rim.points)?.into_iter().collect();
     let normals: Vec<Point> = candidates.iter().map(|&t| normal(&rim.points, t)).collect();
     let own = |(&t, &normal)| own_weight(rim, t, normal) as u32;
     let weights = candidates.iter().zip(&normals).map(own).collect();

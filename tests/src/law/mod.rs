@@ -1,6 +1,6 @@
 //! A plain reference written from the rules of docs/SPECIFICATION.md, with nothing of the library's
-//! method: exact values of floats, spheres by their rational centres, triangulations as sets of
-//! candidates judged by edge counts.
+//! method: exact values of floats, spheres and circles by their rational centres, triangulations as
+//! sets of candidates judged by edge counts.
 
 pub mod conversion;
 pub mod finder;
@@ -41,10 +41,6 @@ impl Law {
     }
 }
 
-fn fill<T: Copy>(table: &mut [T], list: &[T]) {
-    table[..list.len()].copy_from_slice(list);
-}
-
 /// Rule 4.13: the candidate, weight and row tables have a place for each element of the lists.
 fn lists_fit(lists: &Lists, tables: &Tables) -> bool {
     lists.candidates.len() <= tables.candidates.view().len()
@@ -53,9 +49,9 @@ fn lists_fit(lists: &Lists, tables: &Tables) -> bool {
 }
 
 fn write_lists(lists: &Lists, tables: &mut Tables) {
-    fill(tables.candidates.table(), &lists.candidates);
-    fill(tables.weights.table(), &lists.weights);
-    fill(tables.rows.table(), &lists.rows);
+    tables.candidates.fill(&lists.candidates);
+    tables.weights.fill(&lists.weights);
+    tables.rows.fill(&lists.rows);
 }
 
 /// Rules 3.8 and 3.9, after a patch or 'none': zero in one work place per candidate, and the
@@ -65,7 +61,7 @@ fn write_patch(best: Option<Tiling>, candidates: usize, tables: &mut Tables) -> 
     match best {
         None => PatchAnswer::NONE,
         Some(tiling) => {
-            fill(tables.triangles.table(), &tiling.walk);
+            tables.triangles.fill(&tiling.walk);
             PatchAnswer { number: 0, triangles: tiling.walk.len(), total: tiling.total }
         }
     }
@@ -148,7 +144,7 @@ impl Calls for Law {
         match conversion::convert(file, out.view().len()) {
             Err(number) => ConvertAnswer::refused(number),
             Ok(Converted { edition, bytes }) => {
-                fill(out.table(), &bytes);
+                out.fill(&bytes);
                 ConvertAnswer { number: 0, edition, length: bytes.len() }
             }
         }

@@ -13,10 +13,7 @@ returns-2 : tie.Need-returns-2
 returns-2 c = sym (no true _ (ne-eqb _ _ (c .before .if1 .left)) ∙ yes true _ (eq-eqb _ _ (c .if2 .taken)))
 
 returns-3 : tie.Need-returns-3
-returns-3 c = sym (no true _ (ne-eqb _ _ (c .before .before .if1 .left)) ∙ no true _ (ne-eqb _ _ (c .before .if2 .left)) ∙ yes true _ (eq-eqb _ _ (c .if3 .taken)))
-
-returns-4 : tie.Need-returns-4
-returns-4 c = sym (no true _ (ne-eqb _ _ (c .before .before .if1 .left)) ∙ no true _ (ne-eqb _ _ (c .before .if2 .left)) ∙ no true _ (ne-eqb _ _ (c .if3 .left)))
+returns-3 c = sym (no true _ (ne-eqb _ _ (c .before .if1 .left)) ∙ no true _ (ne-eqb _ _ (c .if2 .left)))
 
 pub is-corner-spec : {M : Type 1} → statement M
-is-corner-spec = tie.close (tie.spec returns returns-2 returns-3 returns-4)
+is-corner-spec = tie.close (tie.spec returns returns-2 returns-3)

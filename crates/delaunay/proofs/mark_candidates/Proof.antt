@@ -4,17 +4,17 @@ use Rattle.delaunay.proofs.Marking.{marked-none, marked-all}
 use Rattle.delaunay.proofs.mark_candidates.Statement.{statement}
 use Rattle.delaunay.proofs.mark_candidates.Tie as tie
 
-mark-fours-requires : tie.Need-mark-fours-requires
-mark-fours-requires c κs = search needs
+search-requires : tie.Need-search-requires
+search-requires c κs = search needs
 
 clear-requires : tie.Need-clear-requires
 clear-requires c κs = search needs
 
 returns : tie.Need-returns
-returns c = marked-none (c .before .before .before .mark-fours .ensures) (c .before .before .if1 .taken) (c .clear .ensures)
+returns c = marked-none (c .before .before .before .search .ensures) (c .before .before .if1 .taken) (c .clear .ensures)
 
 returns-2 : tie.Need-returns-2
-returns-2 c = marked-all (c .before .mark-fours .ensures) (c .if1 .left)
+returns-2 c = marked-all (c .before .search .ensures) (c .if1 .left)
 
 pub mark-candidates-spec : {M : Type 1} → statement M
-mark-candidates-spec = tie.close (tie.spec mark-fours-requires clear-requires returns returns-2)
+mark-candidates-spec = tie.close (tie.spec search-requires clear-requires returns returns-2)

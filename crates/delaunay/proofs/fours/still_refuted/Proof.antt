@@ -1,9 +1,9 @@
--- `delaunay::still_refuted` meets its contract. Assumes nothing.
+-- `delaunay::fours::still_refuted` meets its contract. Assumes nothing.
 use mathlib.Core.Path.{refl, sym, _∙_}
 use borrow.Author.Needs.{needs}
 use Rattle.lists.proofs.Choice.{true-not-false}
-use Rattle.delaunay.proofs.still_refuted.Statement.{statement}
-use Rattle.delaunay.proofs.still_refuted.Tie as tie
+use Rattle.delaunay.proofs.fours.still_refuted.Statement.{statement}
+use Rattle.delaunay.proofs.fours.still_refuted.Tie as tie
 
 add-if1 : tie.Need-add-if1
 add-if1 c = search needs

@@ -1,4 +1,4 @@
--- `delaunay::mark_fours` meets its contract: at each loop's head what is marked and what is left make up all candidates. Assumes nothing.
+-- `delaunay::fours::mark_fours` meets its contract: at each loop's head what is marked and what is left make up all candidates. Assumes nothing.
 use mathlib.Core.Path.{_≡_, refl, sym, _∙_, subst, subst₂}
 use mathlib.Core.Bool.{true}
 use mathlib.Core.List.{List}
@@ -13,13 +13,14 @@ use Rattle.geometry.specs.declared.sphere.Sphere.{Sphere}
 use Rattle.geometry.specs.Bounds.{SphereBounds}
 use Rattle.geometry.proofs.Spheres.{not-tagged}
 use Rattle.faces.proofs.Fours.{left1, left2, left3, left4, into2, into3, into4, out2, out3, out4}
-use Rattle.delaunay.specs.Candidates.{counts}
-use Rattle.delaunay.proofs.Marking.{hasFifth, Kept, kept-start, kept-turn, kept-then, kept-skip, kept-leave, twelve-due, all-marked}
-use Rattle.delaunay.proofs.Scanning.{Scanned, Passed, scanned-in, not-counts-flat}
+use Rattle.delaunay.specs.Candidates.{insideFour, counts, isFifth}
+use Rattle.delaunay.proofs.Marking.{kept-start, kept-turn, kept-then}
+use Rattle.delaunay.proofs.Scanning.{Scanned, Passed, scanned-in}
+use Rattle.delaunay.proofs.Counting.{not-counts-flat}
 use Rattle.delaunay.proofs.Corners.{Three, lift-in, vertex-in, pencil-in, none-counts, sphere-in, flat-is}
-use Rattle.delaunay.proofs.Fours.{Four, four-dropped, three-left, vertex-passed, four-counts, fifth-passed, four-cospherical, four-marked}
-use Rattle.delaunay.proofs.mark_fours.Statement.{statement}
-use Rattle.delaunay.proofs.mark_fours.Tie as tie
+use Rattle.delaunay.proofs.Tetrahedra.{hasFifth, Kept, kept-skip, kept-leave, Four, four-dropped, three-left, vertex-passed, four-counts, fifth-passed, four-cospherical, four-marked, twelve-due, all-marked}
+use Rattle.delaunay.proofs.fours.mark_fours.Statement.{statement}
+use Rattle.delaunay.proofs.fours.mark_fours.Tie as tie
 
 -- the vertices that are remembered
 record Hints (n last apex : ℕ) : Type 0 where
@@ -32,7 +33,7 @@ record Scan (p : Polygon) (a b c₀ d₀ last apex c d i : ℕ) : Type 0 where
   same-d : d ≡ d₀
   ahead : i ≤ p .n + 1
   known : Hints (p .n) last apex
-  scanned : Scanned p a b c d (i - 1)
+  scanned : Scanned (p .n) (insideFour p a b c d) (i - 1)
 
 abbrev Inv-loop3 : tie.InvT-loop3
 Inv-loop3 p masks n last₀ apex₀ a lifted b c₀ pencil d₀ ball i₀ a-end b-end c-end i-end last apex c d i = Scan p a b c₀ d₀ last apex c d i
@@ -41,7 +42,7 @@ abbrev μ-loop3 : tie.MeasureT-loop3
 μ-loop3 p masks n last₀ apex₀ a lifted b c₀ pencil d₀ ball i₀ a-end b-end c-end i-end last apex c d i = n + 1 - i
 
 abbrev Inv-loop4 : tie.InvT-loop4
-Inv-loop4 p masks n last apex a lifted b c pencil d ball v₀ a-end b-end c-end v = Passed p a b c d v
+Inv-loop4 p masks n last apex a lifted b c pencil d ball v₀ a-end b-end c-end v = Passed (p .n) (isFifth p a b c d) v
 
 abbrev μ-loop4 : tie.MeasureT-loop4
 μ-loop4 p masks n last apex a lifted b c pencil d ball v₀ a-end b-end c-end v = n - v
@@ -196,7 +197,7 @@ three-again : At tie.Need-three-again
 three-again c =
     let k = c .before .before .before .before in
     let g = at k in
-    (hints g, kept-leave _ _ _ _ (entered g) (none-counts (three k) _ _ (hints g .apex<n) (hints g .last<n) (c .before .still-refuted .ensures (c .if1 .taken))))
+    (hints g, kept-leave _ _ _ _ _ (entered g) (none-counts (three k) _ _ (hints g .apex<n) (hints g .last<n) (c .before .still-refuted .ensures (c .if1 .taken))))
 
 add-d : At tie.Need-add-d
 add-d c = let g = at (c .before .before .before .before) in omega (arith, valid g .most, c<n g)
@@ -247,7 +248,7 @@ four-again c =
     let s = c .before .before .before .before .before in
     let e = c .before .before .before .circumsphere .ensures in
     let flat = zero-bits _ (signed-fits tt (sphere-in (triangle s) (D s) (d<n s) e .orient-in)) (c .if2 .taken) in
-    (same-c s, known s, kept-skip _ _ _ (D s) (s .before .four .inv .2) (d<n s) (not-counts-flat _ _ _ _ _ (sym (flat-is (triangle s) (D s) (d<n s) e) ∙ flat)))
+    (same-c s, known s, kept-skip _ _ _ _ (D s) (s .before .four .inv .2) (d<n s) (not-counts-flat _ _ _ _ _ (sym (flat-is (triangle s) (D s) (d<n s) e) ∙ flat)))
 
 -- they are not in one plane
 module _ (e : At tie.Else2) where
@@ -403,7 +404,7 @@ returns c =
     let l = q .before in
     let g = base (tried l) in
     let P = hasFifth (polygon g) in
-    twelve-due
+    twelve-due (polygon g)
     (sym (g .before .before .before .before .before .before .loop .inv .1 .twelve) ∙ into2 _ P _ (a<n g)
     ∙ sym (g .before .before .before .loop2 .inv .1 .twelve) ∙ into3 _ P _ _ (b<n g)
     ∙ sym (entered g .twelve)
@@ -477,7 +478,7 @@ loop-again : At tie.Need-loop-again
 loop-again c = (c .before .loop2 .inv .0, kept-turn (λ P. out2 _ P _ _ (omega (arith, c .loop2-test .left))) (kept-then (kept-turn (λ P. into2 _ P _ (omega (arith, c .before .before .before .loop-test .taken))) (c .before .before .before .before .loop .inv .1)) (c .before .loop2 .inv .1)))
 
 returns-2 : At tie.Need-returns-2
-returns-2 c = all-marked _ (omega (arith, c .loop-test .left)) (c .before .loop .inv .1)
+returns-2 c = all-marked (c .before .before .args .p) _ (c .before .before .pre .0 .most) (omega (arith, c .loop-test .left)) (c .before .loop .inv .1)
 
 pub mark-fours-spec : {M : Type 1} → statement M
 mark-fours-spec =

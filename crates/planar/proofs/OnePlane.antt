@@ -1,23 +1,20 @@
 -- Points whose coordinates satisfy one equation of a plane: any four of them are in one plane. Assumes nothing.
--- So a polygon in one plane has no four that counts. Three vertices have no four at all.
 use mathlib.Core.Path.{_≡_, refl, sym, _∙_, ap}
 use mathlib.Core.List.{List, [], _∷_}
 use mathlib.Core.Bool.{Bool, true, false}
-use Prim.Native.Nat.{ℕ, zero, suc, _*_}
-use native.Mathlib.Omega.{arith}
-use lib.IntN.{ℤ, pos, negsuc, natAbs, _+ℤ_, _*ℤ_, zero-*ℤ}
+use lib.IntN.{ℤ, pos, _+ℤ_, _*ℤ_, zero-*ℤ}
 use Rattle.grid.specs.declared.GridPoint.{GridPoint}
 use Rattle.geometry.specs.declared.Vector.{Vector}
 use Rattle.integers.proofs.Laws.{sub-self}
-use Rattle.integers.proofs.Bounds.{natAbs-mul}
 use Rattle.integers.proofs.Order.{equal-is, true≢false}
 use Rattle.integers.proofs.Ring.{E, var, _:-_, _:*_, ring}
 use Rattle.geometry.specs.Vectors.{differenceOf, dotOf, crossOf}
 use Rattle.geometry.specs.Spheres.{orientOf, coplanar}
 use Rattle.geometry.proofs.Terms.{VectorE, vec, dotE, crossE, scaledE, plusE, orientE}
+use Rattle.planar.proofs.Zero.{no-divisor}
 
 -- how far p lies along n: the equation of a plane is `along n p ≡ k`
-abbrev pub along : Vector → GridPoint → ℤ
+abbrev along : Vector → GridPoint → ℤ
 along n p = n .x *ℤ p .x +ℤ n .y *ℤ p .y +ℤ n .z *ℤ p .z
 
 along-difference : (n : Vector) (p q : GridPoint) → along n q ≡ along n p → dotOf n (differenceOf q p) ≡ pos 0
@@ -52,22 +49,6 @@ module _ (n u v t : Vector) where
     by-z : dotOf u (crossOf v t) *ℤ n .z ≡ pos 0
     by-z = ring values (fourE :* var 2) (sumE .Z) tt ∙ none (crossOf v t .z) (crossOf t u .z) (crossOf u v .z) hu hv ht
 
--- a product that is 0, with a factor that is not
-no-divisor : (a b : ℤ) → a *ℤ b ≡ pos 0 → (a ≡ pos 0 → ⊥) → b ≡ pos 0
-no-divisor a b e h = go a b (sym (natAbs-mul a b) ∙ ap natAbs e) h
-  where
-    product : (x y : ℕ) → suc x * suc y ≡ 0 → ⊥
-    product x y e = omega arith
-
-    go : (a b : ℤ) → natAbs a * natAbs b ≡ 0 → (a ≡ pos 0 → ⊥) → b ≡ pos 0
-    go (pos zero) b e h = absurd (h refl)
-    go (pos (suc x)) (pos zero) e h = refl
-    go (pos (suc x)) (pos (suc y)) e h = absurd (product x y e)
-    go (pos (suc x)) (negsuc y) e h = absurd (product x y e)
-    go (negsuc x) (pos zero) e h = refl
-    go (negsuc x) (pos (suc y)) e h = absurd (product x y e)
-    go (negsuc x) (negsuc y) e h = absurd (product x y e)
-
 -- four points on one plane, whose normal has a coordinate that is not 0
 pub one-plane : (n : Vector) (k : ℤ) (p q r s : GridPoint) → (n .x ≡ pos 0 → n .y ≡ pos 0 → n .z ≡ pos 0 → ⊥) →
     along n p ≡ k → along n q ≡ k → along n r ≡ k → along n s ≡ k → coplanar p q r s ≡ true
@@ -89,6 +70,6 @@ one-plane n k p q r s h hp hq hr hs = go (coplanar p q r s) refl
         let o = dotOf (differenceOf q p) (crossOf (differenceOf r p) (differenceOf s p)) in
         let f : (o ≡ pos 0 → ⊥) = λ z. true≢false (sym (equal-is z) ∙ e) in
         absurd (h
-        (no-divisor o (n .x) (by-x n (differenceOf q p) (differenceOf r p) (differenceOf s p) hu hv ht) f)
-        (no-divisor o (n .y) (by-y n (differenceOf q p) (differenceOf r p) (differenceOf s p) hu hv ht) f)
-        (no-divisor o (n .z) (by-z n (differenceOf q p) (differenceOf r p) (differenceOf s p) hu hv ht) f))
+        (no-divisor o (n .x) f (by-x n (differenceOf q p) (differenceOf r p) (differenceOf s p) hu hv ht))
+        (no-divisor o (n .y) f (by-y n (differenceOf q p) (differenceOf r p) (differenceOf s p) hu hv ht))
+        (no-divisor o (n .z) f (by-z n (differenceOf q p) (differenceOf r p) (differenceOf s p) hu hv ht)))

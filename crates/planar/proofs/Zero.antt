@@ -1,0 +1,44 @@
+-- Numbers and vectors that are 0, and the order of two numbers. Assumes nothing.
+use mathlib.Core.Path.{_≡_, refl, sym, _∙_, ap}
+use Prim.Native.Nat.{ℕ, zero, suc, _+_, _*_, _<_}
+use native.Mathlib.Decide.{decLt}
+use native.Mathlib.Omega.{arith}
+use lib.IntN.{ℤ, pos, negsuc, negℤ, natAbs, _+ℤ_, _*ℤ_, negℤ-negℤ}
+use Rattle.geometry.specs.declared.Vector.{Vector}
+use Rattle.integers.proofs.Laws.{neg-mul}
+use Rattle.integers.proofs.Order.{equal-is, equal-yes, equal-multiple}
+use Rattle.geometry.specs.Vectors.{squareOf}
+use Rattle.geometry.proofs.Faces.{zero-vector}
+use Rattle.planar.specs.Planes.{zeroVector}
+
+-- a product that is 0, with a factor that is not
+pub no-divisor : (a b : ℤ) → (a ≡ pos 0 → ⊥) → a *ℤ b ≡ pos 0 → b ≡ pos 0
+no-divisor (pos zero) b h e = absurd (h refl)
+no-divisor (pos (suc n)) b h e = equal-yes b (pos 0) (sym (equal-multiple n b) ∙ equal-is e)
+no-divisor (negsuc n) b h e =
+    let f : pos (suc n) *ℤ b ≡ pos 0 = sym (negℤ-negℤ (pos (suc n) *ℤ b)) ∙ ap negℤ (sym (neg-mul (pos (suc n)) b) ∙ e) in
+    equal-yes b (pos 0) (sym (equal-multiple n b) ∙ equal-is f)
+
+-- a vector is 0 exactly where its squared length is: the other way round `zero-vector` of geometry/proofs/Faces.antt
+pub zero-square : (n : Vector) → n .x ≡ pos 0 → n .y ≡ pos 0 → n .z ≡ pos 0 → squareOf n ≡ pos 0
+zero-square n ex ey ez = λ i. ex i *ℤ ex i +ℤ ey i *ℤ ey i +ℤ ez i *ℤ ez i
+
+pub vanishes : (v : Vector) → squareOf v ≡ pos 0 → v ≡ zeroVector
+vanishes v h = let e = zero-vector v h in λ i. record { x = e .0 i; y = e .1 i; z = e .2 i }
+
+pub vanished : (v : Vector) → v ≡ zeroVector → squareOf v ≡ pos 0
+vanished v e = ap squareOf e
+
+-- two numbers, one before the other or the same
+pub data Compared (a b : ℕ) : Type 0 where
+  less : a < b → Compared a b
+  same : a ≡ b → Compared a b
+  more : b < a → Compared a b
+
+pub compared : (a b : ℕ) → Compared a b
+compared a b = go (decLt a b) (decLt b a)
+  where
+    go : Dec (a < b) → Dec (b < a) → Compared a b
+    go (yes h) k = less h
+    go (no h) (yes k) = more k
+    go (no h) (no k) = same (omega arith)

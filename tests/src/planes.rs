@@ -1,0 +1,109 @@
+//! Flat rims: outlines in the steps of a plane of grid points, tilted as a rule.
+
+use crate::law::finder::normal;
+use crate::random::Random;
+use crate::rims::Point;
+use std::f64::consts::TAU;
+
+/// A point of a plane, in steps along its two directions.
+pub type Step = [i64; 2];
+
+/// The directions of a plane, which are not parallel.
+pub type Directions = [Point; 2];
+
+/// Directions of one length at a right angle: what is a square in steps is one in space.
+pub const SQUARE: [Directions; 6] = [
+    [[1, 0, 0], [0, 1, 0]],
+    [[0, 0, 1], [1, 0, 0]],
+    [[0, -1, 0], [0, 0, 1]],
+    [[3, 4, 0], [0, 0, 5]],
+    [[1, 2, 2], [2, 1, -2]],
+    [[2, 3, 6], [3, -6, 2]],
+];
+
+#[derive(Clone, Copy, Debug)]
+pub struct Plane {
+    origin: Point,
+    along: Directions,
+}
+
+impl Plane {
+    /// A plane along these directions, in which all steps up to so many are on the grid; none where
+    /// the directions are too long for that.
+    pub fn along(along: Directions, reach: i64, random: &mut Random) -> Option<Plane> {
+        let free = [0, 1, 2].map(|k| 1000 - reach * (along[0][k].abs() + along[1][k].abs()));
+        let fits = free.iter().all(|&free| free >= 0);
+        fits.then(|| Plane { origin: free.map(|free| random.between(-free, free)), along })
+    }
+
+    /// Any plane, in which all steps up to so many are on the grid.
+    pub fn any(reach: i64, random: &mut Random) -> Plane {
+        loop {
+            let size = random.one_of(&[1, 3, 20, 500]);
+            let mut any = || [0; 3].map(|_| random.between(-size, size));
+            let directions = [any(), any()];
+            let along = if random.once_in(3) { random.one_of(&SQUARE) } else { directions };
+            let plane = Plane::along(along, reach, random);
+            if let Some(plane) = plane.filter(|plane| plane.normal() != [0; 3]) {
+                return plane;
+            }
+        }
+    }
+
+    pub fn point(&self, [i, j]: Step) -> Point {
+        [0, 1, 2].map(|k| self.origin[k] + i * self.along[0][k] + j * self.along[1][k])
+    }
+
+    pub fn points(&self, steps: &[Step]) -> Vec<Point> {
+        steps.iter().map(|&step| self.point(step)).collect()
+    }
+
+    /// It looks to the side from which steps are seen counterclockwise.
+    pub fn normal(&self) -> Point {
+        normal(&self.points(&[[0, 0], [1, 0], [0, 1]]), [0, 1, 2])
+    }
+}
+
+/// The shapes of flat rims.
+#[derive(Clone, Copy, Debug, PartialEq, Eq)]
+pub enum Outline {
+    /// Convex but for noise.
+    Ring,
+    /// With vertices far out and near by turns, so that there are candidates outside.
+    Star,
+    Scattered,
+    /// The first vertices, three of them at least, are on one line, in any order.
+    Run,
+}
+
+impl Outline {
+    pub const ALL: [Outline; 4] = [Outline::Ring, Outline::Star, Outline::Scattered, Outline::Run];
+
+    /// So many vertices, counterclockwise where they go around, each of them up to so many steps.
+    pub fn steps(self, n: usize, reach: i64, random: &mut Random) -> Vec<Step> {
+        let offset = random.fraction() * TAU;
+        let on_line = random.between(3, n as i64) as usize;
+        let step = |k: usize| {
+            let angle = offset + TAU * k as f64 / n as f64;
+            let [one, two] = [random.fraction(), random.fraction()];
+            let around = |radius: f64| [radius * angle.cos(), radius * angle.sin()];
+            let at = match self {
+                Outline::Ring => around(0.85 + 0.15 * one),
+                Outline::Star if k % 2 == 0 => around(0.85 + 0.15 * one),
+                Outline::Star => around(0.4 + 0.2 * one),
+                Outline::Run if k < on_line => [2.0 * one - 1.0, 0.0],
+                Outline::Run | Outline::Scattered => [2.0 * one - 1.0, 2.0 * two - 1.0],
+            };
+            at.map(|x| (x * reach as f64).round() as i64)
+        };
+        (0..n).map(step).collect()
+    }
+}
+
+/// A flat rim of any outline in any plane. Where few steps are within reach, circles with a fourth
+/// vertex on them and vertices on one line are frequent.
+pub fn any_rim(n: usize, random: &mut Random) -> Vec<Point> {
+    let reach = random.one_of(&[2, 3, 6, 25, 200, 1000]);
+    let steps = random.one_of(&Outline::ALL).steps(n, reach, random);
+    Plane::any(reach, random).points(&steps)
+}
