@@ -12,6 +12,12 @@ pub fn all_triples(n: usize) -> Vec<Triangle> {
     pairs.flat_map(move |(a, b)| (b + 1..n).map(move |c| [a, b, c])).collect()
 }
 
+/// Every four of n vertices.
+pub fn all_fours(n: usize) -> Vec<[u8; 4]> {
+    let threes = all_triples(n).into_iter();
+    threes.flat_map(|[a, b, c]| (c + 1..n as u8).map(move |d| [a, b, c, d])).collect()
+}
+
 /// The job that the finder makes of a rim, which it accepts, in tables that are long enough.
 pub fn job_of(calls: &dyn Calls, file: &[u8], tables: &mut Tables) -> Job {
     let found = calls.find_candidates(file, tables);

@@ -23,8 +23,8 @@ pub const SQUARE: [Directions; 6] = [
 
 #[derive(Clone, Copy, Debug)]
 pub struct Plane {
-    origin: Point,
-    along: Directions,
+    pub origin: Point,
+    pub along: Directions,
 }
 
 impl Plane {
@@ -42,7 +42,7 @@ impl Plane {
             let size = random.one_of(&[1, 3, 20, 500]);
             let mut any = || [0; 3].map(|_| random.between(-size, size));
             let directions = [any(), any()];
-            let along = if random.once_in(3) { random.one_of(&SQUARE) } else { directions };
+            let along = if random.once_in(2) { random.one_of(&SQUARE) } else { directions };
             let plane = Plane::along(along, reach, random);
             if let Some(plane) = plane.filter(|plane| plane.normal() != [0; 3]) {
                 return plane;
@@ -58,7 +58,7 @@ impl Plane {
         steps.iter().map(|&step| self.point(step)).collect()
     }
 
-    /// It looks to the side from which steps are seen counterclockwise.
+    /// It looks to the side from which an outline runs counterclockwise.
     pub fn normal(&self) -> Point {
         normal(&self.points(&[[0, 0], [1, 0], [0, 1]]), [0, 1, 2])
     }
@@ -69,30 +69,25 @@ impl Plane {
 pub enum Outline {
     /// Convex but for noise.
     Ring,
-    /// With vertices far out and near by turns, so that there are candidates outside.
+    /// Far out and near by turns, so that there are candidates outside the polygon.
     Star,
     Scattered,
-    /// The first vertices, three of them at least, are on one line, in any order.
-    Run,
 }
 
 impl Outline {
-    pub const ALL: [Outline; 4] = [Outline::Ring, Outline::Star, Outline::Scattered, Outline::Run];
+    pub const ALL: [Outline; 3] = [Outline::Ring, Outline::Star, Outline::Scattered];
 
-    /// So many vertices, counterclockwise where they go around, each of them up to so many steps.
+    /// So many vertices within so many steps either way.
     pub fn steps(self, n: usize, reach: i64, random: &mut Random) -> Vec<Step> {
         let offset = random.fraction() * TAU;
-        let on_line = random.between(3, n as i64) as usize;
         let step = |k: usize| {
-            let angle = offset + TAU * k as f64 / n as f64;
             let [one, two] = [random.fraction(), random.fraction()];
+            let angle = offset + TAU * k as f64 / n as f64;
             let around = |radius: f64| [radius * angle.cos(), radius * angle.sin()];
             let at = match self {
-                Outline::Ring => around(0.85 + 0.15 * one),
-                Outline::Star if k % 2 == 0 => around(0.85 + 0.15 * one),
-                Outline::Star => around(0.4 + 0.2 * one),
-                Outline::Run if k < on_line => [2.0 * one - 1.0, 0.0],
-                Outline::Run | Outline::Scattered => [2.0 * one - 1.0, 2.0 * two - 1.0],
+                Outline::Star if k % 2 == 1 => around(0.2 + 0.3 * one),
+                Outline::Ring | Outline::Star => around(0.8 + 0.2 * one),
+                Outline::Scattered => [2.0 * one - 1.0, 2.0 * two - 1.0],
             };
             at.map(|x| (x * reach as f64).round() as i64)
         };
@@ -100,10 +95,21 @@ impl Outline {
     }
 }
 
-/// A flat rim of any outline in any plane. Where few steps are within reach, circles with a fourth
-/// vertex on them and vertices on one line are frequent.
+/// Scattered vertices, the first of them on one line.
+pub fn run(n: usize, on_line: usize, reach: i64, random: &mut Random) -> Vec<Step> {
+    let mut steps = Outline::Scattered.steps(n, reach, random);
+    steps[..on_line].iter_mut().for_each(|step| step[1] = 0);
+    steps
+}
+
+/// A flat rim of any kind. Where few steps are within reach, threes on one line and circles with a
+/// fourth vertex on them are frequent.
 pub fn any_rim(n: usize, random: &mut Random) -> Vec<Point> {
-    let reach = random.one_of(&[2, 3, 6, 25, 200, 1000]);
-    let steps = random.one_of(&Outline::ALL).steps(n, reach, random);
+    let reach = random.one_of(&[3, 4, 6, 25, 200, 1000]);
+    let on_line = random.between(3, n as i64) as usize;
+    let steps = match random.once_in(4) {
+        true => run(n, on_line, reach, random),
+        false => random.one_of(&Outline::ALL).steps(n, reach, random),
+    };
     Plane::any(reach, random).points(&steps)
 }

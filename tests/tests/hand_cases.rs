@@ -214,14 +214,14 @@ fn a_square_with_a_dent() {
     expect_rim(&points, [1, 1], &lists, &[0, 2, 3], 10_240);
 }
 
-/// A star of three points in the plane x + y + z = 0. The normals of its four triangles are 576 along
-/// each axis, those of the three candidates outside are -1600.
+/// A star of three points in the plane x + y + z = 0. The normals of its four triangles are 5184 along
+/// each axis, those of the three candidates outside are -14400.
 #[test]
 fn a_tilted_star() {
     let candidates = [[0, 1, 2], [0, 1, 5], [0, 4, 5], [1, 2, 3], [1, 3, 5], [2, 3, 4], [3, 4, 5]];
-    let weights = [2771, 997, 2771, 997, 997, 2771, 997];
+    let weights = [24_941, 8978, 24_941, 8978, 8978, 24_941, 8978];
     let lists = job(6, &candidates, &weights, &[[1, 4, 0], [4, 3, 0], [4, 6, 0]]);
-    expect_rim(&TILTED_STAR, [1, 1], &lists, &[1, 4, 3, 6], 3988);
+    expect_rim(&TILTED_STAR, [1, 1], &lists, &[1, 4, 3, 6], 35_912);
 }
 
 #[test]

@@ -34,9 +34,9 @@ use Rattle.triangulator.specs.Call.{numberOf}
 use Rattle.triangulator.specs.Demands.{Taken, a-patch, a-none}
 use Rattle.triangulator.proofs.Demands.{settled-taken}
 use Rattle.pipeline.specs.Patching.{Tables, Patching, refused, rowsIn, jobIn, tablesShort, patched, patchBy, polygonNumber, fileNumber, patchFile}
-use Rattle.demands.specs.Demand2.{Cospherical}
+use Rattle.demands.specs.Candidates.{Degenerate, on-sphere, on-circle}
 use Rattle.demands.specs.Demand1.{polygonIn, TooShort, triangles, candidates, weights, rows, work, CallDue, by-reader, twelve, thirteen}
-use Rattle.demands.proofs.Demand2.{degenerate-true, true-degenerate}
+use Rattle.demands.proofs.Candidates.{degenerate-true, true-degenerate}
 
 -- ---- 13, as a test and as a statement
 module _ (p : Polygon) (t : Tables) where
@@ -60,8 +60,9 @@ module _ (p : Polygon) (t : Tables) where
   true-short (rows h) = either-right (ltb (length (t .triangles)) (placesOf p .triangles)) _ (either-right (ltb (length (t .work)) (length (candidatesOf p))) _ (either-right (ltb (length (t .candidates)) (length (candidatesOf p))) _ (either-right (ltb (length (t .weights)) (length (candidatesOf p))) _ (lt-ltb _ _ h))))
 
 -- nothing is asked of the polygon that stands for a file which the reader refuses
-nothing-12 : Cospherical emptyPolygon → ⊥
-nothing-12 r = omega (arith, r .fifth<n)
+nothing-12 : Degenerate emptyPolygon → ⊥
+nothing-12 (on-sphere r) = omega (arith, r .fifth<n)
+nothing-12 (on-circle r) = omega (arith, r .fourth<n)
 
 nothing-13 : {t : Tables} → TooShort (placesOf emptyPolygon) t → ⊥
 unfolding upFrom
@@ -85,7 +86,7 @@ module _ (limit : ℕ) (file : List ℕ) (bytes : Bytes file) (t : Tables) where
 
       before : (p : Place) (j : ℕ) → Precedes p j (f .place) (suc k) → CallDue limit file t p j → ⊥
       before p j h (by-reader d) = f .none-before p j h d
-      before p j h (twelve d) = nothing-12 (subst (λ (x : Polygon). Cospherical x) empty d)
+      before p j h (twelve d) = nothing-12 (subst (λ (x : Polygon). Degenerate x) empty d)
       before p j h (thirteen d) = nothing-13 (subst (λ (x : Polygon). TooShort (placesOf x) t) empty d)
 
   -- ---- a file that is read

@@ -1,7 +1,9 @@
+pub mod Candidates
 pub mod Demand2
 pub mod Tables
 pub mod Demand1
 pub mod Demands
+pub mod Flat
 pub mod Sizes
 pub mod Conversion
 pub mod Base

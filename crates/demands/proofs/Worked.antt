@@ -26,7 +26,7 @@ use Rattle.integers.specs.Rounding.{rootDigits}
 use Rattle.geometry.specs.Faces.{lengthOf, ratioOf, bendOf}
 use Rattle.geometry.specs.Spheres.{orientOf, centreOf, distanceOf}
 use Rattle.faces.specs.Faces.{isFace}
-use Rattle.delaunay.specs.Candidates.{counts, isCandidate, candidatesOf, cospherical}
+use Rattle.delaunay.specs.Candidates.{counts, isFaceOfFour, isFlat, isCandidate, candidatesOf, cospherical, degenerate}
 use Rattle.dihedrals.specs.Dihedrals.{rowsOf}
 use Rattle.weights.specs.Weights.{edgeNormal, outsideWeightOf, weightsOf}
 use Rattle.jobs.specs.Job.{ascends, before, candidateFits, hangs, namesPair, rowBefore, rowFits, listsCode, jobCode}
@@ -112,11 +112,11 @@ tilings-P = refl
 -- what does not depend on the normals: candidates, 12 and rows
 module _ (normals : List Normal) where
   candidates-are : candidatesOf (rimWith normals) ≡ triplesP
-  unfolding upFrom everyFrom someFrom orientOf centreOf distanceOf isFace counts isCandidate
+  unfolding upFrom everyFrom someFrom orientOf centreOf distanceOf isFace counts isFaceOfFour isFlat isCandidate
   candidates-are = refl
 
-  no-12 : cospherical (rimWith normals) ≡ false
-  unfolding upFrom everyFrom someFrom orientOf centreOf distanceOf counts cospherical
+  no-12 : degenerate (rimWith normals) ≡ false
+  unfolding upFrom everyFrom someFrom orientOf centreOf distanceOf counts cospherical isFlat degenerate
   no-12 = refl
 
   rows-of : rowsOf (rimWith normals) triplesP ≡ rowsP

@@ -9,7 +9,7 @@ use Rattle.reader.specs.Reading.{readingOf}
 use Rattle.finder.specs.declared.Places.{Places}
 use Rattle.finder.specs.Sizes.{placesOf}
 use Rattle.pipeline.specs.Patching.{Tables}
-use Rattle.demands.specs.Demand2.{Cospherical}
+use Rattle.demands.specs.Candidates.{Degenerate}
 
 -- the polygon of a file read with a limit: its vertices are what the records give (`read-vertices` of reader/proofs/Accepted.antt), and none where the
 -- reader refuses the file, so that 12 and 13 are asked only of what there is (rule 4.31)
@@ -27,5 +27,5 @@ pub data TooShort (needed : Places) (t : Tables) : Type 0 where
 -- number k is due on a call with a limit (rules 4.1 to 4.14, 4.18 and 4.20), at its place; 12 and 13 on the rim as a whole
 pub data CallDue (limit : ℕ) (file : List ℕ) (t : Tables) : Place → ℕ → Type 0 where
   by-reader : {p : Place} {k : ℕ} → DueAt limit file p k → CallDue limit file t p k
-  twelve : Cospherical (polygonIn limit file) → CallDue limit file t rim 12
+  twelve : Degenerate (polygonIn limit file) → CallDue limit file t rim 12
   thirteen : TooShort (placesOf (polygonIn limit file)) t → CallDue limit file t rim 13

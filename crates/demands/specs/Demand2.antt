@@ -1,49 +1,17 @@
 -- Demand 2 as a statement about lists of candidates, weights and rows, and about the tables after a call. Definitions only.
 use mathlib.Core.Path.{_≡_}
-use mathlib.Core.Bool.{true, false}
+use mathlib.Core.Bool.{true}
 use mathlib.Core.List.{List, List·Memᴰ}
 use Prim.Native.Nat.{ℕ, _+_, _*_, _≤_, _<_}
 use lib.ListN.{length, take, drop, getD}
 use Rattle.polygon.specs.declared.Polygon.{Polygon}
 use Rattle.geometry.specs.Faces.{lengthOf, bendBetween}
-use Rattle.geometry.specs.Spheres.{coplanar, strictlyInside, onSphere}
 use Rattle.terms.specs.Limits.{maxWeight}
 use Rattle.terms.specs.Entries.{triple, entryAt, outer, inner, rowWeight}
 use Rattle.jobs.specs.Job.{before, rowBefore, hangs}
-use Rattle.delaunay.specs.Candidates.{vertex}
 use Rattle.dihedrals.specs.Dihedrals.{faceNormal}
 use Rattle.weights.specs.RimEdges.{rimBends}
-
--- the four vertices a < b < c < d count (rule 2.3): they are not in one plane, and no vertex is strictly inside their sphere
-pub record Counts (p : Polygon) (a b c d : ℕ) : Type 0 where
-  pub a<b : a < b
-  pub b<c : b < c
-  pub c<d : c < d
-  pub d<n : d < p .n
-  pub solid : coplanar (vertex p a) (vertex p b) (vertex p c) (vertex p d) ≡ false
-  pub empty : (v : ℕ) → v < p .n → strictlyInside (vertex p a) (vertex p b) (vertex p c) (vertex p d) (vertex p v) ≡ false
-
--- (x, y, z) is a face of four vertices that count (rule 2.4)
-pub data Face (p : Polygon) : ℕ → ℕ → ℕ → Type 0 where
-  abc : (a b c d : ℕ) → Counts p a b c d → Face p a b c
-  abd : (a b c d : ℕ) → Counts p a b c d → Face p a b d
-  acd : (a b c d : ℕ) → Counts p a b c d → Face p a c d
-  bcd : (a b c d : ℕ) → Counts p a b c d → Face p b c d
-
--- four vertices that count have a fifth vertex on their sphere (rule 4.12)
-pub record Cospherical (p : Polygon) : Type 0 where
-  pub a : ℕ
-  pub b : ℕ
-  pub c : ℕ
-  pub d : ℕ
-  pub four : Counts p a b c d
-  pub fifth : ℕ
-  pub fifth<n : fifth < p .n
-  pub not-a : fifth ≡ a → ⊥
-  pub not-b : fifth ≡ b → ⊥
-  pub not-c : fifth ≡ c → ⊥
-  pub not-d : fifth ≡ d → ⊥
-  pub on : onSphere (vertex p a) (vertex p b) (vertex p c) (vertex p d) (vertex p fifth) ≡ true
+use Rattle.demands.specs.Candidates.{Candidate}
 
 -- row k is that of outer o and inner i (rule 2.13)
 pub record IsRow (rows : List (List ℕ)) (k o i : ℕ) : Type 0 where
@@ -53,9 +21,9 @@ pub record IsRow (rows : List (List ℕ)) (k o i : ℕ) : Type 0 where
 
 -- the lists are those of the polygon, all of it and nothing else (rules 2.3 to 2.13)
 pub record Demand2 (p : Polygon) (candidates : List (List ℕ)) (weights : List ℕ) (rows : List (List ℕ)) : Type 0 where
-  -- (a, b, c) stands in the list exactly when it is a face of four vertices that count, and nothing else does (rule 2.4)
-  pub listed : (a b c : ℕ) → Face p a b c → List·Memᴰ (triple a b c) candidates
-  pub faces : (t : List ℕ) → List·Memᴰ t candidates → (a : ℕ) × (b : ℕ) × (c : ℕ) × (t ≡ triple a b c) × Face p a b c
+  -- (a, b, c) stands in the list exactly when it is a candidate, and nothing else does (rule 2.4)
+  pub listed : (a b c : ℕ) → Candidate p a b c → List·Memᴰ (triple a b c) candidates
+  pub only-listed : (t : List ℕ) → List·Memᴰ t candidates → (a : ℕ) × (b : ℕ) × (c : ℕ) × (t ≡ triple a b c) × Candidate p a b c
   -- the list is strictly ascending, so each candidate stands in it once (rule 2.4)
   pub ascending : (i j : ℕ) → i < j → j < length candidates → before (entryAt candidates i) (entryAt candidates j) ≡ true
   -- each weight is the area factor times the length of the normal, and besides, summed over the candidate's rim edges that have a surface outside, the
@@ -86,7 +54,3 @@ pub record TablesHold (p : Polygon) (count row-count : ℕ)
   pub further-candidates : drop count candidates′ ≡ drop count candidates
   pub further-weights : drop count weights′ ≡ drop count weights
   pub further-rows : drop row-count rows′ ≡ drop row-count rows
-
--- all vertices are in one plane (rule 2.5)
-pub record Flat (p : Polygon) : Type 0 where
-  pub plane : (a b c d : ℕ) → a < b → b < c → c < d → d < p .n → coplanar (vertex p a) (vertex p b) (vertex p c) (vertex p d) ≡ true

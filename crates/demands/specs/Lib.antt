@@ -1,3 +1,4 @@
+pub mod Candidates
 pub mod Demand2
 pub mod Demand1
 pub mod Base

@@ -2,10 +2,10 @@
 
 mod conversion;
 mod finder;
-pub mod reader;
+mod reader;
 mod tiler;
 mod vectors;
-pub mod weights;
+mod weights;
 
 use crate::calls::{
     Calls, ConvertAnswer, FindAnswer, Lent, PatchAnswer, Places, ReadAnswer, Tables,

@@ -2,7 +2,7 @@
 
 use super::reader::{Point, Rim};
 use crate::calls::{Row, Triangle};
-use crate::jobs::all_triples;
+use crate::jobs::{all_fours, all_triples};
 use std::collections::BTreeSet;
 
 #[derive(Clone, Debug, PartialEq, Eq)]
@@ -155,9 +155,7 @@ pub fn threes(points: &[Point]) -> Result<BTreeSet<Triangle>, u32> {
 
 /// Rule 2.3: the faces of the fours that count, as a set.
 pub fn faces(points: &[Point]) -> Result<BTreeSet<Triangle>, u32> {
-    let n = points.len() as u8;
-    let all = all_triples(points.len()).into_iter();
-    let all = all.flat_map(|[a, b, c]| (c + 1..n).map(move |d| [a, b, c, d]));
+    let all = all_fours(points.len());
     let fours = counting(points, all, centre_of_sphere)?.into_iter();
     Ok(fours.flat_map(|[a, b, c, d]| [[a, b, c], [a, b, d], [a, c, d], [b, c, d]]).collect())
 }
@@ -212,7 +210,7 @@ fn has_rim_edge(t: Triangle, i: usize, n: usize) -> bool {
 }
 
 /// Rule 2.15: the area weight, and a bend weight for each rim edge that has a surface outside.
-pub fn own_weight(rim: &Rim, t: Triangle, normal: Point) -> u64 {
+fn own_weight(rim: &Rim, t: Triangle, normal: Point) -> u64 {
     let mut weight = rim.area_factor * whole_length(normal);
     for (i, surface) in rim.surfaces.iter().enumerate() {
         if let Some(outside) = surface {

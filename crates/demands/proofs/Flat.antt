@@ -1,0 +1,138 @@
+-- Flat rims: which triples are their candidates, rims on one line, and triangles; and what the one call answers. Assumes nothing.
+use mathlib.Core.Path.{_≡_, refl, sym, _∙_, ap, subst}
+use mathlib.Core.Bool.{Bool, true, false}
+use mathlib.Core.List.{List, [], _∷_, _++_, List·Memᴰ, List·Memᴰ·head}
+use Prim.Native.Nat.{ℕ, zero, suc, _+_, _<_}
+use native.Mathlib.Omega.{arith}
+use lib.IntN.{ℤ, pos, _-ℤ_}
+use lib.ListN.{length}
+use lib.Signed.{ltZ}
+use Rattle.integers.proofs.Laws.{sub-self}
+use Rattle.integers.proofs.Order.{less-by-difference}
+use Rattle.lists.specs.Lists.{upFrom, when}
+use Rattle.lists.proofs.Choice.{true-not-false}
+use Rattle.terms.specs.Entries.{triple}
+use Rattle.polygon.specs.declared.Polygon.{Polygon}
+use Rattle.polygon.specs.Polygon.{Valid}
+use Rattle.planar.specs.Planes.{OnOneLine}
+use Rattle.planar.specs.Circles.{collinear, distanceInPlane, strictlyInsideCircle}
+use Rattle.planar.proofs.Circles.{distance-q, distance-r}
+use Rattle.planar.proofs.Lines.{line-threes}
+use Rattle.planar.proofs.Planes.{fours-plane, plane-fours, line-plane}
+use Rattle.faces.specs.Faces.{triplesOf}
+use Rattle.faces.proofs.Members.{triples-member}
+use Rattle.delaunay.specs.Candidates.{vertex, isCandidate, candidatesOf}
+use Rattle.dihedrals.specs.Dihedrals.{rowsOf}
+use Rattle.weights.specs.Weights.{ownWeight, weightsOf}
+use Rattle.reader.specs.File.{Bytes}
+use Rattle.reader.specs.Order.{NoneDue}
+use Rattle.triangulation.specs.Triangulations.{Job, Answer, none, patch, best, bestKey, key, isTriangulation, totalWeight, preorderFrom, countBetween, countOutside}
+use Rattle.triangulation.specs.Jobs.{jobOf}
+use Rattle.triangulation.specs.Demand3.{Triangulates}
+use Rattle.triangulation.proofs.Demand3.{demand3, members, triangle-count}
+use Rattle.triangulator.specs.declared.Outcome.the-variants.{Patch, None}
+use Rattle.triangulator.specs.Call.{settled}
+use Rattle.pipeline.specs.Patching.{Tables, Patching, jobIn, patched, patchFile}
+use Rattle.pipeline.proofs.Values.{valid-job}
+use Rattle.demands.specs.Demand1.{CallDue, polygonIn}
+use Rattle.demands.specs.Candidates.{Counts, Face, abc, abd, acd, bcd, Flat, CountsInPlane, Candidate, face, three, Degenerate, on-sphere, on-circle}
+use Rattle.demands.proofs.Candidates.{true-candidate, candidate-true}
+use Rattle.demands.proofs.Demand1.{accepted}
+
+-- ---- which triples are candidates
+module _ (p : Polygon) where
+  no-four : Flat p → (a b c d : ℕ) → Counts p a b c d → ⊥
+  no-four f a b c d k = true-not-false (plane-fours (vertex p) (p .n) f .four a b c d (k .a<b) (k .b<c) (k .c<d) (k .d<n)) (k .solid)
+
+  -- of a flat rim: the threes that count, and so no face of four (rule 2.4)
+  pub flat-candidate : Flat p → (a b c : ℕ) → Candidate p a b c → CountsInPlane p a b c
+  flat-candidate f a b c (three k) = k
+  flat-candidate f x y z (face (abc a b c d k)) = absurd (no-four f a b c d k)
+  flat-candidate f x y z (face (abd a b c d k)) = absurd (no-four f a b c d k)
+  flat-candidate f x y z (face (acd a b c d k)) = absurd (no-four f a b c d k)
+  flat-candidate f x y z (face (bcd a b c d k)) = absurd (no-four f a b c d k)
+
+  -- of a rim that is not: the faces of the fours that count (rule 2.4)
+  pub solid-candidate : (Flat p → ⊥) → (a b c : ℕ) → Candidate p a b c → Face p a b c
+  solid-candidate s a b c (face f) = f
+  solid-candidate s a b c (three k) = absurd (s (k .flat))
+
+-- ---- rims on one line
+no-members : (l : List (List ℕ)) → ((t : List ℕ) → List·Memᴰ t l → ⊥) → l ≡ []
+no-members [] h = refl
+no-members (x ∷ l) h = absurd (h x (List·Memᴰ·head refl))
+
+-- have no candidates (rule 2.19)
+pub line-none : (p : Polygon) → OnOneLine (vertex p) (p .n) → candidatesOf p ≡ []
+line-none p h = no-members (candidatesOf p) (λ t m.
+    let r = triples-member (p .n) (isCandidate p) t m in
+    let k = flat-candidate p (line-plane (vertex p) (p .n) h) (r .a) (r .b) (r .c) (true-candidate p (r .a) (r .b) (r .c) (r .a<b) (r .b<c) (r .c<n) (r .holds-of)) in
+    true-not-false (line-threes (vertex p) (p .n) h .three (r .a) (r .b) (r .c) (r .a<b) (r .b<c) (r .c<n)) (k .proper))
+
+-- ---- triangles
+not-below-same : (a b : ℤ) → a ≡ b → ltZ a b ≡ false
+not-below-same a b e = less-by-difference a b ∙ ap (λ (z : ℤ). ltZ z (pos 0)) (sub-self a b e)
+
+module _ (p : Polygon) (is3 : p .n ≡ 3) where
+  -- three vertices are in one plane (rule 2.5), and 12 is never due on them (rule 4.12)
+  pub three-flat : Flat p
+  three-flat = fours-plane (vertex p) (p .n) (record { four = λ a b c d h i j k. absurd (omega arith) })
+
+  pub three-no-12 : Degenerate p → ⊥
+  three-no-12 (on-sphere r) = omega (arith, r .four .a<b, r .four .b<c, r .four .c<d, r .four .d<n)
+  three-no-12 (on-circle r) = by (r .fourth) refl
+    where
+      by : (v : ℕ) → r .fourth ≡ v → ⊥
+      by zero e = r .not-a (omega (arith, e, r .three .a<b, r .three .b<c, r .three .c<n))
+      by (suc zero) e = r .not-b (omega (arith, e, r .three .a<b, r .three .b<c, r .three .c<n))
+      by (suc (suc v)) e = r .not-c (omega (arith, e, r .fourth<n, r .three .a<b, r .three .b<c, r .three .c<n))
+
+  module _ (proper : collinear (vertex p 0) (vertex p 1) (vertex p 2) ≡ false) where
+    empty : (v : ℕ) → v < p .n → strictlyInsideCircle (vertex p 0) (vertex p 1) (vertex p 2) (vertex p v) ≡ false
+    empty zero h = not-below-same (distanceInPlane (vertex p 0) (vertex p 1) (vertex p 2) (vertex p 0)) _ refl
+    empty (suc zero) h = not-below-same (distanceInPlane (vertex p 0) (vertex p 1) (vertex p 2) (vertex p 1)) _ (distance-q (vertex p 0) (vertex p 1) (vertex p 2))
+    empty (suc (suc zero)) h = not-below-same (distanceInPlane (vertex p 0) (vertex p 1) (vertex p 2) (vertex p 2)) _ (distance-r (vertex p 0) (vertex p 1) (vertex p 2))
+    empty (suc (suc (suc v))) h = absurd (omega arith)
+
+    -- a triangle that is not on one line is its own candidate (rule 2.19)
+    pub triangle-candidate : candidatesOf p ≡ triple 0 1 2 ∷ []
+    unfolding upFrom
+    triangle-candidate =
+        ap (λ (n : ℕ). triplesOf n (isCandidate p)) is3
+        ∙ ap (λ (t : Bool). ((when t (triple 0 1 2) ++ []) ++ []) ++ [])
+        (candidate-true p 0 1 2 (three (record { flat = three-flat; a<b = omega arith; b<c = omega arith; c<n = omega arith; proper = proper; empty = empty })) .3)
+
+-- its only tiling
+alone : (w : ℕ) (rows : List (List ℕ)) → best (jobOf 3 (triple 0 1 2 ∷ []) (w ∷ []) rows) ≡ patch w (0 ∷ [])
+unfolding bestKey key isTriangulation totalWeight preorderFrom countBetween countOutside
+alone w rows = ap (λ (x : ℕ). patch x (0 ∷ [])) (sum w)
+  where
+    sum : (w : ℕ) → w + 0 + 0 ≡ w
+    sum w = omega arith
+
+-- ---- the one call
+module _ (limit : ℕ) (file : List ℕ) (bytes : Bytes file) (t : Tables) (none-due : NoneDue (CallDue limit file t)) where
+  abbrev rim : Polygon
+  rim = polygonIn limit file
+
+  outcome-by : {a : Answer} → best (jobIn rim) ≡ a → patchFile limit file t .outcome ≡ settled a (length (candidatesOf rim)) (t .triangles) (t .work) .outcome
+  outcome-by e =
+      ap (λ (x : Patching). x .outcome) (accepted limit file bytes t none-due .call-is)
+      ∙ ap (λ (a : Answer). settled a (length (candidatesOf rim)) (t .triangles) (t .work) .outcome) e
+
+  -- a rim with all vertices on one line gets 'none'
+  pub line-gets-none : OnOneLine (vertex rim) (rim .n) → patchFile limit file t .outcome ≡ None
+  line-gets-none h =
+      let v = accepted limit file bytes t none-due .polygon-valid in
+      outcome-by (demand3 (jobIn rim) (valid-job rim v) .none-if (λ s m. no-tiling v s m))
+    where
+      no-tiling : Valid rim → (s : List ℕ) → Triangulates (jobIn rim) s → ⊥
+      no-tiling v [] m = omega (arith, triangle-count (jobIn rim) (valid-job rim v) [] m, v .least)
+      no-tiling v (k ∷ s) m =
+          let n : length (candidatesOf rim) ≡ 0 = ap length (line-none rim h) in
+          omega (arith, members (jobIn rim) (valid-job rim v) (k ∷ s) m k (List·Memᴰ·head refl), n)
+
+  -- every other triangle gets a patch: itself, at its own weight
+  pub triangle-gets-patch : rim .n ≡ 3 → collinear (vertex rim 0) (vertex rim 1) (vertex rim 2) ≡ false → patchFile limit file t .outcome ≡ Patch 1 (ownWeight rim (triple 0 1 2))
+  triangle-gets-patch is3 proper =
+      outcome-by (ap best (λ i. jobOf (is3 i) (triangle-candidate rim is3 proper i) (weightsOf rim (triangle-candidate rim is3 proper i)) (rowsOf rim (triangle-candidate rim is3 proper i))) ∙ alone (ownWeight rim (triple 0 1 2)) (rowsOf rim (triple 0 1 2 ∷ [])))
