@@ -1,6 +1,6 @@
 //! Flat rims: outlines in the steps of a plane of grid points, tilted as a rule.
 
-use crate::law::finder::normal;
+use crate::law::finder::{is_flat, normal};
 use crate::random::Random;
 use crate::rims::Point;
 use std::f64::consts::TAU;
@@ -80,13 +80,14 @@ impl Outline {
     /// So many vertices within so many steps either way.
     pub fn steps(self, n: usize, reach: i64, random: &mut Random) -> Vec<Step> {
         let offset = random.fraction() * TAU;
+        let dent = (3.0 / n as f64).min(0.4);
         let step = |k: usize| {
             let [one, two] = [random.fraction(), random.fraction()];
             let angle = offset + TAU * k as f64 / n as f64;
             let around = |radius: f64| [radius * angle.cos(), radius * angle.sin()];
             let at = match self {
-                Outline::Star if k % 2 == 1 => around(0.2 + 0.3 * one),
-                Outline::Ring | Outline::Star => around(0.8 + 0.2 * one),
+                Outline::Star if k % 2 == 1 => around(1.0 - dent * (1.0 + one)),
+                Outline::Ring | Outline::Star => around(1.0 - one / n as f64),
                 Outline::Scattered => [2.0 * one - 1.0, 2.0 * two - 1.0],
             };
             at.map(|x| (x * reach as f64).round() as i64)
@@ -112,4 +113,30 @@ pub fn any_rim(n: usize, random: &mut Random) -> Vec<Point> {
         false => random.one_of(&Outline::ALL).steps(n, reach, random),
     };
     Plane::any(reach, random).points(&steps)
+}
+
+/// The rims with vertex k one step away along an axis that are on the grid and not flat.
+pub fn with_one_off(points: &[Point], k: usize) -> Vec<Vec<Point>> {
+    let steps = (0..3).flat_map(|axis| [-1, 1].map(|step| (axis, step)));
+    let moved = steps.map(|(axis, step)| {
+        let mut points = points.to_vec();
+        points[k][axis] += step;
+        points
+    });
+    moved.filter(|points| is_on_grid(points[k]) && !is_flat(points)).collect()
+}
+
+pub fn is_on_grid(point: Point) -> bool {
+    point.iter().all(|g| g.abs() <= 1000)
+}
+
+/// A flat rim of any kind, or now and then one that is flat but for one vertex.
+pub fn any_rim_or_one_off(n: usize, random: &mut Random) -> Vec<Point> {
+    let points = any_rim(n, random);
+    let mut off = match random.once_in(4) {
+        true => with_one_off(&points, random.below(n)),
+        false => Vec::new(),
+    };
+    random.shuffle(&mut off);
+    off.pop().unwrap_or(points)
 }

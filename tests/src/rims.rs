@@ -16,7 +16,7 @@ pub const FIVE_CORNERS: [Point; 5] = [[0, 0, 0], [40, 0, 0], [40, 40, 0], [0, 40
 /// A flat rim.
 pub const FLAT: [Point; 5] = [[0, 0, 0], [90, 0, 0], [120, 70, 0], [40, 110, 0], [-30, 60, 0]];
 
-/// A flat rim in a plane that no axis is across of: seen along any of them, circles are ellipses.
+/// A flat rim in the plane x + y + z = 0, whose circles are ellipses as seen along any axis.
 pub const TILTED_STAR: [Point; 6] = [
     [-72, -96, 168],
     [48, -24, -24],

@@ -1,22 +1,17 @@
 //! Flat rims (rules 2.5 and 2.17 to 2.19): their circles, number 12 on one (rule 4.12), vertices on
 //! one line, and rims that are flat but for one vertex.
 
-use outside_tests::calls::{Calls, Job, PatchAnswer, Places, Tables, Triangle};
-use outside_tests::comparison::{compare_calls, compare_finder, compare_job, compare_rim};
+use outside_tests::calls::{PatchAnswer, Places, Tables, Triangle};
+use outside_tests::comparison::{compare_calls, compare_finder, compare_rim};
 use outside_tests::fast::FAST;
-use outside_tests::jobs::{all_triples, job_of};
-use outside_tests::law::finder::{
-    candidates, centre_of_circle, faces, is_flat, normal, squared_distance, threes, whole_length,
-};
-use outside_tests::law::{reader, BY_INTERVALS, BY_SETS};
+use outside_tests::jobs::job_of;
+use outside_tests::law::finder::{candidates, has_rim_edge, is_flat, normal, whole_length};
+use outside_tests::law::{BY_INTERVALS, BY_SETS};
 use outside_tests::library::{each, under_test};
-use outside_tests::planes::{self, Directions, Outline, Plane, Step};
+use outside_tests::planes::{self, is_on_grid, with_one_off, Directions, Outline, Plane, Step};
 use outside_tests::random::{seeds, Random};
-use outside_tests::rims::{Point, RimFile, TILTED_STAR};
+use outside_tests::rims::{Point, RimFile};
 use std::collections::BTreeSet;
-
-/// The candidates of a rim, or 12.
-type Found = Result<BTreeSet<Triangle>, u32>;
 
 fn tables() -> Tables {
     Tables::guarded(Places::BENCH)
@@ -29,44 +24,10 @@ fn compare(points: &[Point], random: &mut Random) -> PatchAnswer {
     compare_calls(&BY_SETS, under_test(), &file, &tables())
 }
 
-/// The lists of a rim in an edition 1 file with both factors 1, by the plain search.
-fn lists(points: &[Point]) -> Job {
-    job_of(&BY_SETS, &RimFile::plain(points, 1, 1).bytes(), &mut tables())
-}
-
-fn is_on_one_line(points: &[Point], three: Triangle) -> bool {
-    normal(points, three) == [0; 3]
-}
-
-fn has_repeated_point(points: &[Point]) -> bool {
-    points.iter().enumerate().any(|(k, point)| points[..k].contains(point))
-}
-
-/// The rims with vertex k one step away, along any axis, that are on the grid and not flat.
-fn with_one_off(points: &[Point], k: usize) -> Vec<Vec<Point>> {
-    let steps = [0, 1, 2].iter().flat_map(|&axis| [-1, 1].map(|step| (axis, step)));
-    let rims = steps.map(|(axis, step)| {
-        let mut points = points.to_vec();
-        points[k][axis] += step;
-        points
-    });
-    rims.filter(|points| points[k].iter().all(|g| g.abs() <= 1000) && !is_flat(points)).collect()
-}
-
-/// A flat rim, or now and then one that is flat but for one vertex.
-fn flat_or_almost(n: usize, random: &mut Random) -> Vec<Point> {
-    let points = planes::any_rim(n, random);
-    let mut off = match random.once_in(4) {
-        true => with_one_off(&points, random.below(n)),
-        false => Vec::new(),
-    };
-    random.shuffle(&mut off);
-    off.pop().unwrap_or(points)
-}
-
 /// Two candidates on one edge are on either side of it, so the rows of a flat rim weigh nothing.
 fn rows_weigh_nothing(points: &[Point]) -> bool {
-    lists(points).rows.iter().all(|row| row[2] == 0)
+    let job = job_of(&BY_SETS, &RimFile::plain(points, 1, 1).bytes(), &mut tables());
+    job.rows.iter().all(|row| row[2] == 0)
 }
 
 #[test]
@@ -76,7 +37,7 @@ fn rims_in_any_plane() {
         let mut random = Random::new(seed);
         for _ in 0..4_000 {
             let n = random.between(3, 9) as usize;
-            let points = flat_or_almost(n, &mut random);
+            let points = planes::any_rim_or_one_off(n, &mut random);
             let answer = compare(&points, &mut random);
             match (answer.number, answer.triangles) {
                 (0, 0) => nones += 1,
@@ -92,8 +53,8 @@ fn rims_in_any_plane() {
     assert!(patches > 2_000 && nones > 1_000 && refused > 150, "{outcomes:?}");
 }
 
-/// Every number of vertices, in tables for any rim, by the fast reference and by what is under test;
-/// some of them by the plain search too.
+/// Every number of vertices, by the fast reference and by what is under test, and some of them by the
+/// plain search too; then with one vertex off the plane.
 #[test]
 fn rims_of_every_size() {
     let mut patches = 0;
@@ -109,9 +70,13 @@ fn rims_of_every_size() {
             if n % 9 == 1 {
                 compare_rim(&BY_INTERVALS, under_test(), &file, &tables());
             }
+            if let Some(off) = with_one_off(&points, random.below(n)).pop() {
+                let file = RimFile::varied(&off, [1, 1], &mut random).bytes();
+                compare_calls(&FAST, under_test(), &file, &tables());
+            }
         }
     }
-    assert!(patches > 100, "{patches} patches");
+    assert!(patches > 200, "{patches} patches");
 }
 
 /// The lists that the finder leaves are those of the plain search, and as a direct job they have the
@@ -126,15 +91,13 @@ fn lists_as_a_direct_job() {
         if compare_finder(&BY_INTERVALS, under_test(), &file, &tables()).number != 0 {
             continue;
         }
-        let [mut left, mut of_job] = [tables(), tables()];
-        let answer = under_test().patch_rim(&file, &mut left);
-        let job = job_of(under_test(), &file, &mut of_job);
-        let places = [n - 2, job.candidates.len()];
-        assert_eq!(compare_job(&BY_INTERVALS, under_test(), &job, places), answer, "{points:?}");
-        let mut tables_of_job = Tables::of_job(&job, n - 2, job.candidates.len());
-        under_test().patch_job(n, &mut tables_of_job);
-        let walk = &left.triangles.view()[..answer.triangles];
-        assert_eq!(tables_of_job.triangles.view()[..answer.triangles], *walk, "{points:?}");
+        let mut of_rim = tables();
+        let answer = under_test().patch_rim(&file, &mut of_rim);
+        let job = job_of(under_test(), &file, &mut tables());
+        let mut of_job = Tables::of_job(&job, n - 2, job.candidates.len());
+        assert_eq!(under_test().patch_job(n, &mut of_job), answer, "{points:?}");
+        let walks = [of_rim, of_job].map(|left| left.triangles.view()[..answer.triangles].to_vec());
+        assert_eq!(walks[0], walks[1], "{points:?}");
     }
 }
 
@@ -160,35 +123,36 @@ fn rectangles() {
     }
 }
 
-/// How many candidates a square has with a fifth vertex. Inside its circle the vertex drops all threes
-/// of the corners, and stands with each side of the square, or with the three that it does not lie on
-/// or beyond. On the circle or outside it is no help.
-const FIFTH: [(Step, Result<usize, u32>); 8] = [
-    ([1, 2], Ok(4)),
-    ([-4, -4], Ok(4)),
-    ([4, -5], Ok(3)),
-    ([-7, 0], Ok(3)),
-    ([7, 1], Err(12)),
-    ([-1, 7], Err(12)),
-    ([8, 0], Err(12)),
-    ([9, 20], Err(12)),
+/// A fifth vertex for a square, and how many candidates there are with it. Inside the circle of the
+/// square it drops all threes of the corners, and makes a candidate with each side that it is neither
+/// on nor beyond. On the circle or outside it is no help: 12.
+const FIFTH: [(Step, Option<usize>); 8] = [
+    ([1, 2], Some(4)),
+    ([-4, -4], Some(4)),
+    ([4, -5], Some(3)),
+    ([-7, 0], Some(3)),
+    ([7, 1], None),
+    ([-1, 7], None),
+    ([8, 0], None),
+    ([9, 20], None),
 ];
 
-/// The fifth vertex at each place of the rim, so that it comes before and after the fourth on the circle.
+/// The fifth vertex at each place of the rim: before the fourth vertex on the circle, and after it.
 #[test]
 fn squares_with_a_fifth_vertex() {
     let mut random = Random::new(5);
     for (along, place) in planes::SQUARE.iter().flat_map(|&along| (0..5).map(move |k| (along, k))) {
         let plane = Plane::along(along, 20, &mut random).expect("short directions");
-        for (fifth, expected) in FIFTH {
+        for (fifth, count) in FIFTH {
             let mut steps = rectangle_and_fifth([5, 5], fifth);
             steps.rotate_left(place);
             let points = plane.points(&steps);
-            compare(&points, &mut random);
-            let found = candidates(&points);
-            assert_eq!(found.as_ref().map(BTreeSet::len), expected.as_ref().copied(), "{steps:?}");
-            let with_fifth = |three: &Triangle| three.contains(&(4 - place as u8));
-            assert!(found.iter().flatten().all(with_fifth), "{steps:?}");
+            let number = if count.is_some() { 0 } else { 12 };
+            assert_eq!(compare(&points, &mut random).number, number, "{steps:?}");
+            let found = candidates(&points).ok();
+            assert_eq!(found.as_ref().map(BTreeSet::len), count, "{steps:?}");
+            let has_fifth = |three: &Triangle| three.contains(&(4 - place as u8));
+            assert!(found.iter().flatten().all(has_fifth), "{steps:?}");
         }
     }
 }
@@ -270,7 +234,7 @@ fn runs_on_one_line() {
             let points = Plane::any(reach, &mut random).points(&steps);
             compare(&points, &mut random);
             let mut found = candidates(&points).into_iter().flatten();
-            assert!(!found.any(|three| is_on_one_line(&points, three)), "{points:?}");
+            assert!(found.all(|three| normal(&points, three) != [0; 3]), "{points:?}");
         }
     }
 }
@@ -278,7 +242,7 @@ fn runs_on_one_line() {
 /// With one vertex off the plane of the others, the sphere through it and three of them meets the plane
 /// in the circle of the three. So the candidates are those of the others, and with each edge of these
 /// and the vertex one more.
-fn cone(points: &[Point], apex: usize) -> Found {
+fn cone(points: &[Point], apex: usize) -> Result<BTreeSet<Triangle>, u32> {
     let mut others = points.to_vec();
     others.remove(apex);
     let number = |k: u8| k + (k as usize >= apex) as u8;
@@ -310,12 +274,6 @@ fn flat_but_for_one_vertex() {
     assert!(compared > 500, "{compared} rims");
 }
 
-/// The rim edges that a triangle has.
-fn rim_edges(n: usize, three: Triangle) -> u32 {
-    let has = |i: usize| [i, (i + 1) % n].iter().all(|&end| three.contains(&(end as u8)));
-    (0..n).filter(|&i| has(i)).count() as u32
-}
-
 /// With the normal of the plane outside every edge, a candidate inside the polygon bends by 0 at each
 /// of its rim edges, and one outside, which runs the other way round, by 2000. The patch is inside.
 #[test]
@@ -339,136 +297,45 @@ fn candidates_outside_the_polygon() {
             let own = normal(&points, three);
             let m = whole_length(own) as u32;
             let is_inside = own.iter().zip(up).map(|(x, y)| x * y).sum::<i64>() > 0;
-            let bends = if is_inside { 0 } else { rim_edges(n, three) };
-            assert_eq!(weight, m + 7 * 2000 * bends, "{three:?} of {points:?}");
+            let rim_edges = (0..n).filter(|&i| has_rim_edge(three, i, n)).count() as u32;
+            let bend = if is_inside { 0 } else { 2000 };
+            assert_eq!(weight, m + 7 * bend * rim_edges, "{three:?} of {points:?}");
             area += if is_inside { m as u64 } else { 0 };
-            outside += (bends > 0) as usize;
+            outside += (weight > m) as usize;
         }
         assert_eq!(answer.total, area, "{points:?}");
     }
     assert!(outside > 200, "{outside} candidates outside");
 }
 
-/// Directions that lead to the ends of the grid along two axes at once, or three.
-const FAR: [Directions; 5] = [
+/// Directions that lead to the ends of the grid along one axis each, or along two at once.
+const FAR: [Directions; 4] = [
     [[1, 0, 0], [0, 1, 0]],
     [[1, 1, 0], [0, 0, 1]],
     [[1, 0, 0], [0, 1, -1]],
-    [[1, 0, -1], [0, 1, -1]],
     [[1, -1, 0], [1, 0, -1]],
 ];
 
-/// Vertices at the ends of the grid, where all numbers are largest.
+/// The points of a plane next to the ends of the grid and to its middle, in any order.
+fn far_points(plane: &Plane, random: &mut Random) -> Vec<Point> {
+    let far = [-2000, -1999, -1998, -1000, -999, -997, -3, 0, 1, 500, 998, 1000, 1997, 2000];
+    let steps = far.iter().flat_map(|&i| far.map(|j| [i, j]));
+    let points = steps.map(|step| plane.point(step)).filter(|&point| is_on_grid(point));
+    let mut points: Vec<Point> = points.collect();
+    random.shuffle(&mut points);
+    points
+}
+
+/// Vertices as far apart as the grid allows, where all numbers are largest.
 #[test]
 fn far_vertices() {
     let mut random = Random::new(10);
     let mut taken = 0;
     for case in 0..2_000 {
-        let n = random.between(3, 8) as usize;
-        let plane = Plane { origin: [0; 3], along: FAR[case % FAR.len()] };
-        let mut far = || random.one_of(&[-1000, -999, -997, -3, 0, 1, 500, 998, 1000]);
-        let mut points = Vec::new();
-        while points.len() < n {
-            let point = plane.point([far(), far()]);
-            let on_grid = point.iter().all(|g| g.abs() <= 1000);
-            if on_grid && !points.contains(&point) {
-                points.push(point);
-            }
-        }
-        taken += (compare(&points, &mut random).number == 0) as usize;
+        let origin = [0; 3].map(|_| random.one_of(&[-1000, 0, 1000]));
+        let mut points = far_points(&Plane { origin, along: FAR[case % FAR.len()] }, &mut random);
+        points.truncate(random.between(3, 8) as usize);
+        taken += (points.len() > 2 && compare(&points, &mut random).number == 0) as usize;
     }
-    assert!(taken > 300, "{taken} rims");
-}
-
-/// The points as seen along an axis.
-fn seen_along(points: &[Point], axis: usize) -> Vec<Point> {
-    let mut points = points.to_vec();
-    points.iter_mut().for_each(|point| point[axis] = 0);
-    points
-}
-
-/// Wrong: the circles of a flat rim are taken as seen along an axis, unless that is in the plane.
-fn by_projected_circles(points: &[Point], axis: usize) -> Found {
-    let seen = seen_along(points, axis);
-    let lost = |&three: &Triangle| is_on_one_line(points, three) != is_on_one_line(&seen, three);
-    if !is_flat(points) || all_triples(points.len()).iter().any(lost) {
-        return candidates(points);
-    }
-    candidates(&seen)
-}
-
-/// Wrong: a rim is taken for flat where its first four vertices are in one plane.
-fn flat_by_the_first_four(points: &[Point]) -> Found {
-    match is_flat(&points[..points.len().min(4)]) {
-        true => threes(points),
-        false => faces(points),
-    }
-}
-
-/// Wrong: 12 at the first vertex on a circle, though another one may be inside it.
-fn twelve_at_once(points: &[Point]) -> Found {
-    let on = |three: &Triangle| {
-        let centre = centre_of_circle(three.map(|k| points[k as usize]));
-        centre.is_some_and(|centre| {
-            let distance = |k: u8| squared_distance(&centre, points[k as usize]);
-            let mut others = (0..points.len() as u8).filter(|k| !three.contains(k));
-            others.any(|k| distance(k) == distance(three[0]))
-        })
-    };
-    match is_flat(points) && all_triples(points.len()).iter().any(on) {
-        true => Err(12),
-        false => candidates(points),
-    }
-}
-
-/// Wrong: three vertices of a flat rim that are on one line are let in.
-fn with_threes_on_one_line(points: &[Point]) -> Found {
-    let mut found = candidates(points)?;
-    let on_line = |three: &Triangle| is_flat(points) && is_on_one_line(points, *three);
-    found.extend(all_triples(points.len()).into_iter().filter(on_line));
-    Ok(found)
-}
-
-const WRONG: [(&str, fn(&[Point]) -> Found); 7] = [
-    ("no circles", faces),
-    ("flat by the first four", flat_by_the_first_four),
-    ("circles as seen along x", |points| by_projected_circles(points, 0)),
-    ("circles as seen along y", |points| by_projected_circles(points, 1)),
-    ("circles as seen along z", |points| by_projected_circles(points, 2)),
-    ("12 at once", twelve_at_once),
-    ("threes on one line", with_threes_on_one_line),
-];
-
-/// The rims of `rims_in_any_plane` tell each wrong search from the right one.
-#[test]
-fn wrong_searches_are_told_apart() {
-    let mut random = Random::new(1);
-    let mut told = WRONG.map(|(name, _)| (name, 0));
-    for _ in 0..2_000 {
-        let n = random.between(3, 9) as usize;
-        let points = flat_or_almost(n, &mut random);
-        if !has_repeated_point(&points) {
-            let right = candidates(&points);
-            for ((_, search), (_, times)) in WRONG.iter().zip(&mut told) {
-                *times += (search(&points) != right) as usize;
-            }
-        }
-    }
-    assert!(told.iter().all(|&(_, times)| times > 30), "{told:?}");
-}
-
-/// The star of examples/tilted.rim has a patch, and seen along any axis it has none.
-#[test]
-fn tilted_star_on_projections() {
-    let example = reader::read(include_bytes!("../../examples/tilted.rim")).expect("taken");
-    assert_eq!(example.points, TILTED_STAR);
-    let patched = |points: &[Point], calls: &dyn Calls| {
-        calls.patch_rim(&RimFile::plain(points, 1, 1).bytes(), &mut tables()).triangles
-    };
-    for calls in each() {
-        assert_eq!(patched(&TILTED_STAR, calls), 4, "{}", calls.name());
-        for axis in 0..3 {
-            assert_eq!(patched(&seen_along(&TILTED_STAR, axis), calls), 0, "{}", calls.name());
-        }
-    }
+    assert!(taken > 500, "{taken} rims");
 }

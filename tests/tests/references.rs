@@ -3,12 +3,15 @@
 use outside_tests::calls::{Job, Places, Tables};
 use outside_tests::comparison::{compare_job, compare_rim};
 use outside_tests::fast::FAST;
-use outside_tests::jobs::random_job;
-use outside_tests::law::finder::{centre_of_sphere, squared_distance};
+use outside_tests::jobs::{all_fours, random_job};
+use outside_tests::law::finder::{
+    centre_of_circle, centre_of_sphere, is_flat, normal, squared_distance, Centre,
+};
 use outside_tests::law::grid::{grid_number, GridNumber};
 use outside_tests::law::{tilings, BY_INTERVALS, BY_SETS};
+use outside_tests::planes;
 use outside_tests::random::{seeds, Random};
-use outside_tests::rims::{lattice, RimFile, Shape};
+use outside_tests::rims::{lattice, Point, RimFile, Shape};
 
 /// f64 holds 8v exactly.
 fn by_f64(bits: u32) -> GridNumber {
@@ -48,19 +51,61 @@ fn grid_numbers() {
     }
 }
 
-#[test]
-fn spheres_pass_through_their_corners() {
-    for seed in seeds("spheres") {
+/// Points near to each other and far apart, as many as there are corners.
+fn corners<const N: usize>(subject: &str, mut check: impl FnMut([Point; N])) {
+    for seed in seeds(subject) {
         let mut random = Random::new(seed);
         for size in [1, 3, 50, 1000] {
             for _ in 0..5_000 {
-                let four = lattice(4, size, &mut random);
-                if let Some(centre) = centre_of_sphere([four[0], four[1], four[2], four[3]]) {
-                    let distances = four.iter().map(|&p| squared_distance(&centre, p));
-                    let distances: Vec<i128> = distances.collect();
-                    assert!(distances.iter().all(|&d| d == distances[0]), "{four:?}");
-                }
+                check(lattice(N, size, &mut random).try_into().expect("as many"));
             }
+        }
+    }
+}
+
+fn are_as_far(centre: &Centre, points: &[Point]) -> bool {
+    let distance = |p: &Point| squared_distance(centre, *p);
+    points.iter().all(|p| distance(p) == distance(&points[0]))
+}
+
+#[test]
+fn spheres_pass_through_their_corners() {
+    corners("spheres", |four: [Point; 4]| {
+        if let Some(centre) = centre_of_sphere(four) {
+            assert!(are_as_far(&centre, &four), "{four:?}");
+        }
+    });
+}
+
+/// And their centres are in the plane of the corners; only corners on one line have no circle.
+#[test]
+fn circles_pass_through_their_corners() {
+    corners("circles", |three: [Point; 3]| {
+        let across = normal(&three, [0, 1, 2]).map(i128::from);
+        let Some(centre) = centre_of_circle(three) else {
+            assert_eq!(across, [0; 3], "{three:?}");
+            return;
+        };
+        assert!(are_as_far(&centre, &three), "{three:?}");
+        let apart = |k: usize| centre.numerators[k] - centre.denominator * three[0][k] as i128;
+        assert_eq!((0..3).map(|k| across[k] * apart(k)).sum::<i128>(), 0, "{three:?}");
+    });
+}
+
+/// A rim is flat exactly where no four of its vertices have a sphere.
+#[test]
+fn flat_rims_in_two_ways() {
+    for seed in seeds("flat rims in two ways") {
+        let mut random = Random::new(seed);
+        for case in 0..4_000 {
+            let n = random.between(3, 7) as usize;
+            let points = match case % 4 {
+                0 => lattice(n, random.one_of(&[1, 2]), &mut random),
+                _ => planes::any_rim_or_one_off(n, &mut random),
+            };
+            let has_sphere =
+                |four: &[u8; 4]| centre_of_sphere(four.map(|k| points[k as usize])).is_some();
+            assert_eq!(is_flat(&points), !all_fours(n).iter().any(has_sphere), "{points:?}");
         }
     }
 }
@@ -117,7 +162,10 @@ fn rims_by_sets_by_intervals_and_fast() {
         let mut random = Random::new(seed);
         for _ in 0..4_000 {
             let n = random.between(3, 8) as usize;
-            let points = random.one_of(&Shape::ALL).points(n, 60, &mut random);
+            let points = match random.once_in(3) {
+                true => planes::any_rim_or_one_off(n, &mut random),
+                false => random.one_of(&Shape::ALL).points(n, 60, &mut random),
+            };
             let file = RimFile::varied(&points, [1, 1], &mut random).bytes();
             compare_rim(&BY_SETS, &BY_INTERVALS, &file, &tables);
             compare_rim(&BY_SETS, &FAST, &file, &tables);

@@ -1,5 +1,5 @@
 -- A polygon is flat exactly when some plane holds its vertices, and what the test of the code finds. Assumes nothing.
-use mathlib.Core.Path.{_≡_, refl, sym, _∙_, ap, subst}
+use mathlib.Core.Path.{_≡_, sym, _∙_, ap, subst}
 use mathlib.Core.Bool.{Bool, true, false, not}
 use mathlib.Core.List.{List}
 use mathlib.Core.Logic.{⊎-elim}
@@ -16,7 +16,7 @@ use Rattle.geometry.specs.Spheres.{coplanar}
 use Rattle.geometry.specs.Lifting.{pencilOf, sphereOf}
 use Rattle.geometry.proofs.Spheres.{coplanar-is}
 use Rattle.planar.specs.Planes.{InOnePlane}
-use Rattle.planar.proofs.Planes.{FoursInPlane, fours-plane, plane-fours, pairs-plane}
+use Rattle.planar.proofs.Planes.{fours-plane, plane-fours, pairs-plane}
 use Rattle.lists.proofs.Choice.{true-not-false, not-true-false, not-false-true, below-or-same}
 use Rattle.faces.proofs.Fours.{four-found, four-here}
 use Rattle.delaunay.specs.Candidates.{vertex, isFlat}

@@ -15,13 +15,13 @@ use Rattle.geometry.specs.declared.sphere.Position.{Position}
 use Rattle.geometry.specs.declared.sphere.Position.the-variants.{Inside}
 use Rattle.integers.specs.Order.{equal}
 use Rattle.geometry.specs.Bounds.{LiftedBounds, SphereBounds}
-use Rattle.geometry.specs.Lifting.{liftOf, positionBy}
+use Rattle.geometry.specs.Lifting.{positionBy}
 use Rattle.planar.specs.Circles.{collinear}
 use Rattle.planar.specs.Seen.{positionInPlane, circleOf}
 use Rattle.planar.proofs.Seen.{computedCircle, circle-bounds, circle-position-is, collinear-is}
 use Rattle.planar.proofs.Planes.{plane-any}
 use Rattle.lists.specs.Lists.{both, either, some}
-use Rattle.lists.proofs.Choice.{true-not-false, not-true-false, both-left, both-right, both-true, not-false-true}
+use Rattle.lists.proofs.Choice.{true-not-false, not-true-false, both-left, both-right, both-true}
 use Rattle.lists.proofs.Bools.{both-no, both-yes}
 use Rattle.lists.proofs.Ranges.{some-here}
 use Rattle.faces.specs.Faces.{sameTriple, someThree}

@@ -31,8 +31,8 @@ pub fn mark_circles(p: Polygon, masks: &mut [u64; faces::PAIRS]) -> bool
                         continue 'three;
                     }
                 }
-                for v in 0..n {
-                    if is_fourth(sphere::locate(circle, lifted[v]), a, b, c, v) {
+                for w in 0..n {
+                    if is_fourth(sphere::locate(circle, lifted[w]), a, b, c, w) {
                         return true;
                     }
                 }

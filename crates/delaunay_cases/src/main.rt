@@ -147,7 +147,7 @@ const CUBE: [GridPoint; 6] = [
     GridPoint { x: 3, y: 4, z: 5 },
 ];
 
-// All in one plane, the first three on one line, with four on one circle.
+// All in one plane, the first three on one line. The four corners of the square are on one circle, with the vertex between two of them inside.
 const FLAT: [GridPoint; 6] = [
     GridPoint { x: 0, y: 0, z: 0 },
     GridPoint { x: 4, y: 0, z: 0 },
@@ -159,6 +159,40 @@ const FLAT: [GridPoint; 6] = [
         y: 0,
         z: 0,
     },
+];
+
+// A tilted plane, z = x. Vertex 2 is inside the circle of 0, 1 and 3; seen along z it would be outside. The last vertex is off the plane.
+const TILTED: [GridPoint; 6] = [
+    GridPoint { x: 0, y: 0, z: 0 },
+    GridPoint { x: 4, y: 0, z: 4 },
+    GridPoint { x: 2, y: 5, z: 2 },
+    GridPoint { x: 0, y: 4, z: 0 },
+    GridPoint { x: 4, y: 4, z: 4 },
+    GridPoint { x: 4, y: 4, z: 5 },
+];
+
+// A rectangle of the same plane.
+const RECTANGLE: [GridPoint; 6] = [
+    GridPoint { x: 0, y: 0, z: 0 },
+    GridPoint { x: 4, y: 0, z: 4 },
+    GridPoint { x: 4, y: 4, z: 4 },
+    GridPoint { x: 0, y: 4, z: 0 },
+    GridPoint { x: 0, y: 0, z: 0 },
+    GridPoint { x: 0, y: 0, z: 0 },
+];
+
+// All on one line.
+const LINE: [GridPoint; 6] = [
+    GridPoint { x: 0, y: 0, z: 0 },
+    GridPoint { x: 4, y: 2, z: 6 },
+    GridPoint {
+        x: -2,
+        y: -1,
+        z: -3,
+    },
+    GridPoint { x: 2, y: 1, z: 3 },
+    GridPoint { x: 0, y: 0, z: 0 },
+    GridPoint { x: 0, y: 0, z: 0 },
 ];
 
 // All places, exactly as many as are needed, and one too few in each table.
@@ -197,9 +231,25 @@ fn run_cube() {
     run(p, 15, 15, 17);
 }
 
+// Flat rims, with all places and one too few in a table, and one with a vertex off the plane of five; a triangle, with a surface outside each edge too;
+// 12 on a rectangle; all vertices on one line.
 fn run_flat() {
-    run(polygon(5, 1, 1, FLAT), 0, 0, 0);
-    run(polygon(3, 1, 1, RIM_P), 0, 0, 0);
+    let p = polygon(5, 1, 1, FLAT);
+    run(p, 20, 20, 20);
+    run(p, 2, 20, 20);
+    run(polygon(4, 1, 1, TILTED), 20, 20, 20);
+    run(polygon(6, 1, 1, TILTED), 20, 20, 20);
+    let t = polygon(3, 1, 1, RIM_P);
+    run(t, 1, 1, 0);
+    let up = Normal { x: 0, y: 0, z: 9 };
+    run(
+        with_normal(with_normal(with_normal(t, 0, up), 1, up), 2, up),
+        1,
+        1,
+        0,
+    );
+    run(polygon(4, 1, 1, RECTANGLE), 0, 0, 0);
+    run(polygon(4, 1, 1, LINE), 0, 0, 0);
 }
 
 // Polygons that no rim file gives.

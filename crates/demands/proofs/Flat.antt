@@ -1,10 +1,10 @@
 -- Flat rims: which triples are their candidates, rims on one line, and triangles; and what the one call answers. Assumes nothing.
-use mathlib.Core.Path.{_≡_, refl, sym, _∙_, ap, subst}
-use mathlib.Core.Bool.{Bool, true, false}
+use mathlib.Core.Path.{_≡_, refl, _∙_, ap}
+use mathlib.Core.Bool.{Bool, false}
 use mathlib.Core.List.{List, [], _∷_, _++_, List·Memᴰ, List·Memᴰ·head}
 use Prim.Native.Nat.{ℕ, zero, suc, _+_, _<_}
 use native.Mathlib.Omega.{arith}
-use lib.IntN.{ℤ, pos, _-ℤ_}
+use lib.IntN.{ℤ, pos}
 use lib.ListN.{length}
 use lib.Signed.{ltZ}
 use Rattle.integers.proofs.Laws.{sub-self}
@@ -26,13 +26,13 @@ use Rattle.dihedrals.specs.Dihedrals.{rowsOf}
 use Rattle.weights.specs.Weights.{ownWeight, weightsOf}
 use Rattle.reader.specs.File.{Bytes}
 use Rattle.reader.specs.Order.{NoneDue}
-use Rattle.triangulation.specs.Triangulations.{Job, Answer, none, patch, best, bestKey, key, isTriangulation, totalWeight, preorderFrom, countBetween, countOutside}
+use Rattle.triangulation.specs.Triangulations.{Answer, patch, best, bestKey, key, isTriangulation, totalWeight, preorderFrom, countBetween, countOutside}
 use Rattle.triangulation.specs.Jobs.{jobOf}
 use Rattle.triangulation.specs.Demand3.{Triangulates}
 use Rattle.triangulation.proofs.Demand3.{demand3, members, triangle-count}
 use Rattle.triangulator.specs.declared.Outcome.the-variants.{Patch, None}
 use Rattle.triangulator.specs.Call.{settled}
-use Rattle.pipeline.specs.Patching.{Tables, Patching, jobIn, patched, patchFile}
+use Rattle.pipeline.specs.Patching.{Tables, Patching, jobIn, patchFile}
 use Rattle.pipeline.proofs.Values.{valid-job}
 use Rattle.demands.specs.Demand1.{CallDue, polygonIn}
 use Rattle.demands.specs.Candidates.{Counts, Face, abc, abd, acd, bcd, Flat, CountsInPlane, Candidate, face, three, Degenerate, on-sphere, on-circle}

@@ -1,12 +1,12 @@
 -- The worked cases hold. Each is computed over the definitions, the rim files in steps; then one proof for the list. Assumes nothing.
 use mathlib.Core.Path.{_≡_, refl, ap, _∙_}
 use mathlib.Core.Bool.{false}
-use mathlib.Core.List.{List, [], _∷_, map}
+use mathlib.Core.List.{List, [], _∷_, _++_, map}
 use Prim.Native.Nat.{ℕ}
 use lib.Ieee.{ofBits}
 use lib.IntN.{pos, negsuc}
 use lib.Dec.{eqb}
-use lib.ListN.{length, drop, replicate}
+use lib.ListN.{length, take, drop, replicate}
 use Rattle.terms.specs.Limits.{maxVertices}
 use Rattle.terms.specs.Entries.{triple}
 use Rattle.lists.specs.Lists.{filled, either, upFrom, everyFrom, someFrom}
@@ -25,8 +25,9 @@ use Rattle.reader.specs.Reading as reader
 use Rattle.integers.specs.Rounding.{rootDigits}
 use Rattle.geometry.specs.Faces.{lengthOf, ratioOf, bendOf}
 use Rattle.geometry.specs.Spheres.{orientOf, centreOf, distanceOf}
+use Rattle.planar.specs.Circles.{circumcentreOf, distanceInPlane}
 use Rattle.faces.specs.Faces.{isFace}
-use Rattle.delaunay.specs.Candidates.{counts, isFaceOfFour, isFlat, isCandidate, candidatesOf, cospherical, degenerate}
+use Rattle.delaunay.specs.Candidates.{counts, isFaceOfFour, countsInPlane, isFlat, isCandidate, candidatesOf, cospherical, cocircular, degenerate}
 use Rattle.dihedrals.specs.Dihedrals.{rowsOf}
 use Rattle.weights.specs.Weights.{edgeNormal, outsideWeightOf, weightsOf}
 use Rattle.jobs.specs.Job.{ascends, before, candidateFits, hangs, namesPair, rowBefore, rowFits, listsCode, jobCode}
@@ -34,8 +35,8 @@ use Rattle.finder.specs.Finding.{short, numberDue}
 use Rattle.triangulation.specs.Triangulations.{Job, Answer, best, patch, bestKey, key, isTriangulation, totalWeight, preorderFrom, countBetween, countOutside}
 use Rattle.triangulation.specs.Jobs.{jobOf}
 use Rattle.triangulator.specs.Call.{settled, triangulated}
-use Rattle.pipeline.specs.Patching.{tables, Patching, patching, jobIn, tablesShort, patched, patchBy, polygonNumber, fileNumber, patchFile}
-use Rattle.demands.specs.Worked.{of-file, of-tilings, fileP, fileN, lentP, withTotals, worked}
+use Rattle.pipeline.specs.Patching.{tables, Patching, patching, jobIn, tablesShort, patched, patchBy, polygonNumber, fileNumber, patchPolygon, patchFile}
+use Rattle.demands.specs.Worked.{Case, of-file, of-tilings, fileP, fileN, lentP, withTotals, worked}
 
 -- ---- rim file P and the same rim with normals
 -- the polygon on the grid of eighths, with the origin and no normal at each further place
@@ -168,10 +169,18 @@ file-P = call-is none weights-P fileP number-P polygon-P code-P best-P
 pub file-N : patchFile maxVertices fileN lentP ≡ answerWith (patch 809 (1 ∷ 3 ∷ [])) triplesP (80 ∷ 264 ∷ 800 ∷ 233 ∷ []) rowsP
 file-N = call-is slopes weights-N fileN number-N polygon-N code-N best-N
 
+-- ---- flat rims
+abbrev rims : List Case
+rims = take 6 (drop 3 worked)
+
+rims-hold : map (λ c. c .computed) rims ≡ map (λ c. c .expected) rims
+unfolding patchPolygon tablesShort numberDue codeOf repeatedVertex verticesCodeFrom upFrom everyFrom someFrom orientOf circumcentreOf distanceInPlane countsInPlane isFlat isCandidate cocircular degenerate hangs lengthOf rootDigits ratioOf bendOf edgeNormal outsideWeightOf bestKey key isTriangulation totalWeight preorderFrom countBetween countOutside
+rims-hold = refl
+
 -- ---- the list
-others-hold : map (λ c. c .computed) (drop 3 worked) ≡ map (λ c. c .expected) (drop 3 worked)
+others-hold : map (λ c. c .computed) (drop 9 worked) ≡ map (λ c. c .expected) (drop 9 worked)
 unfolding gridNumberOf ofBits finite numerator denominator negative inRange roundEighths triangulated jobCode listsCode everyFrom candidateFits ascends before rowFits namesPair hangs rowBefore bestKey key isTriangulation totalWeight preorderFrom countBetween countOutside rootDigits lengthOf ratioOf bendOf
 others-hold = refl
 
 pub worked-hold : map (λ c. c .computed) worked ≡ map (λ c. c .expected) worked
-worked-hold = λ i. of-file (file-P i) ∷ of-tilings ((ap (λ (p : Polygon). withTotals (jobIn p)) polygon-P ∙ ap withTotals (job-is none weights-P) ∙ tilings-P) i) ∷ of-file (file-N i) ∷ others-hold i
+worked-hold = λ i. of-file (file-P i) ∷ of-tilings ((ap (λ (p : Polygon). withTotals (jobIn p)) polygon-P ∙ ap withTotals (job-is none weights-P) ∙ tilings-P) i) ∷ of-file (file-N i) ∷ (rims-hold i ++ others-hold i)

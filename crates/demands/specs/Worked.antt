@@ -1,26 +1,32 @@
--- The worked cases of rules 6.1 to 6.7 in one list: what the definitions give, and what it should be. Definitions only.
+-- The worked cases of rules 6.1 to 6.8 in one list: what the definitions give, and what it should be. Definitions only.
 use mathlib.Core.List.{List, [], _∷_, map}
 use Prim.Native.Nat.{ℕ}
 use lib.IntN.{ℤ, pos, negsuc}
 use lib.Ieee.{binary32, ofBits}
-use lib.ListN.{replicate}
+use lib.ListN.{length, replicate}
 use Rattle.terms.specs.Limits.{maxVertices}
 use Rattle.terms.specs.Entries.{triple}
+use Rattle.grid.specs.declared.GridPoint.{GridPoint}
+use Rattle.grid.specs.Point.{point}
 use Rattle.grid.specs.declared.GridNumber.{GridNumber}
 use Rattle.grid.specs.declared.GridNumber.the-variants as grid-number
 use Rattle.grid.specs.Number.{gridNumberOf}
 use Rattle.geometry.specs.declared.Vector.{Vector}
 use Rattle.geometry.specs.Faces.{bendOf, bendBetween}
+use Rattle.polygon.specs.declared.Polygon.{Polygon}
+use Rattle.polygon.specs.declared.normal.Normal.{Normal}
+use Rattle.polygon.specs.Normal.{normal}
 use Rattle.reader.specs.Reading.{polygonOf}
 use Rattle.triangulation.specs.Triangulations.{Job, triangulations, totalWeight}
 use Rattle.triangulator.specs.declared.Outcome.the-variants.{Patch, None, Refused}
 use Rattle.triangulator.specs.Call.{Result, result}
 use Rattle.triangulator.specs.Cases.{lists, answered, single, ties}
-use Rattle.pipeline.specs.Patching.{Tables, tables, Patching, patching, jobIn, patchFile}
+use Rattle.pipeline.specs.Patching.{Tables, tables, Patching, patching, jobIn, patchPolygon, patchFile}
 
--- what a case computes: what the one call, or the call for a direct job, answers and leaves; tilings; a bend; a grid number
+-- what a case computes: what the one call on a file or a polygon, or the call for a direct job, answers and leaves; tilings; a bend; a grid number
 pub data Value : Type 0 where
   of-file : Patching → Value
+  of-rim : Patching → Value
   of-job : Result → Value
   of-tilings : List (List ℕ) → Value
   of-bend : ℕ → Value
@@ -68,6 +74,33 @@ downward = record { x = pos 0; y = pos 0; z = negsuc 63 }
 abbrev pub sideward : Vector
 sideward = record { x = pos 48; y = pos 0; z = pos 0 }
 
+-- a rim by its points in steps of the grid, with both factors 1 and these normals (rule 6.8)
+abbrev pub rimOf : List GridPoint → List Normal → Polygon
+rimOf points normals = record { n = length points; «area_factor» = 1; «bend_factor» = 1; vertices = points; normals = normals }
+
+abbrev pub triangle : List GridPoint
+triangle = point (negsuc 111) (negsuc 71) (pos 16) ∷ point (pos 136) (negsuc 87) (pos 44) ∷ point (pos 24) (pos 128) (pos 72) ∷ []
+
+abbrev pub dent : List GridPoint
+dent =
+    point (negsuc 159) (negsuc 159) (pos 0) ∷ point (pos 160) (negsuc 159) (pos 0) ∷ point (pos 160) (pos 160) (pos 0) ∷ point (negsuc 159) (pos 160) (pos 0)
+    ∷ point (negsuc 87) (pos 24) (pos 0) ∷ []
+
+abbrev pub tilted : List GridPoint
+tilted =
+    point (negsuc 71) (negsuc 95) (pos 168) ∷ point (pos 48) (negsuc 23) (negsuc 23) ∷ point (pos 168) (negsuc 71) (negsuc 95)
+    ∷ point (negsuc 23) (pos 48) (negsuc 23) ∷ point (negsuc 95) (pos 168) (negsuc 71) ∷ point (negsuc 23) (negsuc 23) (pos 48) ∷ []
+
+abbrev pub square : List GridPoint
+square = point (pos 0) (pos 0) (pos 0) ∷ point (pos 8) (pos 0) (pos 0) ∷ point (pos 8) (pos 8) (pos 0) ∷ point (pos 0) (pos 8) (pos 0) ∷ []
+
+abbrev pub line : List GridPoint
+line = point (negsuc 95) (negsuc 47) (pos 24) ∷ point (negsuc 31) (negsuc 15) (pos 8) ∷ point (pos 0) (pos 0) (pos 0) ∷ point (pos 64) (pos 32) (negsuc 15) ∷ []
+
+-- tables with so many places for triangles, candidates and rows, 9 in each
+abbrev pub lent : ℕ → ℕ → ℕ → Tables
+lent t c r = tables (replicate t 9) (replicate c (triple 9 9 9)) (replicate c 9) (replicate r (triple 9 9 9)) (replicate c 9)
+
 -- the float of these bits has this grid number
 abbrev pub rounds : ℕ → ℤ → Case
 rounds bits number = case (of-float (gridNumberOf (ofBits binary32 bits))) (of-float (grid-number.Value number))
@@ -89,6 +122,24 @@ worked =
     (80 ∷ 264 ∷ 800 ∷ 233 ∷ 9 ∷ [])
     (triple 1 3 312 ∷ triple 2 0 360 ∷ triple 9 9 9 ∷ [])
     (0 ∷ 0 ∷ 0 ∷ 0 ∷ 9 ∷ []))))
+    -- rule 6.8: a triangle, with a surface outside each edge too; a square with a dent; a rim in a tilted plane; a square; points on one line
+    ∷ case (of-rim (patchPolygon (rimOf triangle []) (lent 2 1 0))) (of-rim (patching (Patch 1 53146) (tables (0 ∷ 9 ∷ []) (triple 0 1 2 ∷ []) (53146 ∷ []) [] (0 ∷ []))))
+    ∷ case (of-rim (patchPolygon (rimOf triangle (replicate 3 (normal (pos 0) (pos 0) (pos 9)))) (lent 1 1 0)))
+    (of-rim (patching (Patch 1 53224) (tables (0 ∷ []) (triple 0 1 2 ∷ []) (53224 ∷ []) [] (0 ∷ []))))
+    ∷ case (of-rim (patchPolygon (rimOf dent []) (lent 3 4 2)))
+    (of-rim (patching (Patch 3 181760) (tables (0 ∷ 2 ∷ 3 ∷ [])
+    (triple 0 1 4 ∷ triple 0 3 4 ∷ triple 1 2 4 ∷ triple 2 3 4 ∷ [])
+    (58880 ∷ 23040 ∷ 79360 ∷ 43520 ∷ [])
+    (triple 0 2 0 ∷ triple 2 3 0 ∷ [])
+    (replicate 4 0))))
+    ∷ case (of-rim (patchPolygon (rimOf tilted []) (lent 4 7 3)))
+    (of-rim (patching (Patch 4 35912) (tables (1 ∷ 4 ∷ 3 ∷ 6 ∷ [])
+    (triple 0 1 2 ∷ triple 0 1 5 ∷ triple 0 4 5 ∷ triple 1 2 3 ∷ triple 1 3 5 ∷ triple 2 3 4 ∷ triple 3 4 5 ∷ [])
+    (24941 ∷ 8978 ∷ 24941 ∷ 8978 ∷ 8978 ∷ 24941 ∷ 8978 ∷ [])
+    (triple 1 4 0 ∷ triple 4 3 0 ∷ triple 4 6 0 ∷ [])
+    (replicate 7 0))))
+    ∷ case (of-rim (patchPolygon (rimOf square []) (lent 2 4 2))) (of-rim (patching (Refused 12) (lent 2 4 2)))
+    ∷ case (of-rim (patchPolygon (rimOf line []) (lent 2 0 0))) (of-rim (patching None (lent 2 0 0)))
     -- rule 6.2: a candidate of weight 5; no candidate
     ∷ case (of-job (answered single)) (of-job (result (Patch 1 5) (0 ∷ 9 ∷ []) (0 ∷ 9 ∷ [])))
     ∷ case (of-job (answered (lists 3 [] [] []))) (of-job (result None (9 ∷ 9 ∷ []) (9 ∷ [])))

@@ -1,12 +1,11 @@
 -- The circle of the definitions: its centre is in the plane, the only point there as far from the three corners; the corners are on it. Assumes nothing.
-use mathlib.Core.Path.{_≡_, refl, sym, _∙_, ap, subst}
+use mathlib.Core.Path.{_≡_, sym, _∙_, ap}
 use mathlib.Core.List.{List, [], _∷_}
-use mathlib.Core.Bool.{Bool, true, false, cond}
+use mathlib.Core.Bool.{true, cond}
 use lib.IntN.{ℤ, pos, _-ℤ_, _*ℤ_, *ℤ-zero}
 use lib.Signed.{ltZ}
 use Rattle.grid.specs.declared.GridPoint.{GridPoint}
 use Rattle.geometry.specs.declared.Vector.{Vector}
-use Rattle.geometry.specs.declared.sphere.Position.{Position}
 use Rattle.geometry.specs.declared.sphere.Position.the-variants.{Inside, On, Outside}
 use Rattle.integers.specs.Order.{equal}
 use Rattle.integers.proofs.Laws.{sub-zero, sub-self}
@@ -17,7 +16,7 @@ use Rattle.geometry.specs.Faces.{normalOf}
 use Rattle.geometry.proofs.Faces.{zero-vector}
 use Rattle.geometry.proofs.Terms.{VectorE, vec, dotE, crossE, scaledE, plusE, minusE, oppositeE, ofVectors}
 use Rattle.geometry.proofs.Spheres.{distances-power}
-use Rattle.planar.specs.Circles.{collinear, circumcentreOf, distanceInPlane, strictlyInsideCircle, onCircle}
+use Rattle.planar.specs.Circles.{collinear, circumcentreOf, distanceInPlane, onCircle}
 use Rattle.planar.specs.Seen.{positionInPlane}
 use Rattle.planar.proofs.Zero.{no-divisor, zero-square}
 

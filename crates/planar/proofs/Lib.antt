@@ -1,7 +1,8 @@
 pub mod Zero
 pub mod Circles
 pub mod Seen
+pub mod Bounds
 pub mod OnePlane
 pub mod Lines
 pub mod Planes
-mod Cases
+pub mod Cases

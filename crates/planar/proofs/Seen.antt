@@ -3,15 +3,12 @@ use mathlib.Core.Path.{_≡_, refl, sym, _∙_, ap}
 use mathlib.Core.List.{List, [], _∷_}
 use mathlib.Core.Bool.{Bool, true, false, cond}
 use Prim.Native.Nat.{ℕ, zero, suc, _+_, _*_}
-use native.Mathlib.Omega.{arith}
-use borrow.Author.Tests.{ne-eqb}
 use lib.IntN.{ℤ, pos, negsuc, natAbs, _+ℤ_, _-ℤ_, _*ℤ_, +ℤ-idl, +ℤ-idr, zero-*ℤ}
 use lib.Dec.{lit≤}
 use lib.Signed.{ltZ}
 use Rattle.grid.specs.declared.GridPoint.{GridPoint}
 use Rattle.geometry.specs.declared.Vector.{Vector}
 use Rattle.geometry.specs.declared.sphere.Lifted.{Lifted}
-use Rattle.geometry.specs.declared.sphere.Pencil.{Pencil}
 use Rattle.geometry.specs.declared.sphere.Sphere.{Sphere}
 use Rattle.geometry.specs.declared.sphere.Position.{Position}
 use Rattle.geometry.specs.declared.sphere.Position.the-variants.{Inside, On, Outside}
@@ -43,7 +40,7 @@ module _ (u v e t : Vector) where
   weighted = minus (scaledBy (squareOf u) v) (scaledBy (squareOf v) u)
 
   -- the centre as computed
-  abbrev seen : Vector
+  abbrev pub seen : Vector
   seen = plus (crossOf weighted e) (scaledBy (pos 0) (crossOf u v))
 
   abbrev seenE : VectorE
@@ -203,7 +200,7 @@ module _ (p q r w : GridPoint) where
   -- n · (w - p), the orientation of the four, is 0
   level : coplanar p q r w ≡ true → dotOf (normalOf p q r) t ≡ pos 0
   unfolding orientOf
-  level h = ring (ofVectors u v t) (dotE (crossE (vec 0) (vec 3)) (vec 6)) (orientE (vec 0) (vec 3) (vec 6)) tt ∙ equal-yes (dotOf u (crossOf v t)) (pos 0) h
+  level h = triple-product u v t ∙ equal-yes (dotOf u (crossOf v t)) (pos 0) h
 
   abbrev power : ℤ
   power = squareOf (normalOf p q r) *ℤ squareOf t -ℤ dotOf (centre u v) t

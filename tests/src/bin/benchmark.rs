@@ -2,9 +2,10 @@
 //! same run, over changing rims and jobs. Each figure is the least mean of several rounds, in
 //! microseconds per call: library, reference, and library / reference. The time is the clock's:
 //! the machine should be quiet, and the least round is the one that other work disturbed least.
-//! The finder's call reads the file too. The first table is of rim files of edition 1; another has
-//! the whole call on the same rims in both editions, and the last the conversion of files, spare
-//! records and all. Without the library only the reference is timed.
+//! The finder's call reads the file too. The first table is of rim files of edition 1, at its end of
+//! flat rims; another has the whole call on the same rims but the flat ones in both editions, and the
+//! last the conversion of files, spare records and all. Without the library only the reference is
+//! timed.
 
 #![forbid(unsafe_code)]
 
@@ -14,8 +15,9 @@ use outside_tests::fast::FAST;
 use outside_tests::jobs::{job_of, random_job};
 use outside_tests::library::library;
 use outside_tests::normals;
+use outside_tests::planes::{Outline, Plane};
 use outside_tests::random::Random;
-use outside_tests::rims::{RimFile, Shape};
+use outside_tests::rims::{Point, RimFile, Shape};
 use std::hint::black_box;
 use std::time::Instant;
 
@@ -81,9 +83,19 @@ fn tables_of(job: &Job) -> Tables {
     Tables::of_job(job, 62, job.candidates.len())
 }
 
-/// The rims of one line of a table.
-fn rim_files(shape: Shape, n: usize, random: &mut Random) -> Vec<RimFile> {
-    (0..256 / n).map(|_| RimFile::plain(&shape.points(n, 1000, random), 1, 1)).collect()
+/// The rims of one line of a table, by a maker of points.
+fn rim_files(n: usize, mut points: impl FnMut() -> Vec<Point>) -> Vec<RimFile> {
+    (0..256 / n).map(|_| RimFile::plain(&points(), 1, 1)).collect()
+}
+
+/// A flat rim with dents, in any plane.
+fn flat_rim(n: usize, random: &mut Random) -> Vec<Point> {
+    let steps = Outline::Star.steps(n, 500, random);
+    let points = Plane::any(500, random).points(&steps);
+    match FAST.sizes(&RimFile::plain(&points, 1, 1).bytes()) {
+        Ok(_) => points,
+        Err(_) => flat_rim(n, random),
+    }
 }
 
 fn check_rims(files: &[Vec<u8>]) {
@@ -94,9 +106,9 @@ fn check_rims(files: &[Vec<u8>]) {
     });
 }
 
-fn rims(shape: Shape, n: usize, random: &mut Random) {
+fn rims(shape: &str, n: usize, files: Vec<RimFile>) {
     let mut tables = Tables::guarded(Places::ENOUGH);
-    let files: Vec<Vec<u8>> = rim_files(shape, n, random).iter().map(RimFile::bytes).collect();
+    let files: Vec<Vec<u8>> = files.iter().map(RimFile::bytes).collect();
     let count = files.len();
     let jobs: Vec<Job> = files.iter().map(|file| job_of(&FAST, file, &mut tables)).collect();
     let mut job_tables: Vec<Tables> = jobs.iter().map(tables_of).collect();
@@ -115,8 +127,7 @@ fn rims(shape: Shape, n: usize, random: &mut Random) {
     });
     let mean = |of: fn(&Job) -> usize| jobs.iter().map(of).sum::<usize>() / count;
     println!(
-        "{:<12} {n:>2} {:>5} {:>5} {} {} {} {}",
-        format!("{shape:?}"),
+        "{shape:<12} {n:>2} {:>5} {:>5} {} {} {} {}",
         mean(|job| job.candidates.len()),
         mean(|job| job.rows.len()),
         reader.shown(),
@@ -129,7 +140,7 @@ fn rims(shape: Shape, n: usize, random: &mut Random) {
 /// The whole call in edition 1, and in edition 2 with a normal on every edge.
 fn editions(shape: Shape, n: usize, random: &mut Random, of_normals: &mut Random) {
     let mut tables = Tables::guarded(Places::ENOUGH);
-    let first = rim_files(shape, n, random);
+    let first = rim_files(n, || shape.points(n, 1000, random));
     let second =
         first.iter().map(|file| file.clone().with_normals(&normals::on_all(n, of_normals)));
     let second: Vec<RimFile> = second.collect();
@@ -146,7 +157,7 @@ fn editions(shape: Shape, n: usize, random: &mut Random, of_normals: &mut Random
 /// Files of n vertices and so many spare records to edition 2, and back to edition 1.
 fn conversions(n: usize, spare: usize, random: &mut Random) {
     let mut out = Lent::guarded(MOST_BYTES);
-    let files: Vec<RimFile> = rim_files(Shape::NoisyCircle, n, random)
+    let files: Vec<RimFile> = rim_files(n, || Shape::NoisyCircle.points(n, 1000, random))
         .into_iter()
         .map(|file| file.among_spare_records(spare, random))
         .collect();
@@ -191,8 +202,13 @@ fn main() {
     println!("\nrims\n{:<12} {:>2} {:>5} {:>5} {}", "shape", "n", "cand", "rows", heads.join(" "));
     for shape in Shape::GENERAL {
         for n in SIZES {
-            rims(shape, n, &mut random);
+            let files = rim_files(n, || shape.points(n, 1000, &mut random));
+            rims(&format!("{shape:?}"), n, files);
         }
+    }
+    let mut of_planes = Random::new(3);
+    for n in SIZES {
+        rims("Flat", n, rim_files(n, || flat_rim(n, &mut of_planes)));
     }
     println!(
         "\ndirect jobs over all triples\n{:>2} {:>6} {:>8} {:>30}",

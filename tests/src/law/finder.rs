@@ -205,7 +205,7 @@ pub fn hangs_on(t: Triangle, u: Triangle) -> bool {
 }
 
 /// Rule 2.14: both ends of rim edge i are corners of t.
-fn has_rim_edge(t: Triangle, i: usize, n: usize) -> bool {
+pub fn has_rim_edge(t: Triangle, i: usize, n: usize) -> bool {
     [i, (i + 1) % n].iter().all(|&end| t.contains(&(end as u8)))
 }
 

@@ -1,6 +1,5 @@
 -- `delaunay::is_flat` meets its contract: at each loop's head the pairs before are in one plane with vertices 0 and 1. Assumes nothing.
 use mathlib.Core.Path.{_≡_, sym, _∙_, ap, subst}
-use mathlib.Core.Bool.{true, false}
 use mathlib.Core.List.{List}
 use Prim.Native.Nat.{ℕ, _-_, _<_}
 use native.Mathlib.Omega.{arith}
@@ -59,7 +58,7 @@ module _ (g : At tie.In-loop) where
   C = g .before .loop .c
 
   c<n : C < polygon .n
-  c<n = g .loop-test .taken
+  c<n = omega (arith, g .loop-test .taken, valid .least)
 
   vertex-in : (v : ℕ) → v < polygon .n → LiftedBounds (getD lifted v unlifted)
   vertex-in = lift-in valid (omega (arith, valid .least)) (g .before .before .lift-vertices .ensures)

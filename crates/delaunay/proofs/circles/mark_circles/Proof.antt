@@ -12,7 +12,7 @@ use Rattle.geometry.specs.declared.sphere.Lifted.{Lifted}
 use Rattle.geometry.specs.declared.sphere.Sphere.{Sphere}
 use Rattle.geometry.proofs.Spheres.{not-tagged}
 use Rattle.planar.specs.Circles.{collinear}
-use Rattle.faces.proofs.Threes.{left1, left2, left3, into2, into3, out1, out2, out3}
+use Rattle.faces.proofs.Threes.{left1, left2, left3, into2, into3, out2, out3}
 use Rattle.delaunay.specs.Candidates.{vertex, insideThree, countsInPlane, isFourth}
 use Rattle.delaunay.proofs.Marking.{kept-start, kept-turn, kept-then}
 use Rattle.delaunay.proofs.Scanning.{Scanned, Passed}
@@ -28,10 +28,10 @@ abbrev μ-loop3 : tie.MeasureT-loop3
 μ-loop3 p masks n a lifted b c₀ circle v₀ a-end b-end c v = n - v
 
 abbrev Inv-loop4 : tie.InvT-loop4
-Inv-loop4 p masks n a lifted b c circle v₀ a-end b-end v = Passed n (isFourth p a b c) v
+Inv-loop4 p masks n a lifted b c circle w₀ a-end b-end w = Passed n (isFourth p a b c) w
 
 abbrev μ-loop4 : tie.MeasureT-loop4
-μ-loop4 p masks n a lifted b c circle v₀ a-end b-end v = n - v
+μ-loop4 p masks n a lifted b c circle w₀ a-end b-end w = n - w
 
 abbrev Inv-three : tie.InvT-three
 Inv-three p masks₀ n a lifted b c₀ a-end b-end masks c = Kept p masks₀ masks (λ P. left3 n P a b c₀) (λ P. left3 n P a b c)
@@ -162,7 +162,7 @@ three-again : At tie.Need-three-again
 three-again c =
     let k = c .before .before .before in
     let t = triangle k in
-    on-line t (sym (line-is t) ∙ zero-bits (circle k .orient) (signed-fits tt (circle-in t .orient-in)) (c .if1 .taken))
+    on-line t (sym (line-is t) ∙ zero-bits (circle k .orient) (signed-fits tt (circle-in t .orient-in)) (omega (arith, c .if1 .taken)))
 
 loop3-holds : At tie.Need-loop3-holds
 loop3-holds c = (refl, refl)
@@ -176,16 +176,21 @@ module _ (l : At tie.At-loop3) where
   Proper c = TriangleAt round c × (collinear (vertex (polygon (at round)) (A (at round))) (vertex (polygon (at round)) (B (at round))) (vertex (polygon (at round)) c) ≡ false)
 
   proper : Proper (l .loop3 .c)
-  proper = subst Proper (sym (l .loop3 .inv .0)) (triangle round, sym (line-is (triangle round)) ∙ other-bits (circle round .orient) (l .before .if1 .left))
+  proper = subst Proper (sym (l .loop3 .inv .0)) (triangle round, sym (line-is (triangle round)) ∙ other-bits (circle round .orient) (λ z. l .before .if1 .left (omega (arith, z))))
+
+-- at the vertex of a turn
+module _ (s : At tie.In-loop3) where
+  v<n : s .before .loop3 .v < polygon (at (round (s .before))) .n
+  v<n = omega (arith, s .loop3-test .taken, c<n (at (round (s .before))))
 
 mul-locate : At tie.Need-mul-locate
-mul-locate c = omega (arith, valid (at (round (c .before))) .most, c .loop3-test .taken)
+mul-locate c = omega (arith, valid (at (round (c .before))) .most, v<n c)
 
 array-copy-out-locate : At tie.Need-array-copy-out-locate
-array-copy-out-locate c = omega (arith, valid (at (round (c .before))) .most, c .loop3-test .taken)
+array-copy-out-locate c = omega (arith, valid (at (round (c .before))) .most, v<n c)
 
 locate-requires : At tie.Need-locate-requires
-locate-requires c κs = let t = triangle (round (c .before .before)) in (circle-in t, vertex-in t _ (c .before .loop3-test .taken))
+locate-requires c κs = let t = triangle (round (c .before .before)) in (circle-in t, vertex-in t _ (v<n (c .before)))
 
 enum-told : At tie.Need-enum-told
 enum-told c = c .match .keys1
@@ -200,19 +205,19 @@ three-again-2 : At tie.Need-three-again-2
 three-again-2 c =
     let s = c .before .before .before .before in
     let t = proper (s .before) in
-    three-dropped (t .0) (t .1) _ (s .loop3-test .taken) (c .before .before .locate .ensures) (c .enum-told .given .1)
+    three-dropped (t .0) (t .1) _ (v<n s) (c .before .before .locate .ensures) (c .enum-told .given .1)
 
 add-v : At tie.Need-add-v
-add-v c = let s = c .before .before .before in omega (arith, valid (at (round (s .before))) .most, s .loop3-test .taken)
+add-v c = let s = c .before .before .before in omega (arith, valid (at (round (s .before))) .most, v<n s)
 
 loop3-less : At tie.Need-loop3-less
-loop3-less c = omega (arith, c .before .before .before .loop3-test .taken)
+loop3-less c = omega (arith, v<n (c .before .before .before))
 
 loop3-again : At tie.Need-loop3-again
 loop3-again c =
     let s = c .before .before .before in
     let t = proper (s .before) in
-    (s .before .loop3 .inv .0, vertex-passed (t .0) (t .1) _ (s .loop3-test .taken) (c .before .locate .ensures) (not-tagged _ (c .match .keys2)) (s .before .loop3 .inv .1))
+    (s .before .loop3 .inv .0, vertex-passed (t .0) (t .1) _ (v<n s) (c .before .locate .ensures) (not-tagged _ (c .match .keys2)) (s .before .loop3 .inv .1))
 
 loop4-holds : At tie.Need-loop4-holds
 loop4-holds c = refl
@@ -249,8 +254,8 @@ returns c =
     ∙ sym (g .before .before .before .loop2 .inv .twelve) ∙ into3 _ P _ _ (b<n g)
     ∙ three-cocircular (t .0) (t .1) (full q) _ (m .loop4-test .taken) (c .before .before .locate2 .ensures) (c .before .is-fourth .ensures) (c .if2 .taken))
 
-add-v-2 : At tie.Need-add-v-2
-add-v-2 c = let m = c .before .before .before .before in omega (arith, valid (at (round (scan (m .before .before)))) .most, m .loop4-test .taken)
+add-w : At tie.Need-add-w
+add-w c = let m = c .before .before .before .before in omega (arith, valid (at (round (scan (m .before .before)))) .most, m .loop4-test .taken)
 
 loop4-less : At tie.Need-loop4-less
 loop4-less c = omega (arith, c .before .before .before .before .loop4-test .taken)
@@ -312,5 +317,5 @@ mark-circles-spec =
     (tie.spec Inv-loop3 μ-loop3 Inv-loop4 μ-loop4 Inv-three μ-three Inv-loop2 μ-loop2 Inv-loop μ-loop sub-a-end loop-holds lift-vertices-requires add-b sub-b-end
     loop2-holds add-c three-holds mul-circle-through array-copy-out-circle-through mul-circle-through-2 array-copy-out-circle-through-2 circle-through-requires
     add-c-2 three-less three-again loop3-holds mul-locate array-copy-out-locate locate-requires enum-told add-c-3 three-less-2 three-again-2 add-v loop3-less
-    loop3-again loop4-holds mul-locate-2 array-copy-out-locate-2 locate-requires-2 is-fourth-requires returns add-v-2 loop4-less loop4-again insert-requires add-c-4
+    loop3-again loop4-holds mul-locate-2 array-copy-out-locate-2 locate-requires-2 is-fourth-requires returns add-w loop4-less loop4-again insert-requires add-c-4
     three-less-3 three-again-3 add-b-2 loop2-less loop2-again add-a loop-less loop-again returns-2)
