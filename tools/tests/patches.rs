@@ -7,9 +7,12 @@ use patch_box::{Number, Outcome, OwnedTables, TRIM_VERTICES};
 use rim::patch::{close, Triangle};
 use std::collections::HashMap;
 
-const RIMS: [&str; 11] = [
+const RIMS: [&str; 14] = [
     "p.rim",
+    "triangle.rim",
     "flat5.rim",
+    "dent.rim",
+    "tilted.rim",
     "cut24.rim",
     "cut25.rim",
     "saddle12.rim",
@@ -24,21 +27,28 @@ const RIMS: [&str; 11] = [
 /// Each example is what the tool makes today. `./rim` with the words writes it again.
 #[test]
 fn examples_are_up_to_date() {
-    let cases: [(&[&str], &str, &str); 14] = [
+    let cases: [(&[&str], &str, &str); 21] = [
         (&["make"], "cut24.txt", "cut24.rim"),
         (&["draw"], "cut24.rim", "cut24.svg"),
         (&["make"], "cut25.txt", "cut25.rim"),
         (&["draw"], "cut25.rim", "cut25.svg"),
+        (&["make"], "dent.txt", "dent.rim"),
+        (&["draw"], "dent.rim", "dent.svg"),
         (&["make"], "gap.txt", "gap.rim"),
         (&["draw"], "gap.rim", "gap.svg"),
         (&["stl"], "gap.rim", "gap.stl"),
         (&["obj"], "gap.rim", "gap.obj"),
         (&["make"], "halves.txt", "halves.rim"),
+        (&["make"], "line.txt", "line.rim"),
         (&["make", "--bend", "16"], "ridge.txt", "ridge.rim"),
         (&["draw"], "ridge.rim", "ridge.svg"),
         (&["make", "--bend", "16"], "ridge-normals.txt", "ridge-normals.rim"),
         (&["draw"], "ridge-normals.rim", "ridge-normals.svg"),
         (&["make"], "skew64.txt", "skew64.rim"),
+        (&["make"], "tilted.txt", "tilted.rim"),
+        (&["draw", "--from", "1,1,1"], "tilted.rim", "tilted.svg"),
+        (&["make"], "triangle.txt", "triangle.rim"),
+        (&["draw"], "triangle.rim", "triangle.svg"),
     ];
     for (words, from, name) in cases {
         let input = example(from).display().to_string();

@@ -13,7 +13,7 @@ use Rattle.lists.proofs.Bools.{either-no, either-swap}
 use Rattle.faces.specs.Faces.{triplesOf}
 use Rattle.faces.specs.Masks.{has, emptySet}
 use Rattle.faces.proofs.Sets.{triples-same}
-use Rattle.delaunay.specs.Candidates.{isCandidate, candidatesOf, isFlat, countsInPlane, isFaceOfFour, cocircular, cospherical, degenerate}
+use Rattle.delaunay.specs.Candidates.{isCandidate, candidatesOf, isFlat, isCountedThree, isFaceOfFour, cocircular, cospherical, degenerate}
 use Rattle.delaunay.specs.Search.{Put, Searched, Marked}
 
 -- T is the type of tests, of fours or of threes: `gives x y z` asks whether one gives the triple, `due` whether it makes 12 due;
@@ -24,7 +24,7 @@ pub record Kept {T : Type 0} (gives : ℕ → ℕ → ℕ → T) (due : T) (mark
   pub long : length marks ≡ length marks₀
 
 -- 12 is due
-pub put-due : {n : ℕ} {test : ℕ → ℕ → ℕ → Bool} {twelve : Bool} {marks₀ marks : List ℕ} → twelve ≡ true → Put n test twelve marks₀ true marks
+pub put-due : {test : ℕ → ℕ → ℕ → Bool} {twelve : Bool} {marks₀ marks : List ℕ} → twelve ≡ true → Put test twelve marks₀ true marks
 put-due e = record { found = sym e; put = λ h. absurd (true-not-false refl h) }
 
 module _ {T : Type 0} {gives : ℕ → ℕ → ℕ → T} {due : T} where
@@ -72,28 +72,26 @@ module _ {T : Type 0} {gives : ℕ → ℕ → ℕ → T} {due : T} where
     kept-due e = sym (k .twelve) ∙ next due ∙ ap (λ (t : Bool). either t (left′ due)) e
 
   -- all fours or threes are done
-  pub put-all : {n : ℕ} {marks₀ marks : List ℕ} {left₀ left : T → Bool} → n ≤ maxVertices → ((P : T) → left P ≡ false) → Kept gives due marks₀ marks left₀ left → Put n (λ x y z. left₀ (gives x y z)) (left₀ due) marks₀ false marks
-  put-all {marks = marks} {left = left} few none k = record {
+  pub put-all : {marks₀ marks : List ℕ} {left₀ left : T → Bool} → ((P : T) → left P ≡ false) → Kept gives due marks₀ marks left₀ left → Put (λ x y z. left₀ (gives x y z)) (left₀ due) marks₀ false marks
+  put-all {marks = marks} none k = record {
     found = sym (none due) ∙ k .twelve;
-    put = λ e x y z hx hy hz.
-        sym (ap (λ (t : Bool). either (has marks x y z) t) (none (gives x y z)) ∙ either-no (has marks x y z))
-        ∙ k .faces x y z (omega arith) (omega arith) (omega arith);
+    put = λ e x y z hx hy hz. sym (ap (λ (t : Bool). either (has marks x y z) t) (none (gives x y z)) ∙ either-no (has marks x y z)) ∙ k .faces x y z hx hy hz;
   }
 
 module _ (p : Polygon) {marks₀ marks : List ℕ} {due : Bool} where
   -- of a flat polygon the threes that count were put into the set, of another the faces of the fours
-  pub searched-flat : isFlat p ≡ true → Put (p .n) (countsInPlane p) (cocircular p) marks₀ due marks → Searched p marks₀ due marks
+  pub searched-flat : isFlat p ≡ true → Put (isCountedThree p) (cocircular p) marks₀ due marks → Searched p marks₀ due marks
   unfolding isCandidate degenerate
   searched-flat e s = record {
     found = s .found ∙ sym (yes (cocircular p) (cospherical p) e);
-    put = λ h x y z hx hy hz. s .put h x y z hx hy hz ∙ ap (λ (t : Bool). either (has marks₀ x y z) t) (sym (yes (countsInPlane p x y z) (isFaceOfFour p x y z) e));
+    put = λ h x y z hx hy hz. s .put h x y z hx hy hz ∙ ap (λ (t : Bool). either (has marks₀ x y z) t) (sym (yes (isCountedThree p x y z) (isFaceOfFour p x y z) e));
   }
 
-  pub searched-solid : isFlat p ≡ false → Put (p .n) (isFaceOfFour p) (cospherical p) marks₀ due marks → Searched p marks₀ due marks
+  pub searched-solid : isFlat p ≡ false → Put (isFaceOfFour p) (cospherical p) marks₀ due marks → Searched p marks₀ due marks
   unfolding isCandidate degenerate
   searched-solid e s = record {
     found = s .found ∙ sym (no (cocircular p) (cospherical p) e);
-    put = λ h x y z hx hy hz. s .put h x y z hx hy hz ∙ ap (λ (t : Bool). either (has marks₀ x y z) t) (sym (no (countsInPlane p x y z) (isFaceOfFour p x y z) e));
+    put = λ h x y z hx hy hz. s .put h x y z hx hy hz ∙ ap (λ (t : Bool). either (has marks₀ x y z) t) (sym (no (isCountedThree p x y z) (isFaceOfFour p x y z) e));
   }
 
 module _ {p : Polygon} where
@@ -108,4 +106,4 @@ module _ {p : Polygon} where
   pub listed-are : {marks₀ marks : List ℕ} {due : Bool} → p .n ≤ maxVertices → ((x y z : ℕ) → x < maxVertices → y < maxVertices → z < maxVertices → has marks₀ x y z ≡ false) → due ≡ false → Marked p marks₀ due marks → triplesOf (p .n) (has marks) ≡ candidatesOf p
   listed-are {marks₀} {marks} h none e m =
       triples-same (p .n) (has marks) (isCandidate p)
-      (λ x y z hx hy hz. m .searched .put e x y z hx hy hz ∙ ap (λ (t : Bool). either t (isCandidate p x y z)) (none x y z (omega arith) (omega arith) (omega arith)))
+      (λ x y z hx hy hz. m .searched .put e x y z (omega arith) (omega arith) (omega arith) ∙ ap (λ (t : Bool). either t (isCandidate p x y z)) (none x y z (omega arith) (omega arith) (omega arith)))

@@ -6,7 +6,6 @@ use Prim.Native.Nat.{ℕ, _+_, _-_, _≤_, _<_}
 use native.Mathlib.Omega.{arith}
 use lib.Dec.{eqb}
 use lib.ListN.{length, getD}
-use Rattle.terms.specs.Limits.{maxVertices}
 use Rattle.polygon.specs.declared.Polygon.{Polygon}
 use Rattle.geometry.specs.declared.sphere.Lifted.{Lifted}
 use Rattle.geometry.specs.declared.sphere.Pencil.{Pencil}
@@ -110,11 +109,11 @@ module _ {p : Polygon} {a b c d : ℕ} {lifted : List Lifted} {pencil : Pencil} 
         (both-no (counts p a b c d) (pass-end (p .n) (isFifth p a b c d) v h s))
 
 -- 12 is due
-pub twelve-due : (p : Polygon) {marks₀ marks : List ℕ} → left1 (p .n) (hasFifth p) 0 ≡ true → Put (p .n) (isFaceOfFour p) (cospherical p) marks₀ true marks
+pub twelve-due : (p : Polygon) {marks₀ marks : List ℕ} → left1 (p .n) (hasFifth p) 0 ≡ true → Put (isFaceOfFour p) (cospherical p) marks₀ true marks
 unfolding cospherical
 twelve-due p e = marking.put-due e
 
 -- all fours are done
-pub all-marked : (p : Polygon) {marks₀ marks : List ℕ} (a : ℕ) → p .n ≤ maxVertices → p .n ≤ a + 3 → Kept p marks₀ marks (λ P. left1 (p .n) P 0) (λ P. left1 (p .n) P a) → Put (p .n) (isFaceOfFour p) (cospherical p) marks₀ false marks
+pub all-marked : (p : Polygon) {marks₀ marks : List ℕ} (a : ℕ) → p .n ≤ a + 3 → Kept p marks₀ marks (λ P. left1 (p .n) P 0) (λ P. left1 (p .n) P a) → Put (isFaceOfFour p) (cospherical p) marks₀ false marks
 unfolding cospherical isFaceOfFour
-all-marked p a m h k = put-all m (λ P. out1 (p .n) P a h) k
+all-marked p a h k = put-all (λ P. out1 (p .n) P a h) k

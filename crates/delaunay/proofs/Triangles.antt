@@ -28,7 +28,7 @@ use Rattle.faces.specs.Faces.{sameTriple, someThree}
 use Rattle.faces.specs.Masks.{pairCount, has, withTriple}
 use Rattle.faces.proofs.Threes.{left1, left3, next3, out1, three-found, three-here}
 use Rattle.faces.proofs.Sets.{put-in, same-triple, triple-same}
-use Rattle.delaunay.specs.Candidates.{vertex, insideThree, onThree, countsInPlane, isFlat, isCorner, isFourth, cocircular}
+use Rattle.delaunay.specs.Candidates.{vertex, insideThree, onThree, countsInPlane, isCountedThree, isFlat, isCorner, isFourth, cocircular}
 use Rattle.delaunay.specs.Search.{Lifts, Put, isOn, unlifted}
 use Rattle.delaunay.proofs.Marking as marking
 use Rattle.delaunay.proofs.Marking.{put-all}
@@ -152,24 +152,11 @@ module _ {p : Polygon} {a b c : ℕ} {lifted : List Lifted} {circle : Sphere} {m
           (both-no (countsInPlane p a b c) (pass-end (p .n) (isFourth p a b c) v h s))
 
 -- 12 is due
-pub twelve-due : (p : Polygon) {marks₀ marks : List ℕ} → left1 (p .n) (hasFourth p) 0 ≡ true → Put (p .n) (countsInPlane p) (cocircular p) marks₀ true marks
+pub twelve-due : (p : Polygon) {marks₀ marks : List ℕ} → left1 (p .n) (hasFourth p) 0 ≡ true → Put (isCountedThree p) (cocircular p) marks₀ true marks
 unfolding cocircular
 twelve-due p e = marking.put-due e
 
--- the test of a triple finds that triple
-given-is : (p : Polygon) (x y z : ℕ) → x < y → y < z → z < p .n → someThree (p .n) (gives p x y z) ≡ countsInPlane p x y z
-given-is p x y z hx hy hz = go (countsInPlane p x y z) refl
-  where
-    go : (b : Bool) → countsInPlane p x y z ≡ b → someThree (p .n) (gives p x y z) ≡ b
-    go true e = three-here (p .n) (gives p x y z) (record { a = x; b = y; c = z; a<b = hx; b<c = hy; c<n = hz; holds-of = both-true (same-triple {a = x} {b = y} {c = z} {x = x} {y = y} {z = z} (refl, refl, refl)) e })
-    go false e = not-true-false _ (λ h.
-        let f = three-found (p .n) (gives p x y z) h in
-        let s = triple-same {a = f .a} {b = f .b} {c = f .c} {x = x} {y = y} {z = z} (both-left (sameTriple (f .a) (f .b) (f .c) x y z) (countsInPlane p (f .a) (f .b) (f .c)) (f .holds-of)) in
-        true-not-false (sym (λ i. countsInPlane p (s .0 i) (s .1 i) (s .2 i)) ∙ both-right (sameTriple (f .a) (f .b) (f .c) x y z) (countsInPlane p (f .a) (f .b) (f .c)) (f .holds-of)) e)
-
 -- all threes are done
-pub all-marked : (p : Polygon) {marks₀ marks : List ℕ} (a : ℕ) → p .n ≤ maxVertices → p .n ≤ a + 2 → Kept p marks₀ marks (λ P. left1 (p .n) P 0) (λ P. left1 (p .n) P a) → Put (p .n) (countsInPlane p) (cocircular p) marks₀ false marks
-unfolding cocircular
-all-marked p {marks₀} a m h k =
-    let s = put-all m (λ P. out1 (p .n) P a h) k in
-    record { found = s .found; put = λ e x y z hx hy hz. s .put e x y z hx hy hz ∙ ap (λ (t : Bool). either (has marks₀ x y z) t) (given-is p x y z hx hy hz) }
+pub all-marked : (p : Polygon) {marks₀ marks : List ℕ} (a : ℕ) → p .n ≤ a + 2 → Kept p marks₀ marks (λ P. left1 (p .n) P 0) (λ P. left1 (p .n) P a) → Put (isCountedThree p) (cocircular p) marks₀ false marks
+unfolding cocircular isCountedThree
+all-marked p a h k = put-all (λ P. out1 (p .n) P a h) k

@@ -9,7 +9,7 @@ use Rattle.polygon.specs.Polygon.{vertexAt}
 use Rattle.geometry.specs.Spheres.{coplanar, strictlyInside, onSphere}
 use Rattle.planar.specs.Circles.{collinear, strictlyInsideCircle, onCircle}
 use Rattle.lists.specs.Lists.{both, either, every, some}
-use Rattle.faces.specs.Faces.{isFace, someThree, someFour, triplesOf}
+use Rattle.faces.specs.Faces.{sameTriple, isFace, someThree, someFour, triplesOf}
 
 -- vertex i of the rim (rule 1.8)
 abbrev pub vertex : Polygon → ℕ → GridPoint
@@ -43,13 +43,17 @@ onThree p a b c v = onCircle (vertex p a) (vertex p b) (vertex p c) (vertex p v)
 unfoldable pub countsInPlane : Polygon → ℕ → ℕ → ℕ → Bool
 countsInPlane p a b c = both (not (collinear (vertex p a) (vertex p b) (vertex p c))) (every 0 (p .n) (λ v. not (insideThree p a b c v)))
 
+-- (x, y, z) is a three that counts (rule 2.4)
+unfoldable pub isCountedThree : Polygon → ℕ → ℕ → ℕ → Bool
+isCountedThree p x y z = someThree (p .n) (λ a b c. both (sameTriple a b c x y z) (countsInPlane p a b c))
+
 -- the rim is flat (rule 2.5): each four of its vertices is in one plane. That is so exactly when some plane holds them all: proofs/Flat.antt
 unfoldable pub isFlat : Polygon → Bool
 isFlat p = not (someFour (p .n) (λ a b c d. not (coplanar (vertex p a) (vertex p b) (vertex p c) (vertex p d))))
 
 -- (x, y, z) is a candidate (rule 2.4)
 unfoldable pub isCandidate : Polygon → ℕ → ℕ → ℕ → Bool
-isCandidate p x y z = cond (isFlat p) (countsInPlane p x y z) (isFaceOfFour p x y z)
+isCandidate p x y z = cond (isFlat p) (isCountedThree p x y z) (isFaceOfFour p x y z)
 
 -- the candidates, in order (rule 2.4)
 abbrev pub candidatesOf : Polygon → List (List ℕ)

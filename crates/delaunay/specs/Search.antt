@@ -5,6 +5,7 @@ use mathlib.Core.List.{List}
 use Prim.Native.Nat.{ℕ, zero, suc, _<_}
 use lib.IntN.{pos}
 use lib.ListN.{getD}
+use Rattle.terms.specs.Limits.{maxVertices}
 use Rattle.polygon.specs.declared.Polygon.{Polygon}
 use Rattle.geometry.specs.declared.sphere.Lifted.{Lifted}
 use Rattle.geometry.specs.declared.sphere.Position.{Position}
@@ -31,14 +32,14 @@ abbrev pub scannedAt : ℕ → ℕ → ℕ
 scannedAt last zero = last
 scannedAt last (suc i) = i
 
--- the triples of n vertices for which a test holds were put into the set; where something was found that makes 12 due, some of them
-pub record Put (n : ℕ) (test : ℕ → ℕ → ℕ → Bool) (twelve : Bool) (before : List ℕ) (due : Bool) (after : List ℕ) : Type 0 where
+-- the triples for which a test holds were put into the set; where something was found that makes 12 due, some of them
+pub record Put (test : ℕ → ℕ → ℕ → Bool) (twelve : Bool) (before : List ℕ) (due : Bool) (after : List ℕ) : Type 0 where
   pub found : due ≡ twelve
-  pub put : due ≡ false → (x y z : ℕ) → x < y → y < z → z < n → has after x y z ≡ either (has before x y z) (test x y z)
+  pub put : due ≡ false → (x y z : ℕ) → x < maxVertices → y < maxVertices → z < maxVertices → has after x y z ≡ either (has before x y z) (test x y z)
 
 -- the candidates were put into the set, where 12 is not due
 abbrev pub Searched : Polygon → List ℕ → Bool → List ℕ → Type 0
-Searched p = Put (p .n) (isCandidate p) (degenerate p)
+Searched p = Put (isCandidate p) (degenerate p)
 
 -- the same, and where 12 is due, the set is empty
 pub record Marked (p : Polygon) (before : List ℕ) (due : Bool) (after : List ℕ) : Type 0 where

@@ -9,13 +9,13 @@ ghost use mathlib.Core.Bool.{true};
 ghost use lib.ListN.{length};
 ghost use Rattle.faces.specs.Masks.{pairCount};
 ghost use Rattle.polygon.specs.Polygon.{Valid};
-ghost use Rattle.delaunay.specs.Candidates.{isFlat, countsInPlane, cocircular};
+ghost use Rattle.delaunay.specs.Candidates.{isFlat, isCountedThree, cocircular};
 ghost use Rattle.delaunay.specs.Search.{Put};
 
 // Puts the threes that count into the set, up to the first that has a fourth vertex on its circle: true there.
 pub fn mark_circles(p: Polygon, masks: &mut [u64; faces::PAIRS]) -> bool
     requires { ⌜ (Valid p) × (isFlat p ≡ true) × (length (now masks) ≡ pairCount) ⌝ }
-    ensures { λ r. ⌜ Put (p .n) (countsInPlane p) (cocircular p) (now (masks .entry)) r (now (masks .exit)) ⌝ }
+    ensures { λ r. ⌜ Put (isCountedThree p) (cocircular p) (now (masks .entry)) r (now (masks .exit)) ⌝ }
 {
     let n = p.n;
     for a in 0..n - 2 {

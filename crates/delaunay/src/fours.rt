@@ -57,7 +57,7 @@ fn still_refuted(n: usize, c: usize, pencil: Pencil, one: Lifted, other: Lifted)
 // left. The vertex that dropped the last four is looked at first, and with the d of the last three that was left it is tried on the next one.
 pub fn mark_fours(p: Polygon, masks: &mut [u64; faces::PAIRS]) -> bool
     requires { ⌜ (Valid p) × (length (now masks) ≡ pairCount) ⌝ }
-    ensures { λ r. ⌜ Put (p .n) (isFaceOfFour p) (cospherical p) (now (masks .entry)) r (now (masks .exit)) ⌝ }
+    ensures { λ r. ⌜ Put (isFaceOfFour p) (cospherical p) (now (masks .entry)) r (now (masks .exit)) ⌝ }
 {
     let n = p.n;
     let mut last = 0;

@@ -16,9 +16,13 @@ use Rattle.faces.specs.Faces.{sameTriple, isFace}
 use Rattle.faces.proofs.Sets.{triple-same, same-triple}
 use Rattle.faces.proofs.Threes.{three-found, three-here}
 use Rattle.faces.proofs.Fours.{four-found, four-here}
-use Rattle.delaunay.specs.Candidates.{vertex, insideFour, onFour, counts, isFaceOfFour, insideThree, onThree, countsInPlane, isFlat, isCandidate, isCorner, isFifth, cospherical, isFourth, cocircular, degenerate}
+use Rattle.delaunay.specs.Candidates.{vertex, insideFour, onFour, counts, isFaceOfFour, insideThree, onThree, countsInPlane, isCountedThree, isFlat, isCandidate, isCorner, isFifth, cospherical, isFourth, cocircular, degenerate}
 use Rattle.delaunay.proofs.Flat.{not-flat, flat-plane, plane-flat}
 use Rattle.demands.specs.Candidates.{Counts, Face, abc, abd, acd, bcd, CountsInPlane, Candidate, face, three, Cospherical, Cocircular, Degenerate, on-sphere, on-circle}
+
+-- a statement about a triple holds of the same triple
+at : (P : ℕ → ℕ → ℕ → Type 0) {i j k x y z : ℕ} → (i ≡ x) × (j ≡ y) × (k ≡ z) → P i j k → P x y z
+at P {i} {j} {k} {x} {y} {z} e f = subst (λ (n : ℕ). P n y z) (e .0) (subst (λ (n : ℕ). P i n z) (e .1) (subst (λ (n : ℕ). P i j n) (e .2) f))
 
 -- ---- four vertices that count, as a test and as a statement
 module _ (p : Polygon) (a b c d : ℕ) where
@@ -45,22 +49,19 @@ module _ (p : Polygon) (a b c d : ℕ) where
   face-true : Counts p a b c d → (x y z : ℕ) → isFace a b c d x y z ≡ true → Face p x y z
   unfolding isFace
   face-true k x y z f =
-      ⊎-elim (λ s. let t = triple-same {a = a} {b = b} {c = c} {x = x} {y = y} {z = z} s in at (t .0) (t .1) (t .2) (abc a b c d k))
-      (λ g. ⊎-elim (λ s. let t = triple-same {a = a} {b = b} {c = d} {x = x} {y = y} {z = z} s in at (t .0) (t .1) (t .2) (abd a b c d k))
-      (λ h. ⊎-elim (λ s. let t = triple-same {a = a} {b = c} {c = d} {x = x} {y = y} {z = z} s in at (t .0) (t .1) (t .2) (acd a b c d k))
-      (λ s. let t = triple-same {a = b} {b = c} {c = d} {x = x} {y = y} {z = z} s in at (t .0) (t .1) (t .2) (bcd a b c d k))
+      ⊎-elim (λ s. at (Face p) (triple-same {a = a} {b = b} {c = c} {x = x} {y = y} {z = z} s) (abc a b c d k))
+      (λ g. ⊎-elim (λ s. at (Face p) (triple-same {a = a} {b = b} {c = d} {x = x} {y = y} {z = z} s) (abd a b c d k))
+      (λ h. ⊎-elim (λ s. at (Face p) (triple-same {a = a} {b = c} {c = d} {x = x} {y = y} {z = z} s) (acd a b c d k))
+      (λ s. at (Face p) (triple-same {a = b} {b = c} {c = d} {x = x} {y = y} {z = z} s) (bcd a b c d k))
       (either-cases (sameTriple a c d x y z) (sameTriple b c d x y z) h))
       (either-cases (sameTriple a b d x y z) (either (sameTriple a c d x y z) (sameTriple b c d x y z)) g))
       (either-cases (sameTriple a b c x y z) (either (sameTriple a b d x y z) (either (sameTriple a c d x y z) (sameTriple b c d x y z))) f)
-    where
-      at : {i j k x y z : ℕ} → i ≡ x → j ≡ y → k ≡ z → Face p i j k → Face p x y z
-      at {i} {j} {k} {x} {y} {z} ei ej ek f = subst (λ (n : ℕ). Face p n y z) ei (subst (λ (n : ℕ). Face p i n z) ej (subst (λ (n : ℕ). Face p i j n) ek f))
 
   -- the test of a face of theirs finds them
   found : (x y z : ℕ) → Counts p a b c d → isFace a b c d x y z ≡ true → isCandidate p x y z ≡ true
   unfolding isCandidate isFaceOfFour
   found x y z k f =
-      no (countsInPlane p x y z) (isFaceOfFour p x y z) (counts-solid k)
+      no (isCountedThree p x y z) (isFaceOfFour p x y z) (counts-solid k)
       ∙ four-here (p .n) (λ a b c d. both (isFace a b c d x y z) (counts p a b c d)) (record {
         a = a;
         b = b;
@@ -109,13 +110,33 @@ module _ (p : Polygon) where
       (counts-true p (f .a) (f .b) (f .c) (f .d) (f .a<b) (f .b<c) (f .c<d) (f .d<n) (both-right (isFace (f .a) (f .b) (f .c) (f .d) x y z) (counts p (f .a) (f .b) (f .c) (f .d)) (f .holds-of)))
       x y z (both-left (isFace (f .a) (f .b) (f .c) (f .d) x y z) (counts p (f .a) (f .b) (f .c) (f .d)) (f .holds-of))
 
-  pub true-candidate : (x y z : ℕ) → x < y → y < z → z < p .n → isCandidate p x y z ≡ true → Candidate p x y z
+  counted-three : isFlat p ≡ true → (x y z : ℕ) → isCountedThree p x y z ≡ true → CountsInPlane p x y z
+  unfolding isCountedThree
+  counted-three h x y z e =
+      let f = three-found (p .n) (λ a b c. both (sameTriple a b c x y z) (countsInPlane p a b c)) e in
+      let s = triple-same {a = f .a} {b = f .b} {c = f .c} {x = x} {y = y} {z = z} (both-left (sameTriple (f .a) (f .b) (f .c) x y z) (countsInPlane p (f .a) (f .b) (f .c)) (f .holds-of)) in
+      at (CountsInPlane p) s
+      (three-true p (f .a) (f .b) (f .c) h (f .a<b) (f .b<c) (f .c<n) (both-right (sameTriple (f .a) (f .b) (f .c) x y z) (countsInPlane p (f .a) (f .b) (f .c)) (f .holds-of)))
+
+  three-counted : (x y z : ℕ) → CountsInPlane p x y z → isCountedThree p x y z ≡ true
+  unfolding isCountedThree
+  three-counted x y z k = three-here (p .n) (λ a b c. both (sameTriple a b c x y z) (countsInPlane p a b c)) (record {
+    a = x;
+    b = y;
+    c = z;
+    a<b = k .a<b;
+    b<c = k .b<c;
+    c<n = k .c<n;
+    holds-of = both-true (same x y z) (true-three p x y z k);
+  })
+
+  pub true-candidate : (x y z : ℕ) → isCandidate p x y z ≡ true → Candidate p x y z
   unfolding isCandidate
-  true-candidate x y z hx hy hz e = by (truth (isFlat p))
+  true-candidate x y z e = by (truth (isFlat p))
     where
       by : Truth (isFlat p) → Candidate p x y z
-      by (holds f) = three (three-true p x y z f hx hy hz (sym (yes (countsInPlane p x y z) (isFaceOfFour p x y z) f) ∙ e))
-      by (fails f) = face (four-face x y z (sym (no (countsInPlane p x y z) (isFaceOfFour p x y z) f) ∙ e))
+      by (holds f) = three (counted-three f x y z (sym (yes (isCountedThree p x y z) (isFaceOfFour p x y z) f) ∙ e))
+      by (fails f) = face (four-face x y z (sym (no (isCountedThree p x y z) (isFaceOfFour p x y z) f) ∙ e))
 
   face-found : (x y z : ℕ) → Face p x y z → (x < y) × (y < z) × (z < p .n) × (isCandidate p x y z ≡ true)
   unfolding isFace
@@ -127,7 +148,7 @@ module _ (p : Polygon) where
   pub candidate-true : (x y z : ℕ) → Candidate p x y z → (x < y) × (y < z) × (z < p .n) × (isCandidate p x y z ≡ true)
   unfolding isCandidate
   candidate-true x y z (face f) = face-found x y z f
-  candidate-true x y z (three k) = (k .a<b, k .b<c, k .c<n, yes (countsInPlane p x y z) (isFaceOfFour p x y z) (plane-flat p (k .flat)) ∙ true-three p x y z k)
+  candidate-true x y z (three k) = (k .a<b, k .b<c, k .c<n, yes (isCountedThree p x y z) (isFaceOfFour p x y z) (plane-flat p (k .flat)) ∙ three-counted x y z k)
 
 -- ---- 12
 -- a vertex that is none of three corners, as a test and as a statement

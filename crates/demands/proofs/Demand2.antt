@@ -33,7 +33,7 @@ module _ (p : Polygon) (v : Valid p) where
   pub demand-2 : Demand2 p cs (weightsOf p cs) rows
   demand-2 = record {
     listed = λ a b c f. let r = candidate-true p a b c f in triples-put (p .n) (isCandidate p) a b c (r .0) (r .1) (r .2) (r .3);
-    only-listed = λ t m. let r = triples-member (p .n) (isCandidate p) t m in (r .a, r .b, r .c, r .is, true-candidate p (r .a) (r .b) (r .c) (r .a<b) (r .b<c) (r .c<n) (r .holds-of));
+    only-listed = λ t m. let r = triples-member (p .n) (isCandidate p) t m in (r .a, r .b, r .c, r .is, true-candidate p (r .a) (r .b) (r .c) (r .holds-of));
     ascending = λ i j h k. true-before (entryAt cs i) (entryAt cs j) (candidates-in-order p v .ascending i j h k);
     weight-count = length-map cs (ownWeight p);
     weight = λ i h. let o = candidates-in-order p v .ordered i h in weight-at p cs i h ∙ own-weight-along-the-rim p (entryAt cs i) (o .a-b) (o .b-c) (o .c-n);

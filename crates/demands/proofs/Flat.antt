@@ -66,7 +66,7 @@ no-members (x ∷ l) h = absurd (h x (List·Memᴰ·head refl))
 pub line-none : (p : Polygon) → OnOneLine (vertex p) (p .n) → candidatesOf p ≡ []
 line-none p h = no-members (candidatesOf p) (λ t m.
     let r = triples-member (p .n) (isCandidate p) t m in
-    let k = flat-candidate p (line-plane (vertex p) (p .n) h) (r .a) (r .b) (r .c) (true-candidate p (r .a) (r .b) (r .c) (r .a<b) (r .b<c) (r .c<n) (r .holds-of)) in
+    let k = flat-candidate p (line-plane (vertex p) (p .n) h) (r .a) (r .b) (r .c) (true-candidate p (r .a) (r .b) (r .c) (r .holds-of)) in
     true-not-false (line-threes (vertex p) (p .n) h .three (r .a) (r .b) (r .c) (r .a<b) (r .b<c) (r .c<n)) (k .proper))
 
 -- ---- triangles

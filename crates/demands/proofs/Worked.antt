@@ -27,7 +27,7 @@ use Rattle.geometry.specs.Faces.{lengthOf, ratioOf, bendOf}
 use Rattle.geometry.specs.Spheres.{orientOf, centreOf, distanceOf}
 use Rattle.planar.specs.Circles.{circumcentreOf, distanceInPlane}
 use Rattle.faces.specs.Faces.{isFace}
-use Rattle.delaunay.specs.Candidates.{counts, isFaceOfFour, countsInPlane, isFlat, isCandidate, candidatesOf, cospherical, cocircular, degenerate}
+use Rattle.delaunay.specs.Candidates.{counts, isFaceOfFour, countsInPlane, isCountedThree, isFlat, isCandidate, candidatesOf, cospherical, cocircular, degenerate}
 use Rattle.dihedrals.specs.Dihedrals.{rowsOf}
 use Rattle.weights.specs.Weights.{edgeNormal, outsideWeightOf, weightsOf}
 use Rattle.jobs.specs.Job.{ascends, before, candidateFits, hangs, namesPair, rowBefore, rowFits, listsCode, jobCode}
@@ -174,7 +174,7 @@ abbrev rims : List Case
 rims = take 6 (drop 3 worked)
 
 rims-hold : map (λ c. c .computed) rims ≡ map (λ c. c .expected) rims
-unfolding patchPolygon tablesShort numberDue codeOf repeatedVertex verticesCodeFrom upFrom everyFrom someFrom orientOf circumcentreOf distanceInPlane countsInPlane isFlat isCandidate cocircular degenerate hangs lengthOf rootDigits ratioOf bendOf edgeNormal outsideWeightOf bestKey key isTriangulation totalWeight preorderFrom countBetween countOutside
+unfolding patchPolygon tablesShort numberDue codeOf repeatedVertex verticesCodeFrom upFrom everyFrom someFrom orientOf circumcentreOf distanceInPlane countsInPlane isCountedThree isFlat isCandidate cocircular degenerate hangs lengthOf rootDigits ratioOf bendOf edgeNormal outsideWeightOf bestKey key isTriangulation totalWeight preorderFrom countBetween countOutside
 rims-hold = refl
 
 -- ---- the list

@@ -21,12 +21,13 @@ use Rattle.lists.proofs.Choice.{Truth, truth, holds, fails, yes, no, true-not-f
 use Rattle.lists.proofs.Members.{Ascending, over-member, when-member, over-ascending, when-ascending, ascending-at, entry-member}
 use Rattle.faces.specs.Faces.{sameTriple, isFace, triplesOf}
 use Rattle.faces.proofs.Sets.{triples-bound, triple-same}
+use Rattle.faces.proofs.Threes.{three-found}
 use Rattle.faces.proofs.Fours.{four-found}
 use Rattle.faces.proofs.Members.{Triple, triples-member}
 use Rattle.hinges.specs.Hinges.{Sorted}
 use Rattle.dihedrals.specs.Dihedrals.{faceNormal}
 use Rattle.dihedrals.specs.Lists.{Solid}
-use Rattle.delaunay.specs.Candidates.{vertex, insideFour, counts, isFaceOfFour, insideThree, countsInPlane, isFlat, isCandidate, candidatesOf}
+use Rattle.delaunay.specs.Candidates.{vertex, insideFour, counts, isFaceOfFour, insideThree, countsInPlane, isCountedThree, isFlat, isCandidate, candidatesOf}
 
 -- ---- a list of triples ascends
 module _ (n : ℕ) (P : ℕ → ℕ → ℕ → Bool) where
@@ -80,17 +81,20 @@ module _ (p : Polygon) (v : Valid p) where
   }
 
   -- ---- a candidate's normal is not 0
+  abbrev HasLength : ℕ → ℕ → ℕ → Type 0
+  HasLength x y z = 0 < lengthOf (normalOf (vertex p x) (vertex p y) (vertex p z))
+
+  same-face : (i j k x y z : ℕ) → sameTriple i j k x y z ≡ true → HasLength i j k → HasLength x y z
+  same-face i j k x y z s h =
+      let t = triple-same {a = i} {b = j} {c = k} {x = x} {y = y} {z = z} s in
+      subst (λ (l : ℕ). 0 < l) (λ m. lengthOf (normalOf (vertex p (t .0 m)) (vertex p (t .1 m)) (vertex p (t .2 m)))) h
+
   module _ (a b c d : ℕ) (ha : a < p .n) (hb : b < p .n) (hc : c < p .n) (hd : d < p .n) (e : counts p a b c d ≡ true) where
     solid-four : coplanar (vertex p a) (vertex p b) (vertex p c) (vertex p d) ≡ false
     unfolding counts
     solid-four = not-true _ (both-left (not (coplanar (vertex p a) (vertex p b) (vertex p c) (vertex p d))) (every 0 (p .n) (λ w. not (insideFour p a b c d w))) e)
 
-    same-face : (i j k x y z : ℕ) → sameTriple i j k x y z ≡ true → 0 < lengthOf (normalOf (vertex p i) (vertex p j) (vertex p k)) → 0 < lengthOf (normalOf (vertex p x) (vertex p y) (vertex p z))
-    same-face i j k x y z s h =
-        let t = triple-same {a = i} {b = j} {c = k} {x = x} {y = y} {z = z} s in
-        subst (λ (l : ℕ). 0 < l) (λ m. lengthOf (normalOf (vertex p (t .0 m)) (vertex p (t .1 m)) (vertex p (t .2 m)))) h
-
-    face-length : (x y z : ℕ) → isFace a b c d x y z ≡ true → 0 < lengthOf (normalOf (vertex p x) (vertex p y) (vertex p z))
+    face-length : (x y z : ℕ) → isFace a b c d x y z ≡ true → HasLength x y z
     unfolding isFace
     face-length x y z f =
         let ga = v .on-grid a ha in
@@ -104,9 +108,6 @@ module _ (p : Polygon) (v : Valid p) where
         (either-cases (sameTriple a c d x y z) (sameTriple b c d x y z) h))
         (either-cases (sameTriple a b d x y z) (either (sameTriple a c d x y z) (sameTriple b c d x y z)) g))
         (either-cases (sameTriple a b c x y z) (either (sameTriple a b d x y z) (either (sameTriple a c d x y z) (sameTriple b c d x y z))) f)
-
-  abbrev HasLength : ℕ → ℕ → ℕ → Type 0
-  HasLength x y z = 0 < lengthOf (normalOf (vertex p x) (vertex p y) (vertex p z))
 
   face-of-four-length : (x y z : ℕ) → isFaceOfFour p x y z ≡ true → HasLength x y z
   unfolding isFaceOfFour
@@ -123,13 +124,20 @@ module _ (p : Polygon) (v : Valid p) where
       length-above-0 (normal-within (v .on-grid x hx) (v .on-grid y hy) (v .on-grid z hz))
       (λ h. true-not-false (equal-is h) (not-true line (both-left (not line) (every 0 (p .n) (λ w. not (insideThree p x y z w))) e)))
 
-  candidate-length : (x y z : ℕ) → x < p .n → y < p .n → z < p .n → isCandidate p x y z ≡ true → HasLength x y z
+  counted-three-length : (x y z : ℕ) → isCountedThree p x y z ≡ true → HasLength x y z
+  unfolding isCountedThree
+  counted-three-length x y z e =
+      let f = three-found (p .n) (λ a b c. both (sameTriple a b c x y z) (countsInPlane p a b c)) e in
+      same-face (f .a) (f .b) (f .c) x y z (both-left (sameTriple (f .a) (f .b) (f .c) x y z) (countsInPlane p (f .a) (f .b) (f .c)) (f .holds-of))
+      (three-length (f .a) (f .b) (f .c) (omega (arith, f .a<b, f .b<c, f .c<n)) (omega (arith, f .b<c, f .c<n)) (f .c<n) (both-right (sameTriple (f .a) (f .b) (f .c) x y z) (countsInPlane p (f .a) (f .b) (f .c)) (f .holds-of)))
+
+  candidate-length : (x y z : ℕ) → isCandidate p x y z ≡ true → HasLength x y z
   unfolding isCandidate
-  candidate-length x y z hx hy hz e = by (truth (isFlat p))
+  candidate-length x y z e = by (truth (isFlat p))
     where
       by : Truth (isFlat p) → HasLength x y z
-      by (holds f) = three-length x y z hx hy hz (sym (yes (countsInPlane p x y z) (isFaceOfFour p x y z) f) ∙ e)
-      by (fails f) = face-of-four-length x y z (sym (no (countsInPlane p x y z) (isFaceOfFour p x y z) f) ∙ e)
+      by (holds f) = counted-three-length x y z (sym (yes (isCountedThree p x y z) (isFaceOfFour p x y z) f) ∙ e)
+      by (fails f) = face-of-four-length x y z (sym (no (isCountedThree p x y z) (isFaceOfFour p x y z) f) ∙ e)
 
   pub candidates-solid : Solid p (candidatesOf p)
   candidates-solid = record {
@@ -140,5 +148,5 @@ module _ (p : Polygon) (v : Valid p) where
       b<n = omega (arith, ap vertexB (t .is), t .b<c, t .c<n);
       c<n = omega (arith, ap vertexC (t .is), t .c<n);
     };
-    normals = λ i h. let t = candidate-at i h in subst (λ (s : List ℕ). 0 < lengthOf (faceNormal p s)) (sym (t .is)) (candidate-length (t .a) (t .b) (t .c) (omega (arith, t .a<b, t .b<c, t .c<n)) (omega (arith, t .b<c, t .c<n)) (t .c<n) (t .holds-of));
+    normals = λ i h. let t = candidate-at i h in subst (λ (s : List ℕ). 0 < lengthOf (faceNormal p s)) (sym (t .is)) (candidate-length (t .a) (t .b) (t .c) (t .holds-of));
   }
