@@ -16,16 +16,6 @@ pub const FIVE_CORNERS: [Point; 5] = [[0, 0, 0], [40, 0, 0], [40, 40, 0], [0, 40
 /// A flat rim.
 pub const FLAT: [Point; 5] = [[0, 0, 0], [90, 0, 0], [120, 70, 0], [40, 110, 0], [-30, 60, 0]];
 
-/// A flat rim in the plane x + y + z = 0, whose circles are ellipses as seen along any axis.
-pub const TILTED_STAR: [Point; 6] = [
-    [-72, -96, 168],
-    [48, -24, -24],
-    [168, -72, -96],
-    [-24, 48, -24],
-    [-96, 168, -72],
-    [-24, -24, 48],
-];
-
 /// The corners of a square, which are on one circle.
 pub const SQUARE: [Point; 4] = [[0, 0, 5], [8, 0, 5], [8, 8, 5], [0, 8, 5]];
 

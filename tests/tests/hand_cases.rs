@@ -1,12 +1,12 @@
-//! The worked cases (rules 6.1 to 6.5) and others worked by hand, by the reference and by what is
-//! under test.
+//! The worked cases (rules 6.1 to 6.5 and 6.8) and others worked by hand, by the reference and by what
+//! is under test.
 
 use outside_tests::calls::{Calls, Job, PatchAnswer, Places, Row, Tables, Triangle};
 use outside_tests::law::finder::{bend, bend_of};
 use outside_tests::law::grid::{grid_number, GridNumber};
 use outside_tests::law::{reader, tilings, BY_INTERVALS, BY_SETS};
 use outside_tests::library::under_test;
-use outside_tests::rims::{Point, RimFile, FLAT, LINE, P, SQUARE, TILTED_STAR};
+use outside_tests::rims::{Point, RimFile, FLAT, LINE, P, SQUARE};
 use std::collections::HashMap;
 
 const P_TRIPLES: [Triangle; 4] = [[0, 1, 2], [0, 1, 3], [0, 2, 3], [1, 2, 3]];
@@ -40,18 +40,24 @@ fn expect(job: &Job, number: u32, walk: &[u16], total: u64) {
     }
 }
 
-/// The lists, the patch and every other place of the tables of a rim with these factors, by each.
-fn expect_rim(points: &[Point], factors: [u16; 2], lists: &Job, walk: &[u16], total: u64) {
-    let file = RimFile::plain(points, factors[0], factors[1]).bytes();
+/// The lists, the patch and every other place of the tables of a rim file, by each.
+fn expect_file(file: &[u8], lists: &Job, walk: &[u16], total: u64) {
+    let rim = reader::read(file).expect("taken");
     for calls in all() {
         let before = Tables::guarded(Places::BENCH);
         let mut left = before.clone();
-        let answer = calls.patch_rim(&file, &mut left);
+        let answer = calls.patch_rim(file, &mut left);
         let expected = PatchAnswer { number: 0, triangles: walk.len(), total };
-        assert_eq!(answer, expected, "{}, {points:?}", calls.name());
+        assert_eq!(answer, expected, "{}, {rim:?}", calls.name());
         let difference = left.difference(&before.after(lists, walk));
-        assert_eq!(difference, None, "{}, {points:?}", calls.name());
+        assert_eq!(difference, None, "{}, {rim:?}", calls.name());
     }
+}
+
+/// The same of a rim with these factors.
+fn expect_rim(points: &[Point], factors: [u16; 2], lists: &Job, walk: &[u16], total: u64) {
+    let file = RimFile::plain(points, factors[0], factors[1]).bytes();
+    expect_file(&file, lists, walk, total);
 }
 
 /// Each refuses the rim, and leaves the tables as they were.
@@ -187,6 +193,17 @@ fn three_vertices() {
     }
 }
 
+/// The triangle of examples/triangle.rim, without normals and with an upright one outside each edge, to
+/// which it bends by 26.
+#[test]
+fn a_triangle() {
+    let file = include_bytes!("../../examples/triangle.rim");
+    expect_file(file, &job(3, &[[0, 1, 2]], &[53_146], &[]), &[0], 53_146);
+    let points = reader::read(file).expect("taken").points;
+    let upright = RimFile::plain(&points, 1, 1).with_normals(&[[0, 0, 9]; 3]).bytes();
+    expect_file(&upright, &job(3, &[[0, 1, 2]], &[53_224], &[]), &[0], 53_224);
+}
+
 /// The areas of the three candidates are half of 9900, 5700 and 6800, and all normals look up.
 #[test]
 fn flat_rim() {
@@ -204,30 +221,36 @@ fn corners_of_a_square() {
     }
 }
 
-/// The fifth vertex is inside the circle of the other four, so none of their threes counts. Candidate
-/// 034 is outside the polygon.
+/// The square of examples/dent.rim. The fifth vertex is inside the circle of the other four, so none of
+/// their threes counts. Candidate 034 is outside the polygon.
 #[test]
 fn a_square_with_a_dent() {
-    let points = [[0, 0, 0], [80, 0, 0], [80, 80, 0], [0, 80, 0], [32, 40, 0]];
+    let file = include_bytes!("../../examples/dent.rim");
     let candidates = [[0, 1, 4], [0, 3, 4], [1, 2, 4], [2, 3, 4]];
-    let lists = job(5, &candidates, &[3200, 2560, 3840, 3200], &[[0, 2, 0], [2, 3, 0]]);
-    expect_rim(&points, [1, 1], &lists, &[0, 2, 3], 10_240);
+    let weights = [58_880, 23_040, 79_360, 43_520];
+    let lists = job(5, &candidates, &weights, &[[0, 2, 0], [2, 3, 0]]);
+    expect_file(file, &lists, &[0, 2, 3], 181_760);
 }
 
-/// A star of three points in the plane x + y + z = 0. The normals of its four triangles are 5184 along
-/// each axis, those of the three candidates outside are -14400.
+/// The star of examples/tilted.rim, in the plane x + y + z = 0. The normals of its four triangles are
+/// 5184 along each axis, those of the three candidates outside are -14400.
 #[test]
 fn a_tilted_star() {
+    let file = include_bytes!("../../examples/tilted.rim");
     let candidates = [[0, 1, 2], [0, 1, 5], [0, 4, 5], [1, 2, 3], [1, 3, 5], [2, 3, 4], [3, 4, 5]];
     let weights = [24_941, 8978, 24_941, 8978, 8978, 24_941, 8978];
     let lists = job(6, &candidates, &weights, &[[1, 4, 0], [4, 3, 0], [4, 6, 0]]);
-    expect_rim(&TILTED_STAR, [1, 1], &lists, &[1, 4, 3, 6], 35_912);
+    expect_file(file, &lists, &[1, 4, 3, 6], 35_912);
 }
 
+/// The points of examples/line.rim, which stand in order on their line, and others that do not.
 #[test]
 fn rims_on_one_line() {
+    let example = reader::read(include_bytes!("../../examples/line.rim")).expect("taken");
     for n in [3, 4, 5] {
-        expect_rim(&LINE[..n], [3, 5], &job(n, &[], &[], &[]), &[], 0);
+        for points in [&example.points[..n], &LINE[..n]] {
+            expect_rim(points, [3, 5], &job(n, &[], &[], &[]), &[], 0);
+        }
     }
 }
 

@@ -10,7 +10,7 @@ use outside_tests::law::reader;
 use outside_tests::library::each;
 use outside_tests::planes;
 use outside_tests::random::Random;
-use outside_tests::rims::{Point, RimFile, TILTED_STAR};
+use outside_tests::rims::{Point, RimFile};
 use std::collections::BTreeSet;
 
 /// The candidates of a rim, or 12.
@@ -100,16 +100,15 @@ fn told_by_rims_in_any_plane() {
 /// The star of examples/tilted.rim has a patch; as seen along any axis it has none.
 #[test]
 fn told_by_the_tilted_star() {
-    let example = reader::read(include_bytes!("../../examples/tilted.rim")).expect("taken");
-    assert_eq!(example.points, TILTED_STAR);
+    let star = reader::read(include_bytes!("../../examples/tilted.rim")).expect("taken").points;
     let triangles = |calls: &dyn Calls, points: &[Point]| {
         let file = RimFile::plain(points, 1, 1).bytes();
         calls.patch_rim(&file, &mut Tables::guarded(Places::BENCH)).triangles
     };
     for calls in each() {
-        assert_eq!(triangles(calls, &TILTED_STAR), 4, "{}", calls.name());
+        assert_eq!(triangles(calls, &star), 4, "{}", calls.name());
         for axis in 0..3 {
-            assert_eq!(triangles(calls, &seen_along(&TILTED_STAR, axis)), 0, "{}", calls.name());
+            assert_eq!(triangles(calls, &seen_along(&star, axis)), 0, "{}", calls.name());
         }
     }
 }

@@ -32,7 +32,8 @@ RIM is a rim file of either edition. For POINTS and RIM, - is standard input.
   --decimal-comma   1,5 is one and a half, not 1 and 5; then no comma separates
   --list            only the list of points that make takes back, with the normals
   --from VIEW       top, front, side, corner, or a direction X,Y,Z to look from (default: top; for a
-                    flat rim the one of top, front and side where it looks largest)
+                    flat rim the one of top, front and side where it looks largest, for a rim on one
+                    line the one where it looks longest)
   -o FILE           write to FILE, which is replaced only by a complete one (default: standard output)
 
 Status: 0 done; 1 the list or the rim is refused, or has no patch to mill; 2 it could not run.

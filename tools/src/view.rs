@@ -1,7 +1,7 @@
 //! Where a picture is seen from, and how its millimetres become pixels.
 
 use crate::geometry::plane_normal;
-use crate::vectors::{cross, dot, unit};
+use crate::vectors::{cross, dot, minus, unit};
 
 pub type Vector = [f64; 3];
 pub type Flat = [f64; 2];
@@ -21,9 +21,15 @@ const CORNER: View = View { name: Some("corner"), direction: [1.0, -1.0, 1.0] };
 const NAMED: [View; 4] = [TOP, FRONT, SIDE, CORNER];
 
 impl View {
-    /// From the top; but a flat rim, which can be a line from there, from where it looks largest.
+    /// From the top; but a flat rim, which can be a line from there, from where it looks largest, and a
+    /// rim on one line, which can be a dot, from where it looks longest.
     pub fn showing(points: &[[i64; 3]]) -> View {
-        let [x, y, z] = plane_normal(points).unwrap_or_default().map(i64::abs);
+        // How well the rim shows as seen along each axis.
+        let [x, y, z] = match plane_normal(points) {
+            None => [0; 3],
+            Some([0, 0, 0]) => minus(points[1], points[0]).map(|along| -along.abs()),
+            Some(normal) => normal.map(i64::abs),
+        };
         if z >= x.max(y) {
             TOP
         } else if y >= x {

@@ -199,10 +199,18 @@ fn flat_rim_edge_on() {
     assert_eq!(svg.matches("<polygon").count(), 3);
 }
 
-/// Without --from a flat rim is seen from where it looks largest, and any other from the top.
+/// Without --from, the rims of these lists are seen so.
+fn expect_views(cases: &[(&str, &str)]) {
+    for (list, view) in cases {
+        let svg = run(&["draw", "-"], &made(list)).done().text();
+        assert!(svg.contains(&format!("seen from the {view}")), "{list}");
+    }
+}
+
+/// A flat rim is seen from where it looks largest, and any other from the top.
 #[test]
 fn flat_rims_show_their_face() {
-    for (list, view) in [
+    expect_views(&[
         ("0 0 2\n4 0 2\n5 3 2\n2 5 2\n", "top"),
         ("0 2 0\n4 2 0\n5 2 3\n2 2 5\n", "front"),
         ("2 0 0\n2 4 0\n2 5 3\n2 2 5\n", "side"),
@@ -211,8 +219,19 @@ fn flat_rims_show_their_face() {
         ("0 0 0\n0 4 0\n2 0 3\n", "side"),
         ("1 0 0\n0 1 0\n0 0 1\n", "top"),
         ("2 0 0\n2 4 0\n2 5 3\n2.125 2 5\n", "top"),
-    ] {
-        let svg = run(&["draw", "-"], &made(list)).done().text();
-        assert!(svg.contains(&format!("seen from the {view}")), "{list}");
-    }
+    ]);
+}
+
+/// A rim on one line is seen from where it looks longest, so an upright one from the front.
+#[test]
+fn rims_on_one_line_show_their_length() {
+    expect_views(&[
+        ("0 0 0\n0 0 4\n0 0 9\n", "front"),
+        ("0 0 0\n4 0 0\n9 0 0\n", "top"),
+        ("0 0 0\n0 4 0\n0 9 0\n", "top"),
+        ("0 0 0\n3 2 1\n-3 -2 -1\n6 4 2\n", "top"),
+        ("0 0 0\n-2 1 -3\n2 -1 3\n4 -2 6\n", "front"),
+        ("0 0 0\n1 -2 3\n-1 2 -3\n2 -4 6\n", "side"),
+        ("0 0 0\n1 1 1\n3 3 3\n", "top"),
+    ]);
 }

@@ -2,7 +2,7 @@
 use mathlib.Core.Path.{_≡_, refl, sym, _∙_, ap, subst}
 use mathlib.Core.Bool.{Bool, true, false, not}
 use mathlib.Core.List.{List}
-use Prim.Native.Nat.{ℕ, _+_, _≤_, _<_}
+use Prim.Native.Nat.{ℕ, _+_, _-_, _≤_, _<_}
 use native.Mathlib.Omega.{arith}
 use lib.IntN.{pos}
 use lib.ListN.{length, getD, length-set}
@@ -29,11 +29,11 @@ use Rattle.faces.specs.Masks.{pairCount, has, withTriple}
 use Rattle.faces.proofs.Threes.{left1, left3, next3, out1, three-found, three-here}
 use Rattle.faces.proofs.Sets.{put-in, same-triple, triple-same}
 use Rattle.delaunay.specs.Candidates.{vertex, insideThree, onThree, countsInPlane, isCountedThree, isFlat, isCorner, isFourth, cocircular}
-use Rattle.delaunay.specs.Search.{Lifts, Put, isOn, unlifted}
+use Rattle.delaunay.specs.Search.{Lifts, Put, isOn, unlifted, scannedAt}
 use Rattle.delaunay.proofs.Marking as marking
 use Rattle.delaunay.proofs.Marking.{put-all}
 use Rattle.delaunay.proofs.Placing.{Placed, placed}
-use Rattle.delaunay.proofs.Scanning.{noneInside, Scanned, Passed, scan-on, scan-end, scan-found, pass-on, pass-end}
+use Rattle.delaunay.proofs.Scanning.{noneInside, Scanned, Passed, scan-turn, scan-end, scan-found, pass-on, pass-end}
 use Rattle.delaunay.proofs.Flat.{flat-plane}
 use Rattle.delaunay.proofs.Corners.{lift-in}
 
@@ -117,9 +117,9 @@ module _ {p : Polygon} {a b c : ℕ} {lifted : List Lifted} {circle : Sphere} {m
       pub three-dropped : place ≡ Inside → Next
       three-dropped i = skipped (not-counts-inside p a b c v v<n (place-is .when-inside i))
 
-      -- not inside: on to the next vertex
-      pub vertex-passed : (place ≡ Inside → ⊥) → Scanned (p .n) (insideThree p a b c) v → Scanned (p .n) (insideThree p a b c) (v + 1)
-      vertex-passed n s = scan-on (p .n) (insideThree p a b c) v v<n (place-is .when-clear n) s
+      -- not inside: on to the next turn of the scan
+      pub vertex-passed : (place ≡ Inside → ⊥) → (last i : ℕ) → v ≡ scannedAt last i → Scanned (p .n) (insideThree p a b c) (i - 1) → Scanned (p .n) (insideThree p a b c) (i + 1 - 1)
+      vertex-passed n last i k = scan-turn (p .n) (insideThree p a b c) last i v k v<n (place-is .when-clear n)
 
     -- all vertices are scanned
     pub three-counts : (v : ℕ) → p .n ≤ v → Scanned (p .n) (insideThree p a b c) v → countsInPlane p a b c ≡ true

@@ -27,7 +27,7 @@ unlifted = record { vector = record { x = pos 0; y = pos 0; z = pos 0 }; square 
 pub record Lifts (p : Polygon) (a : ℕ) (lifted : List Lifted) : Type 0 where
   pub at : (v : ℕ) → v < p .n → getD lifted v unlifted ≡ liftOf (vertex p a) (vertex p v)
 
--- the vertex to look at in turn i of a scan: the one that dropped the last four, then all in their order
+-- the vertex to look at in turn i of a scan: the one that dropped the last four or three, then all in their order
 abbrev pub scannedAt : ℕ → ℕ → ℕ
 scannedAt last zero = last
 scannedAt last (suc i) = i

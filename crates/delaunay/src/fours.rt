@@ -1,6 +1,7 @@
 // The Delaunay tetrahedra of a polygon that is not flat: the fours that count, and their faces.
 use crate::is_fourth;
 use crate::lift_vertices;
+use crate::scanned;
 use geometry::facet;
 use geometry::sphere;
 use geometry::sphere::Lifted;
@@ -19,7 +20,7 @@ ghost use Rattle.lists.specs.Lists.{both, either};
 ghost use Rattle.faces.specs.Masks.{pairCount};
 ghost use Rattle.polygon.specs.Polygon.{Valid};
 ghost use Rattle.delaunay.specs.Candidates.{isCorner, isFaceOfFour, cospherical};
-ghost use Rattle.delaunay.specs.Search.{Put, isOn, scannedAt};
+ghost use Rattle.delaunay.specs.Search.{Put, isOn};
 
 // Is vertex v, which lies at this place, a fifth on the sphere of the four corners?
 fn is_fifth(place: Position, a: usize, b: usize, c: usize, d: usize, v: usize) -> bool
@@ -29,16 +30,6 @@ fn is_fifth(place: Position, a: usize, b: usize, c: usize, d: usize, v: usize) -
         return false;
     }
     is_fourth(place, a, b, c, v)
-}
-
-// The vertex to look at in turn i of a scan: the one that dropped the last four, then all in their order.
-fn scanned(last: usize, i: usize) -> usize
-    ensures { λ r. ⌜ r ≡ scannedAt last i ⌝ }
-{
-    if i == 0 {
-        return last;
-    }
-    i - 1
 }
 
 // Do two vertices that an earlier three was left for, or dropped by, refute this one? Asked where six vertices or more come after c: fewer are tried sooner.

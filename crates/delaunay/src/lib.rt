@@ -1,6 +1,6 @@
 // The candidates of a polygon: the faces of its Delaunay tetrahedra or, where it is flat, its Delaunay triangles.
-mod circles;
 mod fours;
+mod threes;
 
 use geometry::sphere;
 use geometry::sphere::Lifted;
@@ -14,7 +14,7 @@ ghost use Rattle.lists.specs.Lists.{both};
 ghost use Rattle.faces.specs.Masks.{pairCount};
 ghost use Rattle.polygon.specs.Polygon.{Valid};
 ghost use Rattle.delaunay.specs.Candidates.{isFlat, isCorner};
-ghost use Rattle.delaunay.specs.Search.{Lifts, Searched, Marked, isOn};
+ghost use Rattle.delaunay.specs.Search.{Lifts, Searched, Marked, isOn, scannedAt};
 
 // The vertices as seen from vertex a.
 fn lift_vertices(p: Polygon, a: usize) -> [Lifted; terms::MAX_VERTICES]
@@ -72,13 +72,23 @@ fn is_fourth(place: Position, a: usize, b: usize, c: usize, v: usize) -> bool
     false
 }
 
+// The vertex to look at in turn i of a scan: the one that dropped the last four or three, then all in their order.
+fn scanned(last: usize, i: usize) -> usize
+    ensures { λ r. ⌜ r ≡ scannedAt last i ⌝ }
+{
+    if i == 0 {
+        return last;
+    }
+    i - 1
+}
+
 // Puts the candidates into the set, up to the first four, or three of a flat polygon, for which 12 is due: true there.
 fn search(p: Polygon, masks: &mut [u64; faces::PAIRS]) -> bool
     requires { ⌜ (Valid p) × (length (now masks) ≡ pairCount) ⌝ }
     ensures { λ r. ⌜ Searched p (now (masks .entry)) r (now (masks .exit)) ⌝ }
 {
     if is_flat(p) {
-        return circles::mark_circles(p, masks);
+        return threes::mark_threes(p, masks);
     }
     fours::mark_fours(p, masks)
 }

@@ -89,6 +89,15 @@ module _ (limit : ℕ) (file : List ℕ) (bytes : Bytes file) (t : Tables) where
       before p j h (twelve d) = nothing-12 (subst (λ (x : Polygon). Degenerate x) empty d)
       before p j h (thirteen d) = nothing-13 (subst (λ (x : Polygon). TooShort (placesOf x) t) empty d)
 
+  -- ---- 12 comes next
+  pub twelve-first : NoneDue (DueAt limit file) → Degenerate (polygonIn limit file) → First (CallDue limit file t) 12
+  twelve-first none d = record { place = rim; is-due = twelve d; none-before = before }
+    where
+      before : (p : Place) (j : ℕ) → Precedes p j rim 12 → CallDue limit file t p j → ⊥
+      before p j h (by-reader d) = none .none p j d
+      before _ _ (by-number l) (twelve d) = omega arith
+      before _ _ (by-number l) (thirteen d) = omega arith
+
   -- ---- a file that is read
   module _ (e : reader.numberDue limit file ≡ 0) where
     complete : readingOf limit file .status ≡ Complete
@@ -109,13 +118,8 @@ module _ (limit : ℕ) (file : List ℕ) (bytes : Bytes file) (t : Tables) where
     no-code : Truth (degenerate (polygonIn limit file)) → Truth (tablesShort (polygonIn limit file) t) → Decided
     unfolding numberDue
     no-code (holds a) b =
-        first-due 11 (record { place = rim; is-due = twelve (degenerate-true (polygonIn limit file) a); none-before = before })
+        first-due 11 (twelve-first (read-only-when limit file complete) (degenerate-true (polygonIn limit file) a))
         (number-is ∙ yes _ _ (eq-eqb (codeOf (polygonIn limit file)) 0 (valid-code (polygonIn limit file) valid)) ∙ yes _ _ a)
-      where
-        before : (p : Place) (j : ℕ) → Precedes p j rim 12 → CallDue limit file t p j → ⊥
-        before p j h (by-reader d) = no-reader p j d
-        before _ _ (by-number l) (twelve d) = omega arith
-        before _ _ (by-number l) (thirteen d) = omega arith
     no-code (fails a) (holds b) =
         first-due 12 (record { place = rim; is-due = thirteen (short-true (polygonIn limit file) t b); none-before = before })
         (number-is ∙ yes _ _ (eq-eqb (codeOf (polygonIn limit file)) 0 (valid-code (polygonIn limit file) valid)) ∙ no _ _ a ∙ yes _ _ b)

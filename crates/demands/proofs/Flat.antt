@@ -26,18 +26,19 @@ use Rattle.dihedrals.specs.Dihedrals.{rowsOf}
 use Rattle.weights.specs.Weights.{ownWeight, weightsOf}
 use Rattle.reader.specs.File.{Bytes}
 use Rattle.reader.specs.Order.{NoneDue}
+use Rattle.reader.specs.Due.{DueAt}
 use Rattle.triangulation.specs.Triangulations.{Answer, patch, best, bestKey, key, isTriangulation, totalWeight, preorderFrom, countBetween, countOutside}
 use Rattle.triangulation.specs.Jobs.{jobOf}
 use Rattle.triangulation.specs.Demand3.{Triangulates}
 use Rattle.triangulation.proofs.Demand3.{demand3, members, triangle-count}
 use Rattle.triangulator.specs.declared.Outcome.the-variants.{Patch, None}
 use Rattle.triangulator.specs.Call.{settled}
-use Rattle.pipeline.specs.Patching.{Tables, Patching, jobIn, patchFile}
+use Rattle.pipeline.specs.Patching.{Tables, Patching, jobIn, refused, patchFile}
 use Rattle.pipeline.proofs.Values.{valid-job}
 use Rattle.demands.specs.Demand1.{CallDue, polygonIn}
-use Rattle.demands.specs.Candidates.{Counts, Face, abc, abd, acd, bcd, Flat, CountsInPlane, Candidate, face, three, Degenerate, on-sphere, on-circle}
+use Rattle.demands.specs.Candidates.{Counts, Face, abc, abd, acd, bcd, Flat, CountsInPlane, Candidate, face, three, Cospherical, Cocircular, Degenerate, on-sphere, on-circle}
 use Rattle.demands.proofs.Candidates.{true-candidate, candidate-true}
-use Rattle.demands.proofs.Demand1.{accepted}
+use Rattle.demands.proofs.Demand1.{twelve-first, refused-first, accepted}
 
 -- ---- which triples are candidates
 module _ (p : Polygon) where
@@ -57,6 +58,15 @@ module _ (p : Polygon) where
   solid-candidate s a b c (face f) = f
   solid-candidate s a b c (three k) = absurd (s (k .flat))
 
+  -- 12 is due on a flat rim only by a circle, and on any other only by a sphere (rule 4.12)
+  pub flat-twelve : Flat p → Degenerate p → Cocircular p
+  flat-twelve f (on-circle r) = r
+  flat-twelve f (on-sphere r) = absurd (no-four f (r .a) (r .b) (r .c) (r .d) (r .four))
+
+  pub solid-twelve : (Flat p → ⊥) → Degenerate p → Cospherical p
+  solid-twelve s (on-sphere r) = r
+  solid-twelve s (on-circle r) = absurd (s (r .three .flat))
+
 -- ---- rims on one line
 no-members : (l : List (List ℕ)) → ((t : List ℕ) → List·Memᴰ t l → ⊥) → l ≡ []
 no-members [] h = refl
@@ -68,6 +78,12 @@ line-none p h = no-members (candidatesOf p) (λ t m.
     let r = triples-member (p .n) (isCandidate p) t m in
     let k = flat-candidate p (line-plane (vertex p) (p .n) h) (r .a) (r .b) (r .c) (true-candidate p (r .a) (r .b) (r .c) (r .holds-of)) in
     true-not-false (line-threes (vertex p) (p .n) h .three (r .a) (r .b) (r .c) (r .a<b) (r .b<c) (r .c<n)) (k .proper))
+
+-- and 12 is never due on them (rule 4.12)
+pub line-no-12 : (p : Polygon) → OnOneLine (vertex p) (p .n) → Degenerate p → ⊥
+line-no-12 p h d =
+    let k = flat-twelve p (line-plane (vertex p) (p .n) h) d .three in
+    true-not-false (line-threes (vertex p) (p .n) h .three _ _ _ (k .a<b) (k .b<c) (k .c<n)) (k .proper)
 
 -- ---- triangles
 not-below-same : (a b : ℤ) → a ≡ b → ltZ a b ≡ false
@@ -111,6 +127,10 @@ alone w rows = ap (λ (x : ℕ). patch x (0 ∷ [])) (sum w)
     sum w = omega arith
 
 -- ---- the one call
+-- where the reader takes the file: 12 where a three of a flat rim that counts has a fourth vertex on its circle
+pub circle-gets-12 : (limit : ℕ) (file : List ℕ) → Bytes file → (t : Tables) → NoneDue (DueAt limit file) → Cocircular (polygonIn limit file) → patchFile limit file t ≡ refused 12 t
+circle-gets-12 limit file bytes t none r = refused-first limit file bytes t 12 (twelve-first limit file bytes t none (on-circle r))
+
 module _ (limit : ℕ) (file : List ℕ) (bytes : Bytes file) (t : Tables) (none-due : NoneDue (CallDue limit file t)) where
   abbrev rim : Polygon
   rim = polygonIn limit file

@@ -23,13 +23,14 @@ fn lift(vertices: &[Vector], a: usize) -> [Lifted; MOST] {
     lifted
 }
 
-/// Are all vertices in one plane? Vertices 0 and 1 are two points, so with the first vertex that is
-/// not on their line they span the only plane that can hold all.
+/// Are all vertices in one plane? They are where every two more are in one plane with vertices 0 and
+/// 1, which are two points.
 fn is_flat(vertices: &[Vector]) -> bool {
     let lifted = &lift(vertices, 0)[..vertices.len()];
-    let mut normals = lifted.iter().map(|q| cross(lifted[1].at, q.at));
-    let normal = normals.find(|normal| *normal != [0; 3]).unwrap_or_default();
-    lifted.iter().all(|q| dot(normal, q.at) == 0)
+    (2..lifted.len()).all(|c| {
+        let normal = cross(lifted[1].at, lifted[c].at);
+        lifted[c + 1..].iter().all(|d| dot(normal, d.at) == 0)
+    })
 }
 
 /// A sphere through the origin: q is inside where orient · (orient |q|² - bound · q) is negative.

@@ -1,8 +1,8 @@
--- `delaunay::fours::scanned` meets its contract. Assumes nothing.
+-- `delaunay::scanned` meets its contract. Assumes nothing.
 use borrow.Author.Needs.{needs}
 use Rattle.delaunay.proofs.Scanning.{scanned-later}
-use Rattle.delaunay.proofs.fours.scanned.Statement.{statement}
-use Rattle.delaunay.proofs.fours.scanned.Tie as tie
+use Rattle.delaunay.proofs.scanned.Statement.{statement}
+use Rattle.delaunay.proofs.scanned.Tie as tie
 
 returns : tie.Need-returns
 returns c = rw (c .if1 .taken)
