@@ -43,36 +43,36 @@ module _ (p : Polygon) where
 -- ---- the test of the code
 
 -- vertices 0, 1, k and l are in one plane, as computed
-abbrev pub levelPair : List Lifted → ℕ → ℕ → Bool
-levelPair lifted k l = equal (sphereOf (pencilOf (getD lifted 1 unlifted) (getD lifted k unlifted)) (getD lifted l unlifted) .orient) (pos 0)
+abbrev pub coplanarPair : List Lifted → ℕ → ℕ → Bool
+coplanarPair lifted k l = equal (sphereOf (pencilOf (getD lifted 1 unlifted) (getD lifted k unlifted)) (getD lifted l unlifted) .orient) (pos 0)
 
 -- with each k before c, and each l after it; with c, each l before d
-pub record LevelTo (n : ℕ) (lifted : List Lifted) (c : ℕ) : Type 0 where
-  pub pairs : (k l : ℕ) → 1 < k → k < c → k < l → l < n → levelPair lifted k l ≡ true
+pub record CoplanarTo (n : ℕ) (lifted : List Lifted) (c : ℕ) : Type 0 where
+  pub pairs : (k l : ℕ) → 1 < k → k < c → k < l → l < n → coplanarPair lifted k l ≡ true
 
-pub record LevelWith (lifted : List Lifted) (c d : ℕ) : Type 0 where
-  pub at : (l : ℕ) → c < l → l < d → levelPair lifted c l ≡ true
+pub record CoplanarWith (lifted : List Lifted) (c d : ℕ) : Type 0 where
+  pub at : (l : ℕ) → c < l → l < d → coplanarPair lifted c l ≡ true
 
-pub level-with-on : {lifted : List Lifted} {c d : ℕ} → levelPair lifted c d ≡ true → LevelWith lifted c d → LevelWith lifted c (d + 1)
-level-with-on {lifted} {c} {d} e h = record { at = λ l i j. ⊎-elim (λ k. h .at l i k) (λ k. subst (λ (l : ℕ). levelPair lifted c l ≡ true) (sym k) e) (below-or-same l d (omega arith)) }
+pub coplanar-with-on : {lifted : List Lifted} {c d : ℕ} → coplanarPair lifted c d ≡ true → CoplanarWith lifted c d → CoplanarWith lifted c (d + 1)
+coplanar-with-on {lifted} {c} {d} e h = record { at = λ l i j. ⊎-elim (λ k. h .at l i k) (λ k. subst (λ (l : ℕ). coplanarPair lifted c l ≡ true) (sym k) e) (below-or-same l d (omega arith)) }
 
-pub level-on : {n : ℕ} {lifted : List Lifted} {c d : ℕ} → (d < n → ⊥) → LevelWith lifted c d → LevelTo n lifted c → LevelTo n lifted (c + 1)
-level-on {lifted = lifted} {c = c} f w h = record {
-  pairs = λ k l i j a b. ⊎-elim (λ s. h .pairs k l i s a b) (λ s. subst (λ (k : ℕ). levelPair lifted k l ≡ true) (sym s) (w .at l (omega arith) (omega arith))) (below-or-same k c (omega arith));
+pub coplanar-on : {n : ℕ} {lifted : List Lifted} {c d : ℕ} → (d < n → ⊥) → CoplanarWith lifted c d → CoplanarTo n lifted c → CoplanarTo n lifted (c + 1)
+coplanar-on {lifted = lifted} {c = c} f w h = record {
+  pairs = λ k l i j a b. ⊎-elim (λ s. h .pairs k l i s a b) (λ s. subst (λ (k : ℕ). coplanarPair lifted k l ≡ true) (sym s) (w .at l (omega arith) (omega arith))) (below-or-same k c (omega arith));
 }
 
 module _ {p : Polygon} {lifted : List Lifted} (v : Valid p) (t : Lifts p 0 lifted) where
-  level-is : (k l : ℕ) → k < p .n → l < p .n → levelPair lifted k l ≡ coplanar (vertex p 0) (vertex p 1) (vertex p k) (vertex p l)
-  level-is k l hk hl =
+  pair-is : (k l : ℕ) → k < p .n → l < p .n → coplanarPair lifted k l ≡ coplanar (vertex p 0) (vertex p 1) (vertex p k) (vertex p l)
+  pair-is k l hk hl =
       (λ i. equal (sphereOf (pencilOf (t .at 1 (omega (arith, v .least)) i) (t .at k hk i)) (t .at l hl i) .orient) (pos 0))
       ∙ coplanar-is (vertex p 0) (vertex p 1) (vertex p k) (vertex p l)
 
-  -- a pair that is not level
-  pub found-solid : (k l : ℕ) → 1 < k → k < l → l < p .n → levelPair lifted k l ≡ false → isFlat p ≡ false
-  found-solid k l h i j e = not-flat p 0 1 k l (omega arith) h i j (sym (level-is k l (omega arith) j) ∙ e)
+  -- a pair that is not
+  pub found-solid : (k l : ℕ) → 1 < k → k < l → l < p .n → coplanarPair lifted k l ≡ false → isFlat p ≡ false
+  found-solid k l h i j e = not-flat p 0 1 k l (omega arith) h i j (sym (pair-is k l (omega arith) j) ∙ e)
 
   -- every pair is
-  pub all-level : (c : ℕ) → (c < p .n → ⊥) → LevelTo (p .n) lifted c → isFlat p ≡ true
-  all-level c f h =
+  pub all-coplanar : (c : ℕ) → (c < p .n → ⊥) → CoplanarTo (p .n) lifted c → isFlat p ≡ true
+  all-coplanar c f h =
       plane-flat p (pairs-plane (vertex p) (p .n) (v .distinct 0 1 (omega arith) (omega (arith, v .least)))
-      (λ k l i j m. sym (level-is k l (omega arith) m) ∙ h .pairs k l i (omega arith) j m))
+      (λ k l i j m. sym (pair-is k l (omega arith) m) ∙ h .pairs k l i (omega arith) j m))

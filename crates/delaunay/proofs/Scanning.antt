@@ -3,9 +3,10 @@ use mathlib.Core.Path.{_≡_, refl, sym, _∙_, ap, subst}
 use mathlib.Core.Bool.{Bool, true, false, not}
 use Prim.Native.Nat.{ℕ, zero, suc, _+_, _-_, _≤_, _<_}
 use native.Mathlib.Omega.{arith}
-use Rattle.lists.specs.Lists.{every, some}
+use Rattle.lists.specs.Lists.{both, every, some}
 use Rattle.lists.proofs.Choice.{true-not-false, not-true-false}
 use Rattle.lists.proofs.Ranges.{every-on, every-end, every-at, some-on, some-end}
+use Rattle.lists.proofs.Bools.{both-no}
 use Rattle.delaunay.specs.Search.{scannedAt}
 
 -- a turn after the first
@@ -42,8 +43,22 @@ module _ (n : ℕ) (inside : ℕ → Bool) where
   pub scan-end : (v : ℕ) → n ≤ v → Scanned v → noneInside ≡ true
   scan-end v h s = sym s ∙ every-end v n _ h
 
-  pub scan-found : (v : ℕ) → v < n → inside v ≡ true → noneInside ≡ false
+  scan-found : (v : ℕ) → v < n → inside v ≡ true → noneInside ≡ false
   scan-found v h e = not-true-false _ (λ t. true-not-false (every-at 0 n _ t v (omega arith) h) (ap not e))
+
+  -- four corners or three count where they span what they should, and none is inside
+  module _ (bad : Bool) where
+    abbrev pub countsBy : Bool
+    countsBy = both (not bad) noneInside
+
+    pub not-counts-bad : bad ≡ true → countsBy ≡ false
+    not-counts-bad e = ap (λ (t : Bool). both (not t) noneInside) e
+
+    pub not-counts-inside : (v : ℕ) → v < n → inside v ≡ true → countsBy ≡ false
+    not-counts-inside v h e = both-no (not bad) (scan-found v h e)
+
+    pub counts-all : bad ≡ false → noneInside ≡ true → countsBy ≡ true
+    counts-all e f = (λ i. both (not (e i)) noneInside) ∙ f
 
 -- by the test whether one more is on the border
 module _ (n : ℕ) (other : ℕ → Bool) where

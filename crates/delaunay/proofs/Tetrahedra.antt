@@ -16,7 +16,7 @@ use Rattle.geometry.specs.Spheres.{coplanar}
 use Rattle.geometry.specs.Lifting.{sphereOf, positionBy}
 use Rattle.geometry.specs.Facets.{separatesBy}
 use Rattle.lists.specs.Lists.{both, either, some}
-use Rattle.lists.proofs.Choice.{true-not-false, not-true-false}
+use Rattle.lists.proofs.Choice.{true-not-false}
 use Rattle.lists.proofs.Bools.{both-no, both-yes}
 use Rattle.lists.proofs.Ranges.{some-here}
 use Rattle.faces.specs.Faces.{isFace}
@@ -27,8 +27,9 @@ use Rattle.delaunay.specs.Candidates.{vertex, insideFour, counts, isFace
 use Rattle.delaunay.specs.Search.{Put, isOn, unlifted, scannedAt}
 use Rattle.delaunay.proofs.Marking as marking
 use Rattle.delaunay.proofs.Marking.{put-all}
+use Rattle.delaunay.proofs.Placing.{other-is}
 use Rattle.delaunay.proofs.Scanning.{Scanned, Passed, scan-turn, scan-end, pass-on, pass-end}
-use Rattle.delaunay.proofs.Counting.{not-counts-inside, all-counts}
+use Rattle.delaunay.proofs.Counting.{not-counts-inside, counts-all}
 use Rattle.delaunay.proofs.Corners.{Three, place-is, drops, leaves}
 
 -- a test of fours
@@ -79,14 +80,12 @@ module _ {p : Polygon} {a b c d : ℕ} {lifted : List Lifted} {pencil : Pencil} 
 
   -- all vertices are scanned
   pub four-counts : (v : ℕ) → p .n ≤ v → Scanned (p .n) (insideFour p a b c d) v → counts p a b c d ≡ true
-  four-counts v h s = all-counts p a b c d (f .solid) (scan-end (p .n) (insideFour p a b c d) v h s)
+  four-counts v h s = counts-all p a b c d (f .solid) (scan-end (p .n) (insideFour p a b c d) v h s)
 
   module _ (full : counts p a b c d ≡ true) where
     module _ (v : ℕ) (v<n : v < p .n) {place : Position} (e : place ≡ positionBy ball (getD lifted v unlifted)) {found : Bool} (g : found ≡ both (not (either (isCorner a b c v) (eqb v d))) (isOn place)) where
       found-is : isFifth p a b c d v ≡ found
-      found-is =
-          let clear = not-true-false (insideFour p a b c d v) (λ h. true-not-false full (not-counts-inside p a b c d v v<n h)) in
-          sym (g ∙ ap (λ (t : Bool). both (not (either (isCorner a b c v) (eqb v d))) t) (place-is (f .three) d (f .d<n) (f .through) (f .solid) v v<n e .when-on clear))
+      found-is = other-is (either (isCorner a b c v) (eqb v d)) (place-is (f .three) d (f .d<n) (f .through) (f .solid) v v<n e) (λ h. true-not-false full (not-counts-inside p a b c d v v<n h)) g
 
       -- no fifth: on to the next vertex
       pub fifth-passed : found ≡ false → Passed (p .n) (isFifth p a b c d) v → Passed (p .n) (isFifth p a b c d) (v + 1)

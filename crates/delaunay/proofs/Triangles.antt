@@ -1,12 +1,11 @@
 -- The search over threes of a flat polygon: what one vertex's position, and the scans of all, say of what is marked and what is left. Assumes nothing.
-use mathlib.Core.Path.{_≡_, refl, sym, _∙_, ap, subst}
+use mathlib.Core.Path.{_≡_, sym, _∙_, ap, subst}
 use mathlib.Core.Bool.{Bool, true, false, not}
 use mathlib.Core.List.{List}
 use Prim.Native.Nat.{ℕ, _+_, _-_, _≤_, _<_}
 use native.Mathlib.Omega.{arith}
 use lib.IntN.{pos}
 use lib.ListN.{length, getD, length-set}
-use Rattle.terms.specs.Limits.{maxVertices}
 use Rattle.polygon.specs.declared.Polygon.{Polygon}
 use Rattle.polygon.specs.Polygon.{Valid}
 use Rattle.geometry.specs.declared.sphere.Lifted.{Lifted}
@@ -21,19 +20,20 @@ use Rattle.planar.specs.Seen.{positionInPlane, circleOf}
 use Rattle.planar.proofs.Seen.{computedCircle, circle-bounds, circle-position-is, collinear-is}
 use Rattle.planar.proofs.Planes.{plane-any}
 use Rattle.lists.specs.Lists.{both, either, some}
-use Rattle.lists.proofs.Choice.{true-not-false, not-true-false, both-left, both-right, both-true}
+use Rattle.lists.proofs.Choice.{true-not-false}
 use Rattle.lists.proofs.Bools.{both-no, both-yes}
 use Rattle.lists.proofs.Ranges.{some-here}
-use Rattle.faces.specs.Faces.{sameTriple, someThree}
+use Rattle.faces.specs.Faces.{sameTriple}
 use Rattle.faces.specs.Masks.{pairCount, has, withTriple}
-use Rattle.faces.proofs.Threes.{left1, left3, next3, out1, three-found, three-here}
-use Rattle.faces.proofs.Sets.{put-in, same-triple, triple-same}
+use Rattle.faces.proofs.Threes.{left1, left3, next3, out1}
+use Rattle.faces.proofs.Sets.{put-in}
 use Rattle.delaunay.specs.Candidates.{vertex, insideThree, onThree, countsInPlane, isCountedThree, isFlat, isCorner, isFourth, cocircular}
 use Rattle.delaunay.specs.Search.{Lifts, Put, isOn, unlifted, scannedAt}
 use Rattle.delaunay.proofs.Marking as marking
 use Rattle.delaunay.proofs.Marking.{put-all}
-use Rattle.delaunay.proofs.Placing.{Placed, placed}
-use Rattle.delaunay.proofs.Scanning.{noneInside, Scanned, Passed, scan-turn, scan-end, scan-found, pass-on, pass-end}
+use Rattle.delaunay.proofs.Placing.{Placed, placed, other-is}
+use Rattle.delaunay.proofs.Scanning as scanning
+use Rattle.delaunay.proofs.Scanning.{noneInside, Scanned, Passed, scan-turn, scan-end, pass-on, pass-end}
 use Rattle.delaunay.proofs.Flat.{flat-plane}
 use Rattle.delaunay.proofs.Corners.{lift-in}
 
@@ -58,15 +58,15 @@ module _ (p : Polygon) (a b c : ℕ) where
 
   not-counts-line : line ≡ true → countsInPlane p a b c ≡ false
   unfolding countsInPlane
-  not-counts-line e = ap (λ (t : Bool). both (not t) (noneInside (p .n) (insideThree p a b c))) e
+  not-counts-line e = scanning.not-counts-bad (p .n) (insideThree p a b c) line e
 
   not-counts-inside : (v : ℕ) → v < p .n → insideThree p a b c v ≡ true → countsInPlane p a b c ≡ false
   unfolding countsInPlane
-  not-counts-inside v h e = both-no (not line) (scan-found (p .n) (insideThree p a b c) v h e)
+  not-counts-inside v h e = scanning.not-counts-inside (p .n) (insideThree p a b c) line v h e
 
-  all-counts : line ≡ false → noneInside (p .n) (insideThree p a b c) ≡ true → countsInPlane p a b c ≡ true
+  counts-all : line ≡ false → noneInside (p .n) (insideThree p a b c) ≡ true → countsInPlane p a b c ≡ true
   unfolding countsInPlane
-  all-counts e f = (λ i. both (not (e i)) (noneInside (p .n) (insideThree p a b c))) ∙ f
+  counts-all e f = scanning.counts-all (p .n) (insideThree p a b c) line e f
 
 -- ---- three corners and their circle
 pub record Triangle (p : Polygon) (a b c : ℕ) (lifted : List Lifted) (circle : Sphere) (marks₀ marks : List ℕ) (left₀ : Test → Bool) : Type 0 where
@@ -123,14 +123,12 @@ module _ {p : Polygon} {a b c : ℕ} {lifted : List Lifted} {circle : Sphere} {m
 
     -- all vertices are scanned
     pub three-counts : (v : ℕ) → p .n ≤ v → Scanned (p .n) (insideThree p a b c) v → countsInPlane p a b c ≡ true
-    three-counts v h s = all-counts p a b c proper (scan-end (p .n) (insideThree p a b c) v h s)
+    three-counts v h s = counts-all p a b c proper (scan-end (p .n) (insideThree p a b c) v h s)
 
     module _ (full : countsInPlane p a b c ≡ true) where
       module _ (v : ℕ) (v<n : v < p .n) {place : Position} (e : place ≡ positionBy circle (getD lifted v unlifted)) {found : Bool} (g : found ≡ both (not (isCorner a b c v)) (isOn place)) where
         found-is : isFourth p a b c v ≡ found
-        found-is =
-            let clear = not-true-false (insideThree p a b c v) (λ h. true-not-false full (not-counts-inside p a b c v v<n h)) in
-            sym (g ∙ ap (λ (t : Bool). both (not (isCorner a b c v)) t) (place-is v v<n e .when-on clear))
+        found-is = other-is (isCorner a b c v) (place-is v v<n e) (λ h. true-not-false full (not-counts-inside p a b c v v<n h)) g
 
         -- no fourth: on to the next vertex
         pub fourth-passed : found ≡ false → Passed (p .n) (isFourth p a b c) v → Passed (p .n) (isFourth p a b c) (v + 1)

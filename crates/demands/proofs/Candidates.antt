@@ -26,6 +26,12 @@ at P {i} {j} {k} {x} {y} {z} e f = subst (λ (n : ℕ). P n y z) (e .0) (subst (
 
 -- ---- four vertices that count, as a test and as a statement
 module _ (p : Polygon) (a b c d : ℕ) where
+  abbrev flat : Bool
+  flat = coplanar (vertex p a) (vertex p b) (vertex p c) (vertex p d)
+
+  abbrev clear : Bool
+  clear = every 0 (p .n) (λ w. not (insideFour p a b c d w))
+
   counts-true : a < b → b < c → c < d → d < p .n → counts p a b c d ≡ true → Counts p a b c d
   unfolding counts
   counts-true h k l m e = record {
@@ -33,8 +39,8 @@ module _ (p : Polygon) (a b c d : ℕ) where
     b<c = k;
     c<d = l;
     d<n = m;
-    solid = not-true _ (both-left (not (coplanar (vertex p a) (vertex p b) (vertex p c) (vertex p d))) (every 0 (p .n) (λ w. not (insideFour p a b c d w))) e);
-    empty = λ v q. not-true _ (every-at 0 (p .n) (λ w. not (insideFour p a b c d w)) (both-right (not (coplanar (vertex p a) (vertex p b) (vertex p c) (vertex p d))) (every 0 (p .n) (λ w. not (insideFour p a b c d w))) e) v (omega arith) q);
+    solid = not-true _ (both-left (not flat) clear e);
+    empty = λ v q. not-true _ (every-at 0 (p .n) (λ w. not (insideFour p a b c d w)) (both-right (not flat) clear e) v (omega arith) q);
   }
 
   true-counts : Counts p a b c d → counts p a b c d ≡ true
@@ -42,7 +48,7 @@ module _ (p : Polygon) (a b c d : ℕ) where
   true-counts k = both-true (ap not (k .solid)) (every-all 0 (p .n) (λ w. not (insideFour p a b c d w)) (λ v l h. ap not (k .empty v h)))
 
   -- they are not in one plane, so the rim is not flat
-  pub counts-solid : Counts p a b c d → isFlat p ≡ false
+  counts-solid : Counts p a b c d → isFlat p ≡ false
   counts-solid k = not-flat p a b c d (k .a<b) (k .b<c) (k .c<d) (k .d<n) (k .solid)
 
   -- a face of theirs
@@ -79,8 +85,8 @@ module _ (p : Polygon) (a b c : ℕ) where
   abbrev line : Bool
   line = collinear (vertex p a) (vertex p b) (vertex p c)
 
-  abbrev noneInside : Bool
-  noneInside = every 0 (p .n) (λ w. not (insideThree p a b c w))
+  abbrev clearInPlane : Bool
+  clearInPlane = every 0 (p .n) (λ w. not (insideThree p a b c w))
 
   three-true : isFlat p ≡ true → a < b → b < c → c < p .n → countsInPlane p a b c ≡ true → CountsInPlane p a b c
   unfolding countsInPlane
@@ -89,8 +95,8 @@ module _ (p : Polygon) (a b c : ℕ) where
     a<b = h;
     b<c = k;
     c<n = l;
-    proper = not-true _ (both-left (not line) noneInside e);
-    empty = λ v q. not-true _ (every-at 0 (p .n) (λ w. not (insideThree p a b c w)) (both-right (not line) noneInside e) v (omega arith) q);
+    proper = not-true _ (both-left (not line) clearInPlane e);
+    empty = λ v q. not-true _ (every-at 0 (p .n) (λ w. not (insideThree p a b c w)) (both-right (not line) clearInPlane e) v (omega arith) q);
   }
 
   true-three : CountsInPlane p a b c → countsInPlane p a b c ≡ true
@@ -130,9 +136,9 @@ module _ (p : Polygon) where
     holds-of = both-true (same x y z) (true-three p x y z k);
   })
 
-  pub true-candidate : (x y z : ℕ) → isCandidate p x y z ≡ true → Candidate p x y z
+  pub candidate-true : (x y z : ℕ) → isCandidate p x y z ≡ true → Candidate p x y z
   unfolding isCandidate
-  true-candidate x y z e = by (truth (isFlat p))
+  candidate-true x y z e = by (truth (isFlat p))
     where
       by : Truth (isFlat p) → Candidate p x y z
       by (holds f) = three (counted-three f x y z (sym (yes (isCountedThree p x y z) (isFaceOfFour p x y z) f) ∙ e))
@@ -145,10 +151,10 @@ module _ (p : Polygon) where
   face-found x y z (acd a b c d k) = (omega (arith, k .a<b, k .b<c), k .c<d, k .d<n, found p a b c d a c d k (either-right (sameTriple a b c a c d) _ (either-right (sameTriple a b d a c d) _ (either-left (sameTriple a c d a c d) _ (same a c d)))))
   face-found x y z (bcd a b c d k) = (k .b<c, k .c<d, k .d<n, found p a b c d b c d k (either-right (sameTriple a b c b c d) _ (either-right (sameTriple a b d b c d) _ (either-right (sameTriple a c d b c d) _ (same b c d)))))
 
-  pub candidate-true : (x y z : ℕ) → Candidate p x y z → (x < y) × (y < z) × (z < p .n) × (isCandidate p x y z ≡ true)
+  pub true-candidate : (x y z : ℕ) → Candidate p x y z → (x < y) × (y < z) × (z < p .n) × (isCandidate p x y z ≡ true)
   unfolding isCandidate
-  candidate-true x y z (face f) = face-found x y z f
-  candidate-true x y z (three k) = (k .a<b, k .b<c, k .c<n, yes (isCountedThree p x y z) (isFaceOfFour p x y z) (plane-flat p (k .flat)) ∙ three-counted x y z k)
+  true-candidate x y z (face f) = face-found x y z f
+  true-candidate x y z (three k) = (k .a<b, k .b<c, k .c<n, yes (isCountedThree p x y z) (isFaceOfFour p x y z) (plane-flat p (k .flat)) ∙ three-counted x y z k)
 
 -- ---- 12
 -- a vertex that is none of three corners, as a test and as a statement

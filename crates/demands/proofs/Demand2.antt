@@ -16,7 +16,7 @@ use Rattle.weights.specs.Weights.{ownWeight, weightsOf}
 use Rattle.weights.proofs.Edges.{weight-at}
 use Rattle.weights.proofs.RimEdges.{own-weight-along-the-rim}
 use Rattle.demands.specs.Demand2.{IsRow, Demand2}
-use Rattle.demands.proofs.Candidates.{candidate-true, true-candidate}
+use Rattle.demands.proofs.Candidates.{true-candidate, candidate-true}
 use Rattle.finder.proofs.Accepted.{row-hinge, hinge-row, rows-in-order, candidates-in-order, weights-allowed}
 
 module _ (p : Polygon) (v : Valid p) where
@@ -32,8 +32,8 @@ module _ (p : Polygon) (v : Valid p) where
 
   pub demand-2 : Demand2 p cs (weightsOf p cs) rows
   demand-2 = record {
-    listed = λ a b c f. let r = candidate-true p a b c f in triples-put (p .n) (isCandidate p) a b c (r .0) (r .1) (r .2) (r .3);
-    only-listed = λ t m. let r = triples-member (p .n) (isCandidate p) t m in (r .a, r .b, r .c, r .is, true-candidate p (r .a) (r .b) (r .c) (r .holds-of));
+    listed = λ a b c f. let r = true-candidate p a b c f in triples-put (p .n) (isCandidate p) a b c (r .0) (r .1) (r .2) (r .3);
+    only-listed = λ t m. let r = triples-member (p .n) (isCandidate p) t m in (r .a, r .b, r .c, r .is, candidate-true p (r .a) (r .b) (r .c) (r .holds-of));
     ascending = λ i j h k. true-before (entryAt cs i) (entryAt cs j) (candidates-in-order p v .ascending i j h k);
     weight-count = length-map cs (ownWeight p);
     weight = λ i h. let o = candidates-in-order p v .ordered i h in weight-at p cs i h ∙ own-weight-along-the-rim p (entryAt cs i) (o .a-b) (o .b-c) (o .c-n);

@@ -1,7 +1,7 @@
 -- Flat rims: which triples are their candidates, rims on one line, and triangles; and what the one call answers. Assumes nothing.
 use mathlib.Core.Path.{_≡_, refl, _∙_, ap}
 use mathlib.Core.Bool.{Bool, false}
-use mathlib.Core.List.{List, [], _∷_, _++_, List·Memᴰ, List·Memᴰ·head}
+use mathlib.Core.List.{List, [], _∷_, _++_, List·Memᴰ·head}
 use Prim.Native.Nat.{ℕ, zero, suc, _+_, _<_}
 use native.Mathlib.Omega.{arith}
 use lib.IntN.{ℤ, pos}
@@ -11,6 +11,7 @@ use Rattle.integers.proofs.Laws.{sub-self}
 use Rattle.integers.proofs.Order.{less-by-difference}
 use Rattle.lists.specs.Lists.{upFrom, when}
 use Rattle.lists.proofs.Choice.{true-not-false}
+use Rattle.lists.proofs.Members.{no-members}
 use Rattle.terms.specs.Entries.{triple}
 use Rattle.polygon.specs.declared.Polygon.{Polygon}
 use Rattle.polygon.specs.Polygon.{Valid}
@@ -37,7 +38,7 @@ use Rattle.pipeline.specs.Patching.{Tables, Patching, jobIn, refused, patchFile
 use Rattle.pipeline.proofs.Values.{valid-job}
 use Rattle.demands.specs.Demand1.{CallDue, polygonIn}
 use Rattle.demands.specs.Candidates.{Counts, Face, abc, abd, acd, bcd, Flat, CountsInPlane, Candidate, face, three, Cospherical, Cocircular, Degenerate, on-sphere, on-circle}
-use Rattle.demands.proofs.Candidates.{true-candidate, candidate-true}
+use Rattle.demands.proofs.Candidates.{candidate-true, true-candidate}
 use Rattle.demands.proofs.Demand1.{twelve-first, refused-first, accepted}
 
 -- ---- which triples are candidates
@@ -68,15 +69,11 @@ module _ (p : Polygon) where
   solid-twelve s (on-circle r) = absurd (s (r .three .flat))
 
 -- ---- rims on one line
-no-members : (l : List (List ℕ)) → ((t : List ℕ) → List·Memᴰ t l → ⊥) → l ≡ []
-no-members [] h = refl
-no-members (x ∷ l) h = absurd (h x (List·Memᴰ·head refl))
-
--- have no candidates (rule 2.19)
+-- they have no candidates (rule 2.19)
 pub line-none : (p : Polygon) → OnOneLine (vertex p) (p .n) → candidatesOf p ≡ []
 line-none p h = no-members (candidatesOf p) (λ t m.
     let r = triples-member (p .n) (isCandidate p) t m in
-    let k = flat-candidate p (line-plane (vertex p) (p .n) h) (r .a) (r .b) (r .c) (true-candidate p (r .a) (r .b) (r .c) (r .holds-of)) in
+    let k = flat-candidate p (line-plane (vertex p) (p .n) h) (r .a) (r .b) (r .c) (candidate-true p (r .a) (r .b) (r .c) (r .holds-of)) in
     true-not-false (line-threes (vertex p) (p .n) h .three (r .a) (r .b) (r .c) (r .a<b) (r .b<c) (r .c<n)) (k .proper))
 
 -- and 12 is never due on them (rule 4.12)
@@ -116,7 +113,7 @@ module _ (p : Polygon) (is3 : p .n ≡ 3) where
     triangle-candidate =
         ap (λ (n : ℕ). triplesOf n (isCandidate p)) is3
         ∙ ap (λ (t : Bool). ((when t (triple 0 1 2) ++ []) ++ []) ++ [])
-        (candidate-true p 0 1 2 (three (record { flat = three-flat; a<b = omega arith; b<c = omega arith; c<n = omega arith; proper = proper; empty = empty })) .3)
+        (true-candidate p 0 1 2 (three (record { flat = three-flat; a<b = omega arith; b<c = omega arith; c<n = omega arith; proper = proper; empty = empty })) .3)
 
 -- its only tiling
 alone : (w : ℕ) (rows : List (List ℕ)) → best (jobOf 3 (triple 0 1 2 ∷ []) (w ∷ []) rows) ≡ patch w (0 ∷ [])

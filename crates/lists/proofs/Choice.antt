@@ -81,6 +81,20 @@ neither-below m n h k = by (truth (ltb m n)) (truth (ltb n m))
     by (fails l) (holds g) = absurd (k (ltb-true n m g))
     by (fails l) (fails g) = omega (arith, ltb-false m n l, ltb-false n m g)
 
+-- two numbers, one before the other or the same
+pub data Compared (a b : ℕ) : Type 0 where
+  less : a < b → Compared a b
+  same : a ≡ b → Compared a b
+  more : b < a → Compared a b
+
+pub compared : (a b : ℕ) → Compared a b
+compared a b = by (truth (ltb a b)) (truth (ltb b a))
+  where
+    by : Truth (ltb a b) → Truth (ltb b a) → Compared a b
+    by (holds l) g = less (ltb-true a b l)
+    by (fails l) (holds g) = more (ltb-true b a g)
+    by (fails l) (fails g) = same (omega (arith, ltb-false a b l, ltb-false b a g))
+
 -- a test of a number that a call handed on
 pub le-via : {x y n : ℕ} → x ≡ y → n ≤ x → ltb y n ≡ false
 le-via {y = y} {n = n} e h = le-ltb y n (omega arith)

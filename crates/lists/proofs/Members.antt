@@ -94,3 +94,8 @@ module _ {A : Type 0} where
   ascending-at {l = x ∷ l} d (more hx hl) zero (suc j) h k = hx (getD l j d) (entry-member l d j (omega arith))
   ascending-at {l = x ∷ l} d (more hx hl) (suc i) (suc j) h k = ascending-at d hl i j (omega arith) (omega arith)
   ascending-at {l = x ∷ l} d (more hx hl) i zero h k = absurd (omega arith)
+
+-- a list without members is empty
+pub no-members : {A : Type 0} (l : List A) → ((x : A) → List·Memᴰ x l → ⊥) → l ≡ []
+no-members [] h = refl
+no-members (x ∷ l) h = absurd (h x (List·Memᴰ·head refl))

@@ -43,8 +43,8 @@ module _ (u v : Vector) where
   abbrev values : List ℤ
   values = u .x ∷ u .y ∷ u .z ∷ v .x ∷ v .y ∷ v .z ∷ []
 
-  centre-level : dotOf (crossOf u v) (centre u v) ≡ pos 0
-  centre-level = ring values (dotE normalE centreE) (con (pos 0)) tt
+  centre-on-plane : dotOf (crossOf u v) (centre u v) ≡ pos 0
+  centre-on-plane = ring values (dotE normalE centreE) (con (pos 0)) tt
 
   -- the power of each corner is 0
   abbrev powerE : VectorE → E
@@ -60,7 +60,7 @@ module _ (p q r : GridPoint) where
   -- the centre lies in the plane of the three points
   pub centre-in-plane : dotOf (normalOf p q r) (circumcentreOf p q r) ≡ pos 0
   unfolding circumcentreOf
-  centre-in-plane = centre-level (differenceOf q p) (differenceOf r p)
+  centre-in-plane = centre-on-plane (differenceOf q p) (differenceOf r p)
 
   at-corner : (w : GridPoint) → squareOf (normalOf p q r) *ℤ squareOf (differenceOf w p) -ℤ dotOf (circumcentreOf p q r) (differenceOf w p) ≡ pos 0 → distanceInPlane p q r w ≡ distanceInPlane p q r p
   unfolding distanceInPlane

@@ -14,11 +14,11 @@ use Rattle.geometry.specs.Vectors.{differenceOf, dotOf, crossOf, squareOf, scal
 use Rattle.geometry.specs.Faces.{normalOf}
 use Rattle.geometry.proofs.Terms.{VectorE, vec, dotE, crossE, scaledE, minusE, ofVectors, ofPoints}
 use Rattle.lists.specs.Lists.{some}
-use Rattle.lists.proofs.Choice.{Truth, holds, fails, truth, fails-via, not-false-true}
+use Rattle.lists.proofs.Choice.{Truth, holds, fails, truth, Compared, less, same, more, compared, fails-via, not-false-true}
 use Rattle.lists.proofs.Ranges.{some-found, some-none}
 use Rattle.planar.specs.Circles.{collinear}
 use Rattle.planar.specs.Planes.{OnOneLine, zeroVector}
-use Rattle.planar.proofs.Zero.{Compared, less, same, more, compared, no-divisor, vanishes, vanished}
+use Rattle.planar.proofs.Zero.{no-divisor, vanishes, vanished}
 
 -- every three of the first n points are on one line
 pub record ThreesOnLine (at : ℕ → GridPoint) (n : ℕ) : Type 0 where

@@ -16,11 +16,12 @@ use Rattle.geometry.specs.Spheres.{orientOf, coplanar}
 use Rattle.geometry.specs.Faces.{normalOf}
 use Rattle.geometry.proofs.Terms.{VectorE, vec, dotE, crossE, minusE, orientE, ofVectors, ofPoints}
 use Rattle.lists.specs.Lists.{some}
-use Rattle.lists.proofs.Choice.{Truth, holds, fails, truth, fails-via, not-false-true}
+use Rattle.lists.proofs.Choice.{Truth, holds, fails, truth, Compared, less, same, more, compared, fails-via, not-false-true}
 use Rattle.lists.proofs.Ranges.{some-found, some-none, some-here}
 use Rattle.planar.specs.Circles.{collinear}
 use Rattle.planar.specs.Planes.{InOnePlane, OnOneLine}
-use Rattle.planar.proofs.Zero.{Compared, less, same, more, compared, zero-square, vanishes}
+use Rattle.planar.proofs.Zero.{zero-square, vanishes}
+use Rattle.planar.proofs.Seen.{on-plane}
 use Rattle.planar.proofs.OnePlane.{one-plane}
 use Rattle.planar.proofs.Lines.{threes-line, square-first, square-second}
 
@@ -59,13 +60,13 @@ plane-through at n m o h k = record {
 
 -- ---- the plane of three points that are not on one line
 
-abbrev level : GridPoint → GridPoint → GridPoint → GridPoint → Type 0
-level p q r s = dotOf (normalOf p q r) (differenceOf s p) ≡ pos 0
+abbrev OnPlane : GridPoint → GridPoint → GridPoint → GridPoint → Type 0
+OnPlane p q r s = dotOf (normalOf p q r) (differenceOf s p) ≡ pos 0
 
 -- s lies in the plane of p, q and r, where the four are in one plane in any order, and where it is one of the three
 module _ (p q r s : GridPoint) where
-  abbrev levelE : VectorE → E
-  levelE a = dotE (crossE (minusE (vec 3) (vec 0)) (minusE (vec 6) (vec 0))) (minusE a (vec 0))
+  abbrev onPlaneE : VectorE → E
+  onPlaneE a = dotE (crossE (minusE (vec 3) (vec 0)) (minusE (vec 6) (vec 0))) (minusE a (vec 0))
 
   abbrev orientAtE : VectorE → VectorE → VectorE → VectorE → E
   orientAtE a b c d = orientE (minusE b a) (minusE c a) (minusE d a)
@@ -73,51 +74,50 @@ module _ (p q r s : GridPoint) where
   orient-zero : (a b c d : GridPoint) → coplanar a b c d ≡ true → orientOf a b c d ≡ pos 0
   orient-zero a b c d h = equal-yes (orientOf a b c d) (pos 0) h
 
-  level-last : coplanar p q r s ≡ true → level p q r s
+  on-plane-last : coplanar p q r s ≡ true → OnPlane p q r s
+  on-plane-last h = on-plane p q r s h
+
+  on-plane-third : coplanar p q s r ≡ true → OnPlane p q r s
   unfolding orientOf
-  level-last h = ring (ofPoints p q r s) (levelE (vec 9)) (orientAtE (vec 0) (vec 3) (vec 6) (vec 9)) tt ∙ orient-zero p q r s h
+  on-plane-third h = ring (ofPoints p q r s) (onPlaneE (vec 9)) (con (pos 0) :- orientAtE (vec 0) (vec 3) (vec 9) (vec 6)) tt ∙ ap (λ (z : ℤ). pos 0 -ℤ z) (orient-zero p q s r h)
 
-  level-third : coplanar p q s r ≡ true → level p q r s
+  on-plane-second : coplanar p s q r ≡ true → OnPlane p q r s
   unfolding orientOf
-  level-third h = ring (ofPoints p q r s) (levelE (vec 9)) (con (pos 0) :- orientAtE (vec 0) (vec 3) (vec 9) (vec 6)) tt ∙ ap (λ (z : ℤ). pos 0 -ℤ z) (orient-zero p q s r h)
+  on-plane-second h = ring (ofPoints p q r s) (onPlaneE (vec 9)) (orientAtE (vec 0) (vec 9) (vec 3) (vec 6)) tt ∙ orient-zero p s q r h
 
-  level-second : coplanar p s q r ≡ true → level p q r s
+  on-plane-first : coplanar s p q r ≡ true → OnPlane p q r s
   unfolding orientOf
-  level-second h = ring (ofPoints p q r s) (levelE (vec 9)) (orientAtE (vec 0) (vec 9) (vec 3) (vec 6)) tt ∙ orient-zero p s q r h
+  on-plane-first h = ring (ofPoints p q r s) (onPlaneE (vec 9)) (con (pos 0) :- orientAtE (vec 9) (vec 0) (vec 3) (vec 6)) tt ∙ ap (λ (z : ℤ). pos 0 -ℤ z) (orient-zero s p q r h)
 
-  level-first : coplanar s p q r ≡ true → level p q r s
-  unfolding orientOf
-  level-first h = ring (ofPoints p q r s) (levelE (vec 9)) (con (pos 0) :- orientAtE (vec 9) (vec 0) (vec 3) (vec 6)) tt ∙ ap (λ (z : ℤ). pos 0 -ℤ z) (orient-zero s p q r h)
+  on-plane-p : OnPlane p q r p
+  on-plane-p = ring (ofPoints p q r s) (onPlaneE (vec 0)) (con (pos 0)) tt
 
-  level-p : level p q r p
-  level-p = ring (ofPoints p q r s) (levelE (vec 0)) (con (pos 0)) tt
+  on-plane-q : OnPlane p q r q
+  on-plane-q = ring (ofPoints p q r s) (onPlaneE (vec 3)) (con (pos 0)) tt
 
-  level-q : level p q r q
-  level-q = ring (ofPoints p q r s) (levelE (vec 3)) (con (pos 0)) tt
-
-  level-r : level p q r r
-  level-r = ring (ofPoints p q r s) (levelE (vec 6)) (con (pos 0)) tt
+  on-plane-r : OnPlane p q r r
+  on-plane-r = ring (ofPoints p q r s) (onPlaneE (vec 6)) (con (pos 0)) tt
 
 -- so is point l with points i < j < k of a row, wherever it stands among them
-level-among : (at : ℕ → GridPoint) (i j k l : ℕ) →
+on-plane-among : (at : ℕ → GridPoint) (i j k l : ℕ) →
     (l < i → coplanar (at l) (at i) (at j) (at k) ≡ true) → (i < l → l < j → coplanar (at i) (at l) (at j) (at k) ≡ true) →
-    (j < l → l < k → coplanar (at i) (at j) (at l) (at k) ≡ true) → (k < l → coplanar (at i) (at j) (at k) (at l) ≡ true) → level (at i) (at j) (at k) (at l)
-level-among at i j k l first second third last = go (compared l i) (compared l j) (compared l k)
+    (j < l → l < k → coplanar (at i) (at j) (at l) (at k) ≡ true) → (k < l → coplanar (at i) (at j) (at k) (at l) ≡ true) → OnPlane (at i) (at j) (at k) (at l)
+on-plane-among at i j k l first second third last = go (compared l i) (compared l j) (compared l k)
   where
-    moved : {m : ℕ} → l ≡ m → level (at i) (at j) (at k) (at m) → level (at i) (at j) (at k) (at l)
-    moved e f = subst (λ (x : ℕ). level (at i) (at j) (at k) (at x)) (sym e) f
+    moved : {m : ℕ} → l ≡ m → OnPlane (at i) (at j) (at k) (at m) → OnPlane (at i) (at j) (at k) (at l)
+    moved e f = subst (λ (x : ℕ). OnPlane (at i) (at j) (at k) (at x)) (sym e) f
 
-    go : Compared l i → Compared l j → Compared l k → level (at i) (at j) (at k) (at l)
-    go (less a) b c = level-first (at i) (at j) (at k) (at l) (first a)
-    go (same a) b c = moved a (level-p (at i) (at j) (at k) (at l))
-    go (more a) (less b) c = level-second (at i) (at j) (at k) (at l) (second a b)
-    go (more a) (same b) c = moved b (level-q (at i) (at j) (at k) (at l))
-    go (more a) (more b) (less c) = level-third (at i) (at j) (at k) (at l) (third b c)
-    go (more a) (more b) (same c) = moved c (level-r (at i) (at j) (at k) (at l))
-    go (more a) (more b) (more c) = level-last (at i) (at j) (at k) (at l) (last c)
+    go : Compared l i → Compared l j → Compared l k → OnPlane (at i) (at j) (at k) (at l)
+    go (less a) b c = on-plane-first (at i) (at j) (at k) (at l) (first a)
+    go (same a) b c = moved a (on-plane-p (at i) (at j) (at k) (at l))
+    go (more a) (less b) c = on-plane-second (at i) (at j) (at k) (at l) (second a b)
+    go (more a) (same b) c = moved b (on-plane-q (at i) (at j) (at k) (at l))
+    go (more a) (more b) (less c) = on-plane-third (at i) (at j) (at k) (at l) (third b c)
+    go (more a) (more b) (same c) = moved c (on-plane-r (at i) (at j) (at k) (at l))
+    go (more a) (more b) (more c) = on-plane-last (at i) (at j) (at k) (at l) (last c)
 
--- the plane of three points that are not on one line holds each point that is level with them
-plane-of-three : (at : ℕ → GridPoint) (n : ℕ) (p q r : GridPoint) → collinear p q r ≡ false → ((l : ℕ) → l < n → level p q r (at l)) → InOnePlane at n
+-- the plane of three points that are not on one line holds each point that is on it
+plane-of-three : (at : ℕ → GridPoint) (n : ℕ) (p q r : GridPoint) → collinear p q r ≡ false → ((l : ℕ) → l < n → OnPlane p q r (at l)) → InOnePlane at n
 plane-of-three at n p q r f h = plane-through at n (normalOf p q r) p (λ ex ey ez. true≢false (sym (equal-is (zero-square (normalOf p q r) ex ey ez)) ∙ f)) h
 
 -- ---- the plane of points on one line
@@ -130,11 +130,11 @@ module _ (d e : Vector) where
   abbrev squareX : Vector
   squareX = record { x = pos 0; y = d .z; z = pos 0 -ℤ d .y }
 
-  along-z : dotOf squareZ e ≡ pos 0 -ℤ crossOf d e .z
-  along-z = ring (ofVectors d e e) (dotE (record { X = var 1; Y = con (pos 0) :- var 0; Z = con (pos 0) }) (vec 3)) (con (pos 0) :- crossE (vec 0) (vec 3) .Z) tt
+  dot-square-z : dotOf squareZ e ≡ pos 0 -ℤ crossOf d e .z
+  dot-square-z = ring (ofVectors d e e) (dotE (record { X = var 1; Y = con (pos 0) :- var 0; Z = con (pos 0) }) (vec 3)) (con (pos 0) :- crossE (vec 0) (vec 3) .Z) tt
 
-  along-x : dotOf squareX e ≡ pos 0 -ℤ crossOf d e .x
-  along-x = ring (ofVectors d e e) (dotE (record { X = con (pos 0); Y = var 2; Z = con (pos 0) :- var 1 }) (vec 3)) (con (pos 0) :- crossE (vec 0) (vec 3) .X) tt
+  dot-square-x : dotOf squareX e ≡ pos 0 -ℤ crossOf d e .x
+  dot-square-x = ring (ofVectors d e e) (dotE (record { X = con (pos 0); Y = var 2; Z = con (pos 0) :- var 1 }) (vec 3)) (con (pos 0) :- crossE (vec 0) (vec 3) .X) tt
 
 -- a plane along the line
 pub line-plane : (at : ℕ → GridPoint) (n : ℕ) → OnOneLine at n → InOnePlane at n
@@ -149,12 +149,12 @@ line-plane at n h = go (truth (equal (d .x) (pos 0))) (truth (equal (d .y) (pos 
     by-z : (d .x ≡ pos 0 → d .y ≡ pos 0 → ⊥) → InOnePlane at n
     by-z f =
         plane-through at n (squareZ d d) o (λ ex ey ez. f (sym (sub-zero (pos 0) (d .x) ey)) ex)
-        (λ l b. along-z d (differenceOf (at l) o) ∙ ap (λ (v : Vector). pos 0 -ℤ v .z) (h .lies l b))
+        (λ l b. dot-square-z d (differenceOf (at l) o) ∙ ap (λ (v : Vector). pos 0 -ℤ v .z) (h .lies l b))
 
     by-x : d .x ≡ pos 0 → d .y ≡ pos 0 → InOnePlane at n
     by-x f g =
         plane-through at n (squareX d d) o (λ ex ey ez. h .proper (λ i. record { x = f i; y = g i; z = ey i }))
-        (λ l b. along-x d (differenceOf (at l) o) ∙ ap (λ (v : Vector). pos 0 -ℤ v .x) (h .lies l b))
+        (λ l b. dot-square-x d (differenceOf (at l) o) ∙ ap (λ (v : Vector). pos 0 -ℤ v .x) (h .lies l b))
 
     go : Truth (equal (d .x) (pos 0)) → Truth (equal (d .y) (pos 0)) → InOnePlane at n
     go (holds ex) (holds ey) = by-x (equal-yes (d .x) (pos 0) ex) (equal-yes (d .y) (pos 0) ey)
@@ -165,13 +165,13 @@ line-plane at n h = go (truth (equal (d .x) (pos 0))) (truth (equal (d .y) (pos 
 
 module _ (at : ℕ → GridPoint) (n : ℕ) where
   -- some three are not on one line
-  abbrev someThree : Bool
-  someThree = some 0 n (λ i. some (i + 1) n (λ j. some (j + 1) n (λ k. not (collinear (at i) (at j) (at k)))))
+  abbrev someOffLine : Bool
+  someOffLine = some 0 n (λ i. some (i + 1) n (λ j. some (j + 1) n (λ k. not (collinear (at i) (at j) (at k)))))
 
   pub fours-plane : FoursInPlane at n → InOnePlane at n
-  fours-plane h = go (truth someThree)
+  fours-plane h = go (truth someOffLine)
     where
-      go : Truth someThree → InOnePlane at n
+      go : Truth someOffLine → InOnePlane at n
       go (holds e) =
           let f = some-found 0 n _ e in
           let g = some-found (f .at + 1) n _ (f .true-at) in
@@ -179,7 +179,7 @@ module _ (at : ℕ → GridPoint) (n : ℕ) where
           let i<j : f .at < g .at = omega (arith, g .low) in
           let j<k : g .at < t .at = omega (arith, t .low) in
           plane-of-three at n (at (f .at)) (at (g .at)) (at (t .at)) (fails-via refl (t .true-at)) (λ l b.
-          level-among at (f .at) (g .at) (t .at) l
+          on-plane-among at (f .at) (g .at) (t .at) l
           (λ a. h .four l (f .at) (g .at) (t .at) a i<j j<k (t .high)) (λ a c. h .four (f .at) l (g .at) (t .at) a c j<k (t .high))
           (λ a c. h .four (f .at) (g .at) l (t .at) i<j a c (t .high)) (λ a. h .four (f .at) (g .at) (t .at) l i<j j<k a b))
       go (fails e) =
@@ -198,7 +198,7 @@ module _ (at : ℕ → GridPoint) (n : ℕ) (apart : at 0 ≡ at 1 → ⊥) (pai
   by-three : (k : ℕ) → 1 < k → k < n → collinear (at 0) (at 1) (at k) ≡ false → InOnePlane at n
   by-three k 1<k k<n f =
       plane-of-three at n (at 0) (at 1) (at k) f (λ l b.
-      level-among at 0 1 k l (λ h. absurd (omega arith)) (λ h i. absurd (omega arith)) (λ h i. pairs l k h i k<n) (λ h. pairs k l 1<k h b))
+      on-plane-among at 0 1 k l (λ h. absurd (omega arith)) (λ h i. absurd (omega arith)) (λ h i. pairs l k h i k<n) (λ h. pairs k l 1<k h b))
 
   -- every point is on their line
   by-line : ((k : ℕ) → 1 < k → k < n → collinear (at 0) (at 1) (at k) ≡ true) → InOnePlane at n

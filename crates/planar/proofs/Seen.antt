@@ -14,15 +14,15 @@ use Rattle.geometry.specs.declared.sphere.Position.{Position}
 use Rattle.geometry.specs.declared.sphere.Position.the-variants.{Inside, On, Outside}
 use Rattle.integers.specs.Bounds.{AtMost}
 use Rattle.integers.specs.Order.{equal}
-use Rattle.integers.proofs.Order.{equal-is, equal-yes, equal-no, less-by-difference, equal-by-difference, less-multiple, equal-multiple, product-suc, not-below, true≢false}
+use Rattle.integers.proofs.Order.{equal-is, equal-yes, equal-no, less-multiple, equal-multiple, not-below, true≢false}
 use Rattle.integers.proofs.Ring.{E, var, con, _:+_, _:-_, _:*_, ring}
 use Rattle.geometry.specs.Vectors.{differenceOf, dotOf, crossOf, squareOf, scaledBy, plus, minus, opposite}
 use Rattle.geometry.specs.Spheres.{orientOf, coplanar}
 use Rattle.geometry.specs.Bounds.{maxDifference, Within, LiftedBounds, SphereBounds}
 use Rattle.geometry.specs.Lifting.{liftOf, turned, noSphere, positionBy}
 use Rattle.geometry.specs.Faces.{normalOf}
-use Rattle.geometry.proofs.Terms.{VectorE, vec, dotE, crossE, scaledE, plusE, minusE, oppositeE, orientE, ofVectors}
-use Rattle.geometry.proofs.Spheres.{distances-power, pencil-bounds, sphere-bounds, triple-product, turned-orient}
+use Rattle.geometry.proofs.Terms.{VectorE, vec, dotE, crossE, scaledE, plusE, minusE, oppositeE, ofVectors}
+use Rattle.geometry.proofs.Spheres.{distances-power, by-multiple, pencil-bounds, sphere-bounds, triple-product, turned-orient}
 use Rattle.geometry.proofs.Faces.{square-size, zero-vector}
 use Rattle.planar.specs.Circles.{collinear, circumcentreOf, distanceInPlane}
 use Rattle.planar.specs.Seen.{positionInPlane, vector, axisAcross, circleOf}
@@ -30,6 +30,10 @@ use Rattle.planar.proofs.Zero.{zero-square}
 use Rattle.planar.proofs.Circles.{centre, normalE, centreE}
 
 -- ---- as seen along an axis
+
+-- the centre as computed, times twice the orientation
+abbrev seenE : VectorE → VectorE
+seenE e = plusE (crossE (minusE (scaledE (dotE (vec 0) (vec 0)) (vec 3)) (scaledE (dotE (vec 3) (vec 3)) (vec 0))) e) (scaledE (con (pos 0)) normalE)
 
 -- the code's power of w, times |n|², is the circle's times n · e, and something that vanishes in the plane
 module _ (u v e t : Vector) where
@@ -43,15 +47,12 @@ module _ (u v e t : Vector) where
   abbrev pub seen : Vector
   seen = plus (crossOf weighted e) (scaledBy (pos 0) (crossOf u v))
 
-  abbrev seenE : VectorE
-  seenE = plusE (crossE (minusE (scaledE (dotE (vec 0) (vec 0)) (vec 3)) (scaledE (dotE (vec 3) (vec 3)) (vec 0))) (vec 6)) (scaledE (con (pos 0)) normalE)
-
   powers :
       squareOf (crossOf u v) *ℤ (dotOf (crossOf u v) e *ℤ squareOf t -ℤ dotOf seen t)
       ≡ dotOf (crossOf u v) e *ℤ (squareOf (crossOf u v) *ℤ squareOf t -ℤ dotOf (centre u v) t) +ℤ dotOf (crossOf u v) t *ℤ dotOf (centre u v) e
   powers =
       ring known
-      (dotE normalE normalE :* (dotE normalE (vec 6) :* dotE (vec 9) (vec 9) :- dotE seenE (vec 9)))
+      (dotE normalE normalE :* (dotE normalE (vec 6) :* dotE (vec 9) (vec 9) :- dotE (seenE (vec 6)) (vec 9)))
       (dotE normalE (vec 6) :* (dotE normalE normalE :* dotE (vec 9) (vec 9) :- dotE centreE (vec 9)) :+ dotE normalE (vec 9) :* dotE centreE (vec 6)) tt
 
 -- that power, along an axis, is the determinant of the other two coordinates and the squared lengths of u, v and t
@@ -67,8 +68,7 @@ module _ (u v t : Vector) where
   abbrev alongE : ℤ → ℤ → ℤ → E
   alongE x y z =
       let e : VectorE = record { X = con x; Y = con y; Z = con z } in
-      let c = plusE (crossE (minusE (scaledE (dotE (vec 0) (vec 0)) (vec 3)) (scaledE (dotE (vec 3) (vec 3)) (vec 0))) e) (scaledE (con (pos 0)) normalE) in
-      dotE normalE e :* dotE (vec 6) (vec 6) :- dotE c (vec 6)
+      dotE normalE e :* dotE (vec 6) (vec 6) :- dotE (seenE e) (vec 6)
 
   abbrev pub powerAlong : Vector → ℤ
   powerAlong e = dotOf (crossOf u v) e *ℤ squareOf t -ℤ dotOf (seen u v e t) t
@@ -91,17 +91,9 @@ place z = cond (ltZ z (pos 0)) Inside (cond (equal z (pos 0)) On Outside)
 place-multiple : (k : ℕ) (z : ℤ) → place (pos (suc k) *ℤ z) ≡ place z
 place-multiple k z = λ i. cond (less-multiple k z i) Inside (cond (equal-multiple k z i) On Outside)
 
-place-difference : (a b : ℤ) → cond (ltZ a b) Inside (cond (equal a b) On Outside) ≡ place (a -ℤ b)
-place-difference a b = λ i. cond (less-by-difference a b i) Inside (cond (equal-by-difference a b i) On Outside)
-
 -- two numbers with equal positive multiples
 place-same : (m n : ℕ) (y z : ℤ) → pos (suc m) *ℤ y ≡ pos (suc n) *ℤ z → place y ≡ place z
 place-same m n y z e = sym (place-multiple m y) ∙ ap place e ∙ place-multiple n z
-
--- by two distances whose difference is 4 s · z
-place-distances : (n : ℕ) (a b z : ℤ) → a -ℤ b ≡ (pos 4 *ℤ pos (suc n)) *ℤ z → place z ≡ cond (ltZ a b) Inside (cond (equal a b) On Outside)
-place-distances n a b z e =
-    sym (place-difference a b ∙ ap place (e ∙ ap (λ (x : ℕ). pos x *ℤ z) (product-suc 3 n)) ∙ place-multiple (3 * n + 3 + n) z)
 
 -- the sign changed: of a power, and of a product
 module _ (o l : ℤ) (c t : Vector) where
@@ -184,6 +176,11 @@ module _ (p q r : GridPoint) where
   abbrev pub computedCircle : Sphere
   computedCircle = circleOf (liftOf p q) (liftOf p r)
 
+-- the plane of p, q and r holds w
+pub on-plane : (p q r w : GridPoint) → coplanar p q r w ≡ true → dotOf (normalOf p q r) (differenceOf w p) ≡ pos 0
+unfolding orientOf
+on-plane p q r w h = triple-product (differenceOf q p) (differenceOf r p) (differenceOf w p) ∙ equal-yes (dotOf (differenceOf q p) (crossOf (differenceOf r p) (differenceOf w p))) (pos 0) h
+
 module _ (p q r w : GridPoint) where
   abbrev u : Vector
   u = differenceOf q p
@@ -197,19 +194,14 @@ module _ (p q r w : GridPoint) where
   abbrev axis : Vector
   axis = axisAcross (normalOf p q r)
 
-  -- n · (w - p), the orientation of the four, is 0
-  level : coplanar p q r w ≡ true → dotOf (normalOf p q r) t ≡ pos 0
-  unfolding orientOf
-  level h = triple-product u v t ∙ equal-yes (dotOf u (crossOf v t)) (pos 0) h
-
   abbrev power : ℤ
   power = squareOf (normalOf p q r) *ℤ squareOf t -ℤ dotOf (centre u v) t
 
-  powers-level : coplanar p q r w ≡ true →
+  powers-on-plane : coplanar p q r w ≡ true →
       squareOf (normalOf p q r) *ℤ (dotOf (normalOf p q r) axis *ℤ squareOf t -ℤ dotOf (seen u v axis t) t) ≡ dotOf (normalOf p q r) axis *ℤ power
-  powers-level h =
+  powers-on-plane h =
       powers u v axis t
-      ∙ ap (λ (z : ℤ). dotOf (normalOf p q r) axis *ℤ power +ℤ z *ℤ dotOf (centre u v) axis) (level h)
+      ∙ ap (λ (z : ℤ). dotOf (normalOf p q r) axis *ℤ power +ℤ z *ℤ dotOf (centre u v) axis) (on-plane p q r w h)
       ∙ ap (λ (z : ℤ). dotOf (normalOf p q r) axis *ℤ power +ℤ z) (zero-*ℤ (dotOf (centre u v) axis))
       ∙ +ℤ-idr (dotOf (normalOf p q r) axis *ℤ power)
 
@@ -226,8 +218,8 @@ module _ (p q r w : GridPoint) where
       let c = seen u v axis t in
       let nonzero : (o ≡ pos 0 → ⊥) = λ z. true≢false (sym (equal-is (across-zero (normalOf p q r) z)) ∙ k) in
       ap (λ (b : Bool). positionBy (cond b noSphere (turned o c)) (liftOf p w)) (equal-no o (pos 0) nonzero)
-      ∙ place-turned s o c (liftOf p w) power nonzero (ap (λ (z : ℤ). z *ℤ (o *ℤ squareOf t -ℤ dotOf c t)) (sym e) ∙ powers-level h)
-      ∙ place-distances s (distanceInPlane p q r w) (distanceInPlane p q r p) power (distances ∙ ap (λ (z : ℤ). (pos 4 *ℤ z) *ℤ power) e)
+      ∙ place-turned s o c (liftOf p w) power nonzero (ap (λ (z : ℤ). z *ℤ (o *ℤ squareOf t -ℤ dotOf c t)) (sym e) ∙ powers-on-plane h)
+      ∙ by-multiple s (distanceInPlane p q r w) (distanceInPlane p q r p) power (distances ∙ ap (λ (z : ℤ). (pos 4 *ℤ z) *ℤ power) e)
 
   -- where the code puts a point of the plane, and where it lies by the distance from the centre
   pub circle-position-is : collinear p q r ≡ false → coplanar p q r w ≡ true → positionBy (computedCircle p q r) (liftOf p w) ≡ positionInPlane p q r w

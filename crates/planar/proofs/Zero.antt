@@ -1,8 +1,6 @@
--- Numbers and vectors that are 0, and the order of two numbers. Assumes nothing.
+-- Numbers and vectors that are 0. Assumes nothing.
 use mathlib.Core.Path.{_≡_, refl, sym, _∙_, ap}
-use Prim.Native.Nat.{ℕ, zero, suc, _+_, _*_, _<_}
-use native.Mathlib.Decide.{decLt}
-use native.Mathlib.Omega.{arith}
+use Prim.Native.Nat.{zero, suc, _+_, _*_}
 use lib.IntN.{ℤ, pos, negsuc, negℤ, _+ℤ_, _*ℤ_, negℤ-negℤ}
 use Rattle.geometry.specs.declared.Vector.{Vector}
 use Rattle.integers.proofs.Laws.{neg-mul}
@@ -28,17 +26,3 @@ vanishes v h = let e = zero-vector v h in λ i. record { x = e .0 i; y = e .1 i;
 
 pub vanished : (v : Vector) → v ≡ zeroVector → squareOf v ≡ pos 0
 vanished v e = ap squareOf e
-
--- two numbers, one before the other or the same
-pub data Compared (a b : ℕ) : Type 0 where
-  less : a < b → Compared a b
-  same : a ≡ b → Compared a b
-  more : b < a → Compared a b
-
-pub compared : (a b : ℕ) → Compared a b
-compared a b = go (decLt a b) (decLt b a)
-  where
-    go : Dec (a < b) → Dec (b < a) → Compared a b
-    go (yes h) k = less h
-    go (no h) (yes k) = more k
-    go (no h) (no k) = same (omega arith)

@@ -17,19 +17,19 @@ use Rattle.geometry.specs.Bounds.{LiftedBounds, PencilBounds, SphereBounds}
 use Rattle.geometry.specs.Lifting.{sphereOf}
 use Rattle.geometry.proofs.Spheres.{pencil-bounds, sphere-bounds}
 use Rattle.delaunay.specs.Search.{unlifted}
-use Rattle.delaunay.proofs.Flat.{levelPair, LevelTo, LevelWith, level-with-on, level-on, found-solid, all-level}
+use Rattle.delaunay.proofs.Flat.{coplanarPair, CoplanarTo, CoplanarWith, coplanar-with-on, coplanar-on, found-solid, all-coplanar}
 use Rattle.delaunay.proofs.Corners.{lift-in}
 use Rattle.delaunay.proofs.is_flat.Statement.{statement}
 use Rattle.delaunay.proofs.is_flat.Tie as tie
 
 abbrev Inv-loop2 : tie.InvT-loop2
-Inv-loop2 n lifted c pencil d₀ d = (c < d) × LevelWith lifted c d
+Inv-loop2 n lifted c pencil d₀ d = (c < d) × CoplanarWith lifted c d
 
 abbrev μ-loop2 : tie.MeasureT-loop2
 μ-loop2 n lifted c pencil d₀ d = n - d
 
 abbrev Inv-loop : tie.InvT-loop
-Inv-loop n lifted c₀ c = (1 < c) × LevelTo n lifted c
+Inv-loop n lifted c₀ c = (1 < c) × CoplanarTo n lifted c
 
 abbrev μ-loop : tie.MeasureT-loop
 μ-loop n lifted c₀ c = n - c
@@ -117,8 +117,8 @@ module _ (e : At tie.After-circumsphere) where
   ball-in : SphereBounds ball
   ball-in = subst (λ (b : Sphere). SphereBounds b) (sym (e .circumsphere .ensures)) (sphere-bounds (pencil-in at) (vertex-in (base at) (D at) (d<n at)))
 
-  level-of : equal (ball .orient) (pos 0) ≡ levelPair (lifted (base at)) (C (base at)) (D at)
-  level-of =
+  pair-of : equal (ball .orient) (pos 0) ≡ coplanarPair (lifted (base at)) (C (base at)) (D at)
+  pair-of =
       ap (λ (b : Sphere). equal (b .orient) (pos 0)) (e .circumsphere .ensures)
       ∙ ap (λ (k : Pencil). equal (sphereOf k (getD (lifted (base at)) (D at) unlifted) .orient) (pos 0)) (at .before .before .pencil-through .ensures)
 
@@ -127,7 +127,7 @@ returns c =
     let e = c .before .before .before in
     let s = at e in
     let g = base s in
-    sym (found-solid (valid g) (g .before .before .lift-vertices .ensures) (C g) (D s) (g .before .loop .inv .0) (s .before .loop2 .inv .0) (d<n s) (sym (level-of e) ∙ other-bits (ball e .orient) (c .if1 .taken)))
+    sym (found-solid (valid g) (g .before .before .lift-vertices .ensures) (C g) (D s) (g .before .loop .inv .0) (s .before .loop2 .inv .0) (d<n s) (sym (pair-of e) ∙ other-bits (ball e .orient) (c .if1 .taken)))
 
 add-d-2 : At tie.Need-add-d-2
 add-d-2 c = let s = at (c .before .before .before) in omega (arith, valid (base s) .most, d<n s)
@@ -139,7 +139,7 @@ loop2-again : At tie.Need-loop2-again
 loop2-again c =
     let e = c .before .before .before in
     let s = at e in
-    (omega (arith, s .before .loop2 .inv .0), level-with-on (sym (level-of e) ∙ zero-bits (ball e .orient) (signed-fits tt (ball-in e .orient-in)) (c .if1 .left)) (s .before .loop2 .inv .1))
+    (omega (arith, s .before .loop2 .inv .0), coplanar-with-on (sym (pair-of e) ∙ zero-bits (ball e .orient) (signed-fits tt (ball-in e .orient-in)) (c .if1 .left)) (s .before .loop2 .inv .1))
 
 add-c : At tie.Need-add-c
 add-c c = let g = c .before .before .before .before .before in omega (arith, valid g .most, c<n g)
@@ -148,12 +148,12 @@ loop-less : At tie.Need-loop-less
 loop-less c = omega (arith, c<n (c .before .before .before .before .before))
 
 loop-again : At tie.Need-loop-again
-loop-again c = let g = c .before .before .before .before .before in (omega (arith, g .before .loop .inv .0), level-on (λ h. omega (arith, c .loop2-test .left)) (c .before .loop2 .inv .1) (g .before .loop .inv .1))
+loop-again c = let g = c .before .before .before .before .before in (omega (arith, g .before .loop .inv .0), coplanar-on (λ h. omega (arith, c .loop2-test .left)) (c .before .loop2 .inv .1) (g .before .loop .inv .1))
 
 returns-2 : At tie.Need-returns-2
 returns-2 c =
     let s = c .before .before .before in
-    sym (all-level (s .pre) (c .before .before .lift-vertices .ensures) (c .before .loop .c) (λ h. omega (arith, c .loop-test .left)) (c .before .loop .inv .1))
+    sym (all-coplanar (s .pre) (c .before .before .lift-vertices .ensures) (c .before .loop .c) (λ h. omega (arith, c .loop-test .left)) (c .before .loop .inv .1))
 
 pub is-flat-spec : {M : Type 1} → statement M
 is-flat-spec =
