@@ -159,6 +159,17 @@ module _ (k : At tie.After-circle-through) where
     kept = at .before .three .inv .1;
   }
 
+-- in the scan: they are not on one line, and c is still the same
+module _ (l : At tie.At-loop3) where
+  abbrev round : At tie.After-circle-through
+  round = l .before .before .before .before
+
+  abbrev Proper : ℕ → Type 0
+  Proper c = TriangleAt round c × (collinear (vertex (polygon (at round)) (A (at round))) (vertex (polygon (at round)) (B (at round))) (vertex (polygon (at round)) c) ≡ false)
+
+  proper : Proper (l .loop3 .c)
+  proper = subst Proper (sym (l .loop3 .inv .same-c)) (triangle round, sym (line-is (triangle round)) ∙ other-bits (circle round .orient) (λ z. l .before .if1 .left (omega (arith, z))))
+
 add-c-2 : At tie.Need-add-c-2
 add-c-2 c = let g = at (c .before .before .before) in omega (arith, valid g .most, c<n g)
 
@@ -176,17 +187,6 @@ add-i-end c = let g = at (c .before .before .before) in omega (arith, valid g .m
 
 loop3-holds : At tie.Need-loop3-holds
 loop3-holds c = record { same-c = refl; ahead = omega arith; last<n = at (c .before .before .before) .before .three .inv .0; scanned = refl }
-
--- in the scan: they are not on one line, and c is still the same
-module _ (l : At tie.At-loop3) where
-  abbrev round : At tie.After-circle-through
-  round = l .before .before .before .before
-
-  abbrev Proper : ℕ → Type 0
-  Proper c = TriangleAt round c × (collinear (vertex (polygon (at round)) (A (at round))) (vertex (polygon (at round)) (B (at round))) (vertex (polygon (at round)) c) ≡ false)
-
-  proper : Proper (l .loop3 .c)
-  proper = subst Proper (sym (l .loop3 .inv .same-c)) (triangle round, sym (line-is (triangle round)) ∙ other-bits (circle round .orient) (λ z. l .before .if1 .left (omega (arith, z))))
 
 scanned-requires : At tie.Need-scanned-requires
 scanned-requires c κs = omega arith
