@@ -19,7 +19,7 @@ pub record IsRow (rows : List (List ℕ)) (k o i : ℕ) : Type 0 where
   pub outer-is : outer (entryAt rows k) ≡ o
   pub inner-is : inner (entryAt rows k) ≡ i
 
--- the lists are those of the polygon, all of it and nothing else (rules 2.3 to 2.13)
+-- the lists are those of the polygon, all of it and nothing else (rules 2.3 to 2.15 and 2.19)
 pub record Demand2 (p : Polygon) (candidates : List (List ℕ)) (weights : List ℕ) (rows : List (List ℕ)) : Type 0 where
   -- (a, b, c) stands in the list exactly when it is a candidate, and nothing else does (rule 2.4)
   pub listed : (a b c : ℕ) → Candidate p a b c → List·Memᴰ (triple a b c) candidates
