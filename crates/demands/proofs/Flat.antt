@@ -26,20 +26,20 @@ use Rattle.delaunay.specs.Candidates.{vertex, isCandidate, candidatesOf}
 use Rattle.dihedrals.specs.Dihedrals.{rowsOf}
 use Rattle.weights.specs.Weights.{ownWeight, weightsOf}
 use Rattle.reader.specs.File.{Bytes}
-use Rattle.reader.specs.Order.{NoneDue}
+use Rattle.reader.specs.Order.{Place, NoneDue}
 use Rattle.reader.specs.Due.{DueAt}
 use Rattle.triangulation.specs.Triangulations.{Answer, patch, best, bestKey, key, isTriangulation, totalWeight, preorderFrom, countBetween, countOutside}
 use Rattle.triangulation.specs.Jobs.{jobOf}
 use Rattle.triangulation.specs.Demand3.{Triangulates}
 use Rattle.triangulation.proofs.Demand3.{demand3, members, triangle-count}
 use Rattle.triangulator.specs.declared.Outcome.the-variants.{Patch, None}
-use Rattle.triangulator.specs.Call.{settled}
+use Rattle.triangulator.specs.Call.{numberOf, settled}
 use Rattle.pipeline.specs.Patching.{Tables, Patching, jobIn, refused, patchFile}
 use Rattle.pipeline.proofs.Values.{valid-job}
-use Rattle.demands.specs.Demand1.{CallDue, polygonIn}
+use Rattle.demands.specs.Demand1.{CallDue, by-reader, twelve, polygonIn}
 use Rattle.demands.specs.Candidates.{Counts, Face, abc, abd, acd, bcd, Flat, CountsInPlane, Candidate, face, three, Cospherical, Cocircular, Degenerate, on-sphere, on-circle}
 use Rattle.demands.proofs.Candidates.{candidate-true, true-candidate}
-use Rattle.demands.proofs.Demand1.{twelve-first, refused-first, accepted}
+use Rattle.demands.proofs.Demand1.{twelve-first, refused-first, given-first, accepted}
 
 -- ---- which triples are candidates
 module _ (p : Polygon) where
@@ -127,6 +127,14 @@ alone w rows = ap (λ (x : ℕ). patch x (0 ∷ [])) (sum w)
 -- where the reader takes the file: 12 where a three of a flat rim that counts has a fourth vertex on its circle
 pub circle-gets-12 : (limit : ℕ) (file : List ℕ) → Bytes file → (t : Tables) → NoneDue (DueAt limit file) → Cocircular (polygonIn limit file) → patchFile limit file t ≡ refused 12 t
 circle-gets-12 limit file bytes t none r = refused-first limit file bytes t 12 (twelve-first limit file bytes t none (on-circle r))
+
+-- and only there: 12 given on a flat rim is that of such a circle
+due-12 : (limit : ℕ) (file : List ℕ) (t : Tables) (p : Place) → CallDue limit file t p 12 → Degenerate (polygonIn limit file)
+due-12 limit file t _ (twelve d) = d
+due-12 limit file t _ (by-reader d) = elim d [ ]
+
+pub twelve-by-circle : (limit : ℕ) (file : List ℕ) → Bytes file → (t : Tables) → numberOf (patchFile limit file t .outcome) ≡ 12 → Flat (polygonIn limit file) → Cocircular (polygonIn limit file)
+twelve-by-circle limit file bytes t e f = let g = given-first limit file bytes t 11 e in flat-twelve (polygonIn limit file) f (due-12 limit file t (g .place) (g .is-due))
 
 module _ (limit : ℕ) (file : List ℕ) (bytes : Bytes file) (t : Tables) (none-due : NoneDue (CallDue limit file t)) where
   abbrev rim : Polygon
