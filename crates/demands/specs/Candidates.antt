@@ -37,7 +37,7 @@ pub record CountsInPlane (p : Polygon) (a b c : ℕ) : Type 0 where
   pub proper : collinear (vertex p a) (vertex p b) (vertex p c) ≡ false
   pub empty : (v : ℕ) → v < p .n → strictlyInsideCircle (vertex p a) (vertex p b) (vertex p c) (vertex p v) ≡ false
 
--- (x, y, z) is a candidate (rule 2.4)
+-- (x, y, z) is a candidate (rule 2.4): a face of four vertices that count, or three of a flat rim that do
 pub data Candidate (p : Polygon) (x y z : ℕ) : Type 0 where
   face : Face p x y z → Candidate p x y z
   three : CountsInPlane p x y z → Candidate p x y z

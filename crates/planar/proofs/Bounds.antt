@@ -1,9 +1,8 @@
 -- How large the numbers of the circle's test are. Assumes nothing.
 use mathlib.Core.Path.{_≡_}
-use mathlib.Core.List.{List, [], _∷_}
+use mathlib.Core.List.{[], _∷_}
 use mathlib.Core.Bool.{Bool, true, false, cond}
 use Prim.Native.Nat.{ℕ, _*_}
-use native.Mathlib.Omega.{arith}
 use lib.IntN.{ℤ, pos, _-ℤ_, _*ℤ_}
 use lib.Signed.{ltZ}
 use Rattle.grid.specs.declared.GridPoint.{GridPoint}
@@ -18,17 +17,15 @@ use Rattle.geometry.specs.Vectors.{differenceOf, dotOf, opposite}
 use Rattle.geometry.specs.Bounds.{maxDifference, maxSquare, maxNormal, Within}
 use Rattle.geometry.specs.Lifting.{liftOf, turned, noSphere, powerOf}
 use Rattle.geometry.specs.Faces.{normalOf}
-use Rattle.geometry.proofs.Terms.{vec, dotE, oppositeE}
+use Rattle.geometry.proofs.Terms.{vec, dotE}
 use Rattle.geometry.proofs.Vectors.{within-difference, at-most-dot}
 use Rattle.planar.specs.Seen.{vector, axisAcross}
-use Rattle.planar.proofs.Seen.{seen, determinant, determinant-x, determinant-y, determinant-z, powerAlong, computedCircle}
+use Rattle.planar.proofs.Zero.{at-most-zero}
+use Rattle.planar.proofs.Seen.{seen, power-back, determinant, determinant-x, determinant-y, determinant-z, powerAlong, computedCircle}
 
 -- three products of a squared distance and a coordinate of a normal: 288,000,000,000,000
 abbrev pub maxPower : ℕ
 maxPower = 3 * (maxSquare * maxNormal)
-
-nothing : {n : ℕ} → AtMost n (pos 0)
-nothing = record { size = omega arith }
 
 -- a determinant of differences and their squares
 module _ {u v t : Vector} (hu : Within maxDifference u) (hv : Within maxDifference v) (ht : Within maxDifference t) where
@@ -56,14 +53,8 @@ power-none w =
 power-turned : (o : ℤ) (c : Vector) (w : Lifted) → AtMost maxPower (o *ℤ w .square -ℤ dotOf c (w .vector)) → AtMost maxPower (powerOf (turned o c) w)
 power-turned o c w h = go (ltZ o (pos 0))
   where
-    known : List ℤ
-    known = o ∷ w .square ∷ c .x ∷ c .y ∷ c .z ∷ w .vector .x ∷ w .vector .y ∷ w .vector .z ∷ []
-
-    back : (pos 0 -ℤ o) *ℤ w .square -ℤ dotOf (opposite c) (w .vector) ≡ pos 0 -ℤ (o *ℤ w .square -ℤ dotOf c (w .vector))
-    back = ring known ((con (pos 0) :- var 0) :* var 1 :- dotE (oppositeE (vec 2)) (vec 5)) (con (pos 0) :- (var 0 :* var 1 :- dotE (vec 2) (vec 5))) tt
-
     go : (b : Bool) → AtMost maxPower (powerOf (cond b (record { orient = pos 0 -ℤ o; centre = opposite c }) (record { orient = o; centre = c })) w)
-    go true = at-most-as back (at-most-sub {m = 0} nothing h)
+    go true = at-most-as (power-back o (w .square) c (w .vector)) (at-most-sub {m = 0} at-most-zero h)
     go false = h
 
 -- what `sphere::locate` compares with 0, for points of the grid
@@ -77,7 +68,7 @@ power-bound {p} {q} {r} {w} hp hq hr hw = go (equal (dotOf (normalOf p q r) (axi
     v = differenceOf r p
 
     go : (b : Bool) → AtMost maxPower (powerOf (cond b noSphere (turned (dotOf (normalOf p q r) (axisAcross (normalOf p q r))) (seen u v (axisAcross (normalOf p q r)) (differenceOf w p)))) (liftOf p w))
-    go true = at-most-as (power-none (liftOf p w)) nothing
+    go true = at-most-as (power-none (liftOf p w)) at-most-zero
     go false =
         power-turned (dotOf (normalOf p q r) (axisAcross (normalOf p q r))) (seen u v (axisAcross (normalOf p q r)) (differenceOf w p)) (liftOf p w)
         (along-bound (within-difference hq hp) (within-difference hr hp) (within-difference hw hp) (normalOf p q r))

@@ -74,9 +74,6 @@ module _ (p q r s : GridPoint) where
   orient-zero : (a b c d : GridPoint) → coplanar a b c d ≡ true → orientOf a b c d ≡ pos 0
   orient-zero a b c d h = equal-yes (orientOf a b c d) (pos 0) h
 
-  on-plane-last : coplanar p q r s ≡ true → OnPlane p q r s
-  on-plane-last h = on-plane p q r s h
-
   on-plane-third : coplanar p q s r ≡ true → OnPlane p q r s
   unfolding orientOf
   on-plane-third h = ring (ofPoints p q r s) (onPlaneE (vec 9)) (con (pos 0) :- orientAtE (vec 0) (vec 3) (vec 9) (vec 6)) tt ∙ ap (λ (z : ℤ). pos 0 -ℤ z) (orient-zero p q s r h)
@@ -114,7 +111,7 @@ on-plane-among at i j k l first second third last = go (compared l i) (compared 
     go (more a) (same b) c = moved b (on-plane-q (at i) (at j) (at k) (at l))
     go (more a) (more b) (less c) = on-plane-third (at i) (at j) (at k) (at l) (third b c)
     go (more a) (more b) (same c) = moved c (on-plane-r (at i) (at j) (at k) (at l))
-    go (more a) (more b) (more c) = on-plane-last (at i) (at j) (at k) (at l) (last c)
+    go (more a) (more b) (more c) = on-plane (at i) (at j) (at k) (at l) (last c)
 
 -- the plane of three points that are not on one line holds each point that is on it
 plane-of-three : (at : ℕ → GridPoint) (n : ℕ) (p q r : GridPoint) → collinear p q r ≡ false → ((l : ℕ) → l < n → OnPlane p q r (at l)) → InOnePlane at n

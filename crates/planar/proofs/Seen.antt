@@ -2,7 +2,7 @@
 use mathlib.Core.Path.{_≡_, refl, sym, _∙_, ap}
 use mathlib.Core.List.{List, [], _∷_}
 use mathlib.Core.Bool.{Bool, true, false, cond}
-use Prim.Native.Nat.{ℕ, zero, suc, _+_, _*_}
+use Prim.Native.Nat.{ℕ, zero, suc}
 use lib.IntN.{ℤ, pos, negsuc, natAbs, _+ℤ_, _-ℤ_, _*ℤ_, +ℤ-idl, +ℤ-idr, zero-*ℤ}
 use lib.Dec.{lit≤}
 use lib.Signed.{ltZ}
@@ -26,7 +26,7 @@ use Rattle.geometry.proofs.Spheres.{distances-power, by-multiple, pencil-bounds
 use Rattle.geometry.proofs.Faces.{square-size, zero-vector}
 use Rattle.planar.specs.Circles.{collinear, circumcentreOf, distanceInPlane}
 use Rattle.planar.specs.Seen.{positionInPlane, vector, axisAcross, circleOf}
-use Rattle.planar.proofs.Zero.{zero-square}
+use Rattle.planar.proofs.Zero.{at-most-zero, zero-square}
 use Rattle.planar.proofs.Circles.{centre, normalE, centreE}
 
 -- ---- as seen along an axis
@@ -95,16 +95,18 @@ place-multiple k z = λ i. cond (less-multiple k z i) Inside (cond (equal-multip
 place-same : (m n : ℕ) (y z : ℤ) → pos (suc m) *ℤ y ≡ pos (suc n) *ℤ z → place y ≡ place z
 place-same m n y z e = sym (place-multiple m y) ∙ ap place e ∙ place-multiple n z
 
--- the sign changed: of a power, and of a product
-module _ (o l : ℤ) (c t : Vector) where
-  power-opposite : (s y : ℤ) → s *ℤ (o *ℤ l -ℤ dotOf c t) ≡ o *ℤ y → s *ℤ ((pos 0 -ℤ o) *ℤ l -ℤ dotOf (opposite c) t) ≡ (pos 0 -ℤ o) *ℤ y
-  power-opposite s y e =
-      ring known (var 8 :* ((con (pos 0) :- var 0) :* var 1 :- dotE (oppositeE (vec 2)) (vec 5))) (con (pos 0) :- var 8 :* (var 0 :* var 1 :- dotE (vec 2) (vec 5))) tt
-      ∙ ap (λ (z : ℤ). pos 0 -ℤ z) e
-      ∙ ring known (con (pos 0) :- var 0 :* var 9) ((con (pos 0) :- var 0) :* var 9) tt
-    where
-      known : List ℤ
-      known = o ∷ l ∷ c .x ∷ c .y ∷ c .z ∷ t .x ∷ t .y ∷ t .z ∷ s ∷ y ∷ []
+-- the power with all signs changed
+pub power-back : (o l : ℤ) (c t : Vector) → (pos 0 -ℤ o) *ℤ l -ℤ dotOf (opposite c) t ≡ pos 0 -ℤ (o *ℤ l -ℤ dotOf c t)
+power-back o l c t =
+    ring (o ∷ l ∷ c .x ∷ c .y ∷ c .z ∷ t .x ∷ t .y ∷ t .z ∷ [])
+    ((con (pos 0) :- var 0) :* var 1 :- dotE (oppositeE (vec 2)) (vec 5)) (con (pos 0) :- (var 0 :* var 1 :- dotE (vec 2) (vec 5))) tt
+
+-- and so of two equal products
+opposite-products : (s x o y : ℤ) → s *ℤ x ≡ o *ℤ y → s *ℤ (pos 0 -ℤ x) ≡ (pos 0 -ℤ o) *ℤ y
+opposite-products s x o y e =
+    ring (s ∷ x ∷ []) (var 0 :* (con (pos 0) :- var 1)) (con (pos 0) :- var 0 :* var 1) tt
+    ∙ ap (λ (z : ℤ). pos 0 -ℤ z) e
+    ∙ ring (o ∷ y ∷ []) (con (pos 0) :- var 0 :* var 1) ((con (pos 0) :- var 0) :* var 1) tt
 
 -- what the code makes of an orientation o, a centre c and a point, where s · power = o · y
 place-turned : (n : ℕ) (o : ℤ) (c : Vector) (w : Lifted) (y : ℤ) → (o ≡ pos 0 → ⊥) → pos (suc n) *ℤ (o *ℤ w .square -ℤ dotOf c (w .vector)) ≡ o *ℤ y →
@@ -114,7 +116,7 @@ place-turned n (pos (suc m)) c w y h e =
     ap (λ (t : Bool). positionBy (cond t (record { orient = pos 0 -ℤ pos (suc m); centre = opposite c }) (record { orient = pos (suc m); centre = c })) w) (not-below (suc m))
     ∙ place-same n m (pos (suc m) *ℤ w .square -ℤ dotOf c (w .vector)) y e
 place-turned n (negsuc m) c w y h e =
-    place-same n m ((pos 0 -ℤ negsuc m) *ℤ w .square -ℤ dotOf (opposite c) (w .vector)) y (power-opposite (negsuc m) (w .square) c (w .vector) (pos (suc n)) y e ∙ ap (λ (z : ℤ). z *ℤ y) (+ℤ-idl (pos (suc m))))
+    place-same n m ((pos 0 -ℤ negsuc m) *ℤ w .square -ℤ dotOf (opposite c) (w .vector)) y (ap (λ (z : ℤ). pos (suc n) *ℤ z) (power-back (negsuc m) (w .square) c (w .vector)) ∙ opposite-products (pos (suc n)) (negsuc m *ℤ w .square -ℤ dotOf c (w .vector)) (negsuc m) y e ∙ ap (λ (z : ℤ). z *ℤ y) (+ℤ-idl (pos (suc m))))
 
 -- ---- the axis
 
@@ -155,16 +157,13 @@ module _ (n : Vector) where
 pub axis-bounds : (n : Vector) → LiftedBounds (record { vector = axisAcross n; square = pos 0 })
 axis-bounds n = record { vector-in = go (equal (n .x) (pos 0)) (equal (n .y) (pos 0)); square-in = record { size = lit≤ tt } }
   where
-    zero-in : AtMost maxDifference (pos 0)
-    zero-in = record { size = lit≤ tt }
-
     one-in : AtMost maxDifference (pos 1)
     one-in = record { size = lit≤ tt }
 
     go : (bx by : Bool) → Within maxDifference (cond bx (cond by (vector (pos 0) (pos 0) (pos 1)) (vector (pos 0) (pos 1) (pos 0))) (vector (pos 1) (pos 0) (pos 0)))
-    go true true = record { in-x = zero-in; in-y = zero-in; in-z = one-in }
-    go true false = record { in-x = zero-in; in-y = one-in; in-z = zero-in }
-    go false by = record { in-x = one-in; in-y = zero-in; in-z = zero-in }
+    go true true = record { in-x = at-most-zero; in-y = at-most-zero; in-z = one-in }
+    go true false = record { in-x = at-most-zero; in-y = one-in; in-z = at-most-zero }
+    go false by = record { in-x = one-in; in-y = at-most-zero; in-z = at-most-zero }
 
 pub circle-bounds : {u v : Lifted} → LiftedBounds u → LiftedBounds v → SphereBounds (circleOf u v)
 circle-bounds {u} {v} h k = sphere-bounds (pencil-bounds h k) (axis-bounds (crossOf (u .vector) (v .vector)))

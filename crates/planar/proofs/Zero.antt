@@ -1,13 +1,19 @@
 -- Numbers and vectors that are 0. Assumes nothing.
 use mathlib.Core.Path.{_≡_, refl, sym, _∙_, ap}
-use Prim.Native.Nat.{zero, suc, _+_, _*_}
+use Prim.Native.Nat.{ℕ, zero, suc}
+use native.Mathlib.Omega.{arith}
 use lib.IntN.{ℤ, pos, negsuc, negℤ, _+ℤ_, _*ℤ_, negℤ-negℤ}
 use Rattle.geometry.specs.declared.Vector.{Vector}
+use Rattle.integers.specs.Bounds.{AtMost}
 use Rattle.integers.proofs.Laws.{neg-mul}
 use Rattle.integers.proofs.Order.{equal-is, equal-yes, equal-multiple}
 use Rattle.geometry.specs.Vectors.{squareOf}
 use Rattle.geometry.proofs.Faces.{zero-vector}
 use Rattle.planar.specs.Planes.{zeroVector}
+
+-- 0 is within every bound
+pub at-most-zero : {n : ℕ} → AtMost n (pos 0)
+at-most-zero = record { size = omega arith }
 
 -- a product that is 0, with a factor that is not
 pub no-divisor : (a b : ℤ) → (a ≡ pos 0 → ⊥) → a *ℤ b ≡ pos 0 → b ≡ pos 0
