@@ -57,11 +57,6 @@ module _ (u v : Vector) where
   power-v = ring values (powerE (vec 3)) (con (pos 0)) tt
 
 module _ (p q r : GridPoint) where
-  -- the centre lies in the plane of the three points
-  pub centre-in-plane : dotOf (normalOf p q r) (circumcentreOf p q r) ≡ pos 0
-  unfolding circumcentreOf
-  centre-in-plane = centre-on-plane (differenceOf q p) (differenceOf r p)
-
   at-corner : (w : GridPoint) → squareOf (normalOf p q r) *ℤ squareOf (differenceOf w p) -ℤ dotOf (circumcentreOf p q r) (differenceOf w p) ≡ pos 0 → distanceInPlane p q r w ≡ distanceInPlane p q r p
   unfolding distanceInPlane
   at-corner w h =
@@ -85,6 +80,11 @@ module _ (p q r : GridPoint) where
 
   pub corner-r : onCircle p q r r ≡ true
   corner-r = equal-is distance-r
+
+  -- the centre lies in the plane of the three points
+  pub centre-in-plane : dotOf (normalOf p q r) (circumcentreOf p q r) ≡ pos 0
+  unfolding circumcentreOf
+  centre-in-plane = centre-on-plane (differenceOf q p) (differenceOf r p)
 
 -- ---- there is no other centre
 
