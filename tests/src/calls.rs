@@ -30,6 +30,13 @@ pub struct FindAnswer {
     pub rows: usize,
 }
 
+/// Rule 5.10: accepted where the number is 0, with the excess over the least total.
+#[derive(Clone, Copy, Debug, PartialEq, Eq)]
+pub struct JudgeAnswer {
+    pub number: u32,
+    pub excess: u64,
+}
+
 /// The edition of the converted file and its bytes.
 #[derive(Clone, Copy, Debug, PartialEq, Eq)]
 pub struct ConvertAnswer {
@@ -43,6 +50,12 @@ impl PatchAnswer {
 
     pub fn refused(number: u32) -> PatchAnswer {
         PatchAnswer { number, ..PatchAnswer::NONE }
+    }
+}
+
+impl JudgeAnswer {
+    pub fn refused(number: u32) -> JudgeAnswer {
+        JudgeAnswer { number, excess: 0 }
     }
 }
 
@@ -193,6 +206,11 @@ impl Tables {
         }
     }
 
+    /// The tables of a direct job and of a patch to judge, whose list is the whole triangle table.
+    pub fn of_patch(job: &Job, list: &[u16], work: usize) -> Tables {
+        Tables { triangles: Lent::holding(list), ..Tables::of_job(job, 0, work) }
+    }
+
     /// The tables after a rim that has these lists and this patch (rules 3.8 and 3.9).
     pub fn after(mut self, lists: &Job, walk: &[u16]) -> Tables {
         self.triangles.fill(walk);
@@ -225,6 +243,14 @@ pub struct Job {
     pub rows: Vec<Row>,
 }
 
+/// A patch of a direct job, made by another program: candidate numbers in any order, and the total
+/// stated for them. Both may be wrong.
+#[derive(Clone, Debug, PartialEq, Eq)]
+pub struct Patch {
+    pub list: Vec<u16>,
+    pub stated: u64,
+}
+
 /// What the library does, and each reference too.
 pub trait Calls {
     fn name(&self) -> String;
@@ -237,6 +263,10 @@ pub trait Calls {
 
     /// A direct job, which stands in the candidate, weight and row tables.
     fn patch_job(&self, n: usize, tables: &mut Tables) -> PatchAnswer;
+
+    /// The judge of a patch from elsewhere: a direct job, the list in the triangle table, which is
+    /// only read, and the stated total.
+    fn judge(&self, n: usize, stated: u64, tables: &mut Tables) -> JudgeAnswer;
 
     /// The reader alone.
     fn read_rim(&self, file: &[u8]) -> ReadAnswer;

@@ -7,7 +7,8 @@ use crate::law::BY_SETS;
 #[cfg(feature = "library")]
 mod linked {
     use crate::calls::{
-        Calls, ConvertAnswer, FindAnswer, Lent, PatchAnswer, Places, ReadAnswer, Tables,
+        Calls, ConvertAnswer, FindAnswer, JudgeAnswer, Lent, PatchAnswer, Places, ReadAnswer,
+        Tables,
     };
     use patch_box::{Number, Outcome};
 
@@ -56,6 +57,22 @@ mod linked {
                 tables.triangles.table(),
                 tables.work.table(),
             ))
+        }
+
+        fn judge(&self, n: usize, stated: u64, tables: &mut Tables) -> JudgeAnswer {
+            let judged = patch_box::judge(
+                n,
+                tables.candidates.view(),
+                tables.weights.view(),
+                tables.rows.view(),
+                tables.triangles.view(),
+                stated,
+                tables.work.table(),
+            );
+            match judged {
+                Err(number) => JudgeAnswer::refused(number.code()),
+                Ok(excess) => JudgeAnswer { number: 0, excess },
+            }
         }
 
         fn read_rim(&self, file: &[u8]) -> ReadAnswer {

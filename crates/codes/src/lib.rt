@@ -1,4 +1,4 @@
-// The numbers of rules 4.1 to 4.20, by who causes them.
+// The numbers of rules 4.1 to 4.22, by who causes them.
 
 // The writer of the file.
 pub const LENGTH: u32 = 1;
@@ -44,3 +44,8 @@ pub const WEIGHT: u32 = 17;
 
 // The writer of a file to convert.
 pub const NORMAL_LOST: u32 = 19;
+
+// The maker of a patch to judge.
+pub const NOT_A_TRIANGULATION: u32 = 21;
+
+pub const WRONG_TOTAL: u32 = 22;

@@ -11,12 +11,16 @@ use Rattle.finder.specs.Finding.{Finding, finding, findCall, candidateCountOf, 
 use Rattle.finder.specs.Finding as finder
 use Rattle.triangulator.specs.declared.Outcome.{Outcome}
 use Rattle.triangulator.specs.Call.{Result, numberOf, trianglesOf, totalOf}
+use Rattle.judge.specs.declared.Judgement.{Judgement}
+use Rattle.judge.specs.Call.{excessOf}
+use Rattle.judge.specs.Call as judge
 use Rattle.pipeline.specs.Patching.{Tables, Patching}
 use Rattle.converter.specs.declared.Conversion.{Conversion}
 use Rattle.converter.specs.Call.{Converting, editionOf, lengthOf}
 use Rattle.converter.specs.Call as converter
 use Rattle.exports.specs.declared.ConvertAnswer.{ConvertAnswer}
 use Rattle.exports.specs.declared.PatchAnswer.{PatchAnswer}
+use Rattle.exports.specs.declared.JudgeAnswer.{JudgeAnswer}
 use Rattle.exports.specs.declared.ReadAnswer.{ReadAnswer}
 use Rattle.finder.specs.declared.Sizes.{Sizes}
 use Rattle.finder.specs.Sizes.{placesIn}
@@ -50,6 +54,20 @@ jobPatch answer triangles work = record { answer = answer; triangles = triangles
 
 abbrev pub jobPatchOf : Result → JobPatch
 jobPatchOf r = jobPatch (patchAnswerOf (r .outcome)) (r .triangles) (r .work)
+
+-- the number and the excess of a judgement (rule 5.10), with the work table after it
+abbrev pub judgeAnswerOf : Judgement → JudgeAnswer
+judgeAnswerOf j = record { number = judge.numberOf j; excess = excessOf j }
+
+pub record JobJudgement : Type 0 where
+  pub answer : JudgeAnswer
+  pub work : List ℕ
+
+abbrev pub jobJudgement : JudgeAnswer → List ℕ → JobJudgement
+jobJudgement answer work = record { answer = answer; work = work }
+
+abbrev pub jobJudgementOf : judge.Result → JobJudgement
+jobJudgementOf r = jobJudgement (judgeAnswerOf (r .judgement)) (r .work)
 
 -- the reader's number, and how many vertices: 0 in a refusal, whose polygon is the empty one (rule 5.6)
 abbrev pub readAnswerOf : Reading → ReadAnswer

@@ -4,6 +4,7 @@
 use converter::Conversion;
 use finder::Found;
 use finder::Sizes;
+use judge::Judgement;
 use reader::Status;
 use triangulator::Outcome;
 ghost use mathlib.Core.Path.{_≡_};
@@ -12,9 +13,10 @@ ghost use Rattle.reader.specs.Reading.{readingOf};
 ghost use Rattle.converter.specs.Call.{convertCall};
 ghost use Rattle.finder.specs.Finding.{finding};
 ghost use Rattle.triangulator.specs.Call.{triangulated};
+ghost use Rattle.judge.specs.Call.{judged};
 ghost use Rattle.pipeline.specs.Patching.{tables, patchFile};
 ghost use Rattle.pipeline.specs.Sizes.{sizesFile};
-ghost use Rattle.exports.specs.Answers.{patchAnswerOf, rimPatch, rimPatchOf, jobPatch, jobPatchOf, readAnswerOf, findFile, rimLists, rimListsOf, sizesAnswerOf, convertAnswerOf, fileConversion, fileConversionOf};
+ghost use Rattle.exports.specs.Answers.{patchAnswerOf, rimPatch, rimPatchOf, jobPatch, jobPatchOf, judgeAnswerOf, jobJudgement, jobJudgementOf, readAnswerOf, findFile, rimLists, rimListsOf, sizesAnswerOf, convertAnswerOf, fileConversion, fileConversionOf};
 
 // A patch where the number is 0 and there are triangles, 'none' where both are 0.
 #[repr(C)]
@@ -22,6 +24,13 @@ pub struct PatchAnswer {
     pub number: u32,
     pub triangles: usize,
     pub total: u64,
+}
+
+// Accepted where the number is 0.
+#[repr(C)]
+pub struct JudgeAnswer {
+    pub number: u32,
+    pub excess: u64,
 }
 
 #[repr(C)]
@@ -122,6 +131,31 @@ pub extern "C" fn patch_box_job(
 {
     let outcome = triangulator::triangulate(n, candidates, weights, rows, triangles, work);
     patch_answer(outcome)
+}
+
+fn judge_answer(judgement: Judgement) -> JudgeAnswer
+    ensures { λ r. ⌜ r ≡ judgeAnswerOf judgement ⌝ }
+{
+    let number = judgement.number();
+    let excess = judgement.excess();
+    JudgeAnswer { number, excess }
+}
+
+// The judge of a patch from elsewhere, as a list of candidates of a direct job.
+#[no_mangle]
+pub extern "C" fn patch_box_judge(
+    n: usize,
+    candidates: &[[u8; 3]],
+    weights: &[u32],
+    rows: &[[u32; 3]],
+    list: &[u16],
+    stated: u64,
+    work: &mut [u64],
+) -> JudgeAnswer
+    ensures { λ r. ⌜ jobJudgement r (now (work .exit)) ≡ jobJudgementOf (judged n (now (candidates .entry)) (now (weights .entry)) (now (rows .entry)) (now (list .entry)) stated (now (work .entry))) ⌝ }
+{
+    let judgement = judge::judge(n, candidates, weights, rows, list, stated, work);
+    judge_answer(judgement)
 }
 
 // The reader alone.

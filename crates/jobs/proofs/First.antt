@@ -3,13 +3,14 @@ use mathlib.Core.Path.{_≡_, refl, sym, ap, _∙_}
 use mathlib.Core.Bool.{Bool, true, false, cond}
 use mathlib.Core.List.{List, [], _∷_, List·Memᴰ, List·Memᴰ·head, List·Memᴰ·tail, List·Memᴰ·not-nil, List·Memᴰ·cases-cons}
 use mathlib.Core.Logic.{⊎-elim}
-use Prim.Native.Nat.{ℕ, suc, _<_}
+use Prim.Native.Nat.{ℕ, suc, _-_, _<_, _≤_}
 use native.Mathlib.Omega.{arith}
 use lib.Dec.{eqb}
-use borrow.Author.Tests.{eqb-true, eqb-false, eq-eqb}
+use borrow.Author.Tests.{eqb-true, eqb-false, eq-eqb, le-leb}
 use Rattle.lists.specs.Lists.{both}
 use Rattle.lists.proofs.Choice.{Truth, truth, holds, fails, yes, no, true-not-false}
-use Rattle.jobs.specs.Job.{unless}
+use Rattle.terms.specs.Limits.{countFits}
+use Rattle.jobs.specs.Job.{unless, jobCode}
 use Rattle.jobs.specs.Due.{upTo}
 
 -- no number: the test holds, and so do all after it
@@ -26,6 +27,13 @@ unless-fails false number h = refl
 pub unless-both : (s t : Bool) (number next : ℕ) → unless s number (unless t number next) ≡ unless (both s t) number next
 unless-both true t number next = refl
 unless-both false t number next = refl
+
+-- of a triangle table that is long enough the length does not matter
+pub long-enough : (n : ℕ) (candidates : List (List ℕ)) (weights : List ℕ) (rows : List (List ℕ)) (trianglePlaces workPlaces : ℕ) → n - 2 ≤ trianglePlaces
+    → jobCode n candidates weights rows trianglePlaces workPlaces ≡ jobCode n candidates weights rows (n - 2) workPlaces
+unfolding jobCode
+long-enough n candidates weights rows trianglePlaces workPlaces h =
+    ap (unless (countFits n) 14) (yes _ _ (le-leb (n - 2) trianglePlaces h) ∙ sym (yes _ _ (le-leb (n - 2) (n - 2) (omega arith))))
 
 -- what stands before a number in a list stands in the list
 pub up-listed : (k : ℕ) (ks : List ℕ) (j : ℕ) → List·Memᴰ j (upTo k ks) → List·Memᴰ j ks

@@ -97,3 +97,7 @@ jobCode n candidates weights rows trianglePlaces workPlaces =
     (unless (enough (n - 2) trianglePlaces) 13
     (unless (enough (length candidates) workPlaces) 13
     (listsCode n candidates weights rows)))
+
+-- the number where no triangle table is lent: as beside one that has its n - 2 places (rule 4.36)
+abbrev pub codeWithoutTriangles : ℕ → List (List ℕ) → List ℕ → List (List ℕ) → ℕ → ℕ
+codeWithoutTriangles n candidates weights rows workPlaces = jobCode n candidates weights rows (n - 2) workPlaces

@@ -1,10 +1,10 @@
 // The tests of a direct job: 14, 13, 15, 16, 17, each over the whole job before the next (rule 4.32).
 mod candidates;
-mod rows;
+pub mod rows;
 mod weights;
 
 ghost use mathlib.Core.Path.{_≡_};
-ghost use Rattle.jobs.specs.Job.{countCode, listsCode, jobCode};
+ghost use Rattle.jobs.specs.Job.{countCode, listsCode, jobCode, codeWithoutTriangles};
 
 // 14, or 0 where it is not due.
 pub fn count_code(n: usize) -> u32
@@ -61,4 +61,18 @@ pub fn job_code(
         return codes::TABLE_TOO_SHORT;
     }
     lists_code(n, candidates, weights, rows)
+}
+
+// The same for a call that is lent no triangle table.
+pub fn code_without_triangles(
+    n: usize,
+    candidates: &[[u8; 3]],
+    weights: &[u32],
+    rows: &[[u32; 3]],
+    work_places: usize,
+) -> u32
+    ensures { λ r. ⌜ r ≡ codeWithoutTriangles n (now (candidates .entry)) (now (weights .entry)) (now (rows .entry)) «work_places» ⌝ }
+{
+    // n places are enough for every triangle table.
+    job_code(n, candidates, weights, rows, n, work_places)
 }

@@ -14,7 +14,7 @@ fn same_edge(i: u8, j: u8, k: u8, l: u8) -> bool
 }
 
 // Candidate t hangs on candidate u: t's edge (a, c) is u's (a, b) or (b, c).
-fn hangs_on(t: [u8; 3], u: [u8; 3]) -> bool
+pub fn hangs_on(t: [u8; 3], u: [u8; 3]) -> bool
     ensures { λ r. ⌜ r ≡ hangs t u ⌝ }
 {
     if same_edge(t[0], t[2], u[0], u[1]) {

@@ -20,13 +20,13 @@ module _ (n : ℕ) (candidates : List (List ℕ)) (weights : List ℕ) (rows : L
   pub answer-whole : bestKey jobHere ≡ bestUnder jobHere n (length candidates) 0 (n - 1)
   answer-whole = best-edge jobHere (ok .valid) (length candidates) (ok .no-row) n (omega arith)
 
-  pub answer-none : noTotal ≤ costOf (bestUnder jobHere n (length candidates) 0 (n - 1)) → bestKey jobHere ≡ []
-  answer-none h = answer-whole ∙ ⊎-elim (λ e. e) (λ q. absurd (omega arith)) (edge-light jobHere (ok .valid) (ok .bounded) (length candidates) 0 (n - 1) (omega (arith, ok .valid .n3)) (omega (arith, ok .valid .n3)))
-
   -- a total is far below 2^63
   pub answer-light : (bestKey jobHere ≡ []) ⊎ (costOf (bestKey jobHere) < noTotal)
   answer-light = ⊎-elim (λ e. inl (answer-whole ∙ e)) (λ (q : costOf (bestUnder jobHere n (length candidates) 0 (n - 1)) ≤ maxTotal). inr (omega (arith, ap costOf answer-whole)))
       (edge-light jobHere (ok .valid) (ok .bounded) (length candidates) 0 (n - 1) (omega (arith, ok .valid .n3)) (omega (arith, ok .valid .n3)))
+
+  pub no-key : noTotal ≤ costOf (bestKey jobHere) → bestKey jobHere ≡ []
+  no-key h = ⊎-elim (λ e. e) (λ (q : costOf (bestKey jobHere) < noTotal). absurd (omega arith)) answer-light
 
 pub cleared : (job : Job) {before work new : List ℕ} → Filled job before 0 work → new ≡ filled (replicate (job .size) 0) work → new ≡ filled (replicate (job .size) 0) before
 cleared job {before} {work} f e =

@@ -1,5 +1,3 @@
-pub mod Bools
-pub mod RowSearch
 pub mod Picks
 pub mod Edges
 pub mod Runs

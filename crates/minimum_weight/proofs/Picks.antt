@@ -18,7 +18,7 @@ use Rattle.terms.specs.Limits.{maxVertices}
 use Rattle.terms.specs.Entries.{entryAt, vertexA, vertexC}
 use Rattle.minimum_weight.specs.Tables.{betterOf, pickBelow, onEdge}
 use Rattle.triangulation.proofs.SetParts.{and-right}
-use Rattle.minimum_weight.proofs.Bools.{and-yes, and-no, and-last}
+use Rattle.lists.proofs.Bools.{and-yes, and-no, and-last}
 
 module _ (p : Pick) (u : ℕ) where
   -- the pick of candidate u

@@ -2,13 +2,14 @@
 use Prim.Native.Nat.{ℕ, zero, suc, _+_, _-_, _≤_, _<_}
 use mathlib.Core.Path.{_≡_}
 use mathlib.Core.Logic.{_≢_, _⊎_}
-use mathlib.Core.Bool.{Bool, true, false, cond, _&&_, _||_}
+use mathlib.Core.Bool.{Bool, cond, _&&_}
 use mathlib.Core.List.{List}
 use lib.ListN.{getD, length, drop}
 use lib.Dec.{eqb, ltb, leb}
 use Rattle.minimum_weight.specs.declared.choice.Pick.{Pick}
 use Rattle.terms.specs.Limits.{maxTriples}
-use Rattle.terms.specs.Entries.{entryAt, vertexA, vertexB, vertexC, outer, inner, rowWeight}
+use Rattle.terms.specs.Entries.{entryAt, vertexA, vertexB, vertexC}
+use Rattle.rows.specs.Search.{RowsAscend}
 use Rattle.blocks.specs.Blocks.{ByFirst}
 use Rattle.triangulation.specs.Triangulations.{Job, Valid}
 use Rattle.triangulation.specs.Jobs.{Bounded, pairWeight, jobOf}
@@ -18,30 +19,6 @@ use Rattle.triangulation.specs.Recursion.{addRow, bestUnder, bestFrom, costOf, 
 pub record Ascending (candidates : List (List ℕ)) : Type 0 where
   pub by-first : ByFirst candidates
   pub b-up : (k l : ℕ) → k < l → l < length candidates → vertexA (entryAt candidates k) ≡ vertexA (entryAt candidates l) → vertexB (entryAt candidates k) ≤ vertexB (entryAt candidates l)
-
--- a row is before (o, i)
-abbrev pub rowIsBefore : List ℕ → ℕ → ℕ → Bool
-rowIsBefore r o i = ltb (outer r) o || eqb (outer r) o && ltb (inner r) i
-
--- a row's weight where it is the row (o, i), else 0
-abbrev pub rowOrZero : List ℕ → ℕ → ℕ → ℕ
-rowOrZero r o i = cond (eqb (outer r) o && eqb (inner r) i) (rowWeight r) 0
-
--- rows ascend by outer, then inner
-pub record RowsAscend (rows : List (List ℕ)) : Type 0 where
-  pub up : (k l : ℕ) → k < l → l < length rows → rowIsBefore (entryAt rows k) (outer (entryAt rows l)) (inner (entryAt rows l)) ≡ true
-
--- the rows before `low` are before (o, i), those from `high` on are not
-pub record Cut (rows : List (List ℕ)) (o i low high : ℕ) : Type 0 where
-  pub order : low ≤ high
-  pub within : high ≤ length rows
-  pub left : (k : ℕ) → k < low → rowIsBefore (entryAt rows k) o i ≡ true
-  pub right : (k : ℕ) → high ≤ k → k < length rows → rowIsBefore (entryAt rows k) o i ≡ false
-
--- `run` has the rows of outer t
-pub record Run (rows : List (List ℕ)) (t : ℕ) (run : List (List ℕ)) : Type 0 where
-  pub ascends : RowsAscend run
-  pub same : (u : ℕ) → pairWeight run t u ≡ pairWeight rows t u
 
 -- p, or candidate u where it is on the edge and its total with the row's weight is lower: d is its own total, w the row's weight
 unfoldable pub betterOf : Pick → ℕ → Bool → ℕ → ℕ → Pick

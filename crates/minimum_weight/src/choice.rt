@@ -1,6 +1,5 @@
 // The best candidate beneath an edge.
 use crate::NONE;
-use crate::rows::row_weight;
 ghost use mathlib.Core.Path.{_≡_};
 ghost use Prim.Native.Nat.{_<_, _≤_};
 ghost use lib.ListN.{length, getD};
@@ -10,7 +9,8 @@ ghost use Rattle.blocks.specs.Blocks.{Starts};
 ghost use Rattle.terms.specs.Limits.{maxVertices};
 ghost use Rattle.terms.specs.Entries.{entryAt, vertexC};
 ghost use Rattle.triangulation.specs.Recursion.{noTotal};
-ghost use Rattle.minimum_weight.specs.Tables.{RowsAscend, betterOf, pickUnder, pickAtEdge};
+ghost use Rattle.rows.specs.Search.{RowsAscend};
+ghost use Rattle.minimum_weight.specs.Tables.{betterOf, pickUnder, pickAtEdge};
 
 // A total and the candidate that starts it.
 pub struct Pick {
@@ -40,7 +40,7 @@ fn better(
     if p.cost <= d {
         return p;
     }
-    let row = row_weight(rows, t, u) as u64;
+    let row = rows::row_weight(rows, t, u) as u64;
     let cost = d + row;
     if cost < p.cost {
         return Pick { cost, at: u };

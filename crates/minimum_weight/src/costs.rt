@@ -3,8 +3,6 @@
 // which stands before it in its block, or (b, x, c), which stands in a later block.
 use crate::NONE;
 use crate::choice::best_under;
-use crate::rows::lower_bound;
-use crate::rows::run_end;
 ghost use mathlib.Core.Path.{_≡_};
 ghost use Prim.Native.Nat.{_+_, _<_, _≤_};
 ghost use lib.ListN.{length, getD};
@@ -13,7 +11,8 @@ ghost use Rattle.triangulation.specs.Recursion.{costOf, bestFrom};
 ghost use Rattle.blocks.specs.Blocks.{Starts};
 ghost use Rattle.terms.specs.Limits.{maxVertices};
 ghost use Rattle.terms.specs.Entries.{entryAt, vertexA, vertexB, vertexC};
-ghost use Rattle.minimum_weight.specs.Tables.{WellFormed, Cost, Run, joinCost, ReadyAt, Filled};
+ghost use Rattle.rows.specs.Search.{Run};
+ghost use Rattle.minimum_weight.specs.Tables.{WellFormed, Cost, joinCost, ReadyAt, Filled};
 
 // The total of a triangle of weight w over parts of totals left and right.
 fn join_cost(w: u32, left: u64, right: u64) -> u64
@@ -69,9 +68,9 @@ fn fill_block(
 {
     let end = starts[v + 1];
     let mut t = starts[v];
-    let mut first = lower_bound(rows, t, 0);
+    let mut first = rows::lower_bound(rows, t, 0);
     while t < end {
-        let last = run_end(rows, first, t);
+        let last = rows::run_end(rows, first, t);
         let run = &rows[first..last];
         let cost = cost_of(n, starts, candidates, weights, rows, run, work, t);
         work[t] = cost;

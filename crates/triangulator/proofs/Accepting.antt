@@ -17,8 +17,9 @@ use Rattle.jobs.specs.Job.{jobCode}
 use Rattle.jobs.proofs.Order.{Before, by-a, by-b, by-c, RowBefore, by-outer, by-inner}
 use Rattle.jobs.proofs.Count.{candidates-bounded}
 use Rattle.jobs.proofs.Acceptance.{ListsAccepted, fitting}
-use Rattle.minimum_weight.specs.Tables.{WellFormed, rowIsBefore}
-use Rattle.minimum_weight.proofs.RowSearch.{is-before, names-false, none}
+use Rattle.rows.specs.Search.{rowIsBefore}
+use Rattle.minimum_weight.specs.Tables.{WellFormed}
+use Rattle.rows.proofs.Bisection.{is-before, names-false, none}
 
 row-le : (rows : List (List ℕ)) (b o i : ℕ) → ((k : ℕ) → k < length rows → rowWeight (entryAt rows k) ≤ b) → pairWeight rows o i ≤ b
 row-le [] b o i h = omega arith

@@ -5,13 +5,15 @@
 pub mod conversion;
 pub mod finder;
 pub mod grid;
+pub mod judge;
 pub mod program;
 pub mod reader;
 pub mod tests_of_jobs;
 pub mod tilings;
 
 use crate::calls::{
-    Calls, ConvertAnswer, FindAnswer, Job, Lent, PatchAnswer, Places, ReadAnswer, Tables,
+    Calls, ConvertAnswer, FindAnswer, Job, JudgeAnswer, Lent, Patch, PatchAnswer, Places,
+    ReadAnswer, Tables,
 };
 use crate::interval;
 use conversion::Converted;
@@ -67,6 +69,16 @@ fn write_patch(best: Option<Tiling>, candidates: usize, tables: &mut Tables) -> 
     }
 }
 
+/// The direct job that stands in the tables.
+pub fn job_in(n: usize, tables: &Tables) -> Job {
+    Job {
+        n,
+        candidates: tables.candidates.view().to_vec(),
+        weights: tables.weights.view().to_vec(),
+        rows: tables.rows.view().to_vec(),
+    }
+}
+
 impl Calls for Law {
     fn name(&self) -> String {
         format!("{} within {}", self.name, self.limit)
@@ -95,17 +107,23 @@ impl Calls for Law {
     }
 
     fn patch_job(&self, n: usize, tables: &mut Tables) -> PatchAnswer {
-        let job = Job {
-            n,
-            candidates: tables.candidates.view().to_vec(),
-            weights: tables.weights.view().to_vec(),
-            rows: tables.rows.view().to_vec(),
-        };
+        let job = job_in(n, tables);
         let places = (tables.triangles.view().len(), tables.work.view().len());
         if let Some(number) = tests_of_jobs::number_due(&job, places.0, places.1) {
             return PatchAnswer::refused(number);
         }
         write_patch((self.best)(&job), job.candidates.len(), tables)
+    }
+
+    fn judge(&self, n: usize, stated: u64, tables: &mut Tables) -> JudgeAnswer {
+        let job = job_in(n, tables);
+        let patch = Patch { list: tables.triangles.view().to_vec(), stated };
+        let number = judge::number_of_job(&job, tables.work.view().len());
+        if let Some(number) = number.or_else(|| judge::number_of_patch(&job, &patch)) {
+            return JudgeAnswer::refused(number);
+        }
+        tables.work.table()[..job.candidates.len()].fill(0);
+        JudgeAnswer { number: 0, excess: judge::excess(self.best, &job, stated) }
     }
 
     fn read_rim(&self, file: &[u8]) -> ReadAnswer {

@@ -131,6 +131,11 @@ fn grow(
     }
 }
 
+/// The weights of the rows, by outer and inner.
+pub fn row_weights(job: &Job) -> HashMap<[u32; 2], u32> {
+    job.rows.iter().map(|&[outer, inner, weight]| ([outer, inner], weight)).collect()
+}
+
 /// Rule 3.4.
 pub fn total(job: &Job, rows: &HashMap<[u32; 2], u32>, set: &[usize]) -> u64 {
     let own: u64 = set.iter().map(|&k| job.weights[k] as u64).sum();
@@ -169,7 +174,7 @@ pub fn best(job: &Job) -> Option<Tiling> {
         ..=ALL_SETS => from_all_sets(job.n, &job.candidates),
         _ => from_bad_edges(job.n, &job.candidates),
     };
-    let rows = job.rows.iter().map(|&[outer, inner, weight]| ([outer, inner], weight)).collect();
+    let rows = row_weights(job);
     let tiling = |set: &Vec<usize>| Tiling {
         total: total(job, &rows, set),
         walk: walk(&job.candidates, set, 0, (job.n - 1) as u8),

@@ -4,9 +4,9 @@ use native.Mathlib.Omega.{arith}
 use borrow.Author.Needs.{needs}
 use lib.ListN.{length, getD}
 use Rattle.triangulation.specs.Jobs.{jobOf}
-use Rattle.minimum_weight.specs.Tables.{Cut}
+use Rattle.rows.specs.Search.{Cut}
 use Rattle.blocks.proofs.Starts.{starts-up}
-use Rattle.minimum_weight.proofs.Runs.{run-of}
+use Rattle.rows.proofs.Runs.{run-of}
 use Rattle.minimum_weight.proofs.Filling.{Filling, filling-start, filling-next, filling-end, left-ready, right-ready}
 use Rattle.minimum_weight.proofs.costs.fill_block.Statement.{statement}
 use Rattle.minimum_weight.proofs.costs.fill_block.Tie as tie

@@ -7,14 +7,16 @@ use mathlib.Core.List.{List, _++_}
 use native.Mathlib.Omega.{arith}
 use borrow.Author.Needs.{needs}
 use lib.ListN.{length, set}
+use Rattle.lists.specs.Lists.{filled}
 use Rattle.lists.proofs.Writing.{filled-length}
 use Rattle.triangulation.specs.Triangulations.{Job}
 use Rattle.triangulation.specs.Jobs.{jobOf}
-use Rattle.triangulation.specs.Recursion.{bestUnder, restOf}
+use Rattle.triangulation.specs.Recursion.{bestUnder, costOf, restOf}
 use Rattle.minimum_weight.specs.declared.preorder.Part.{Part}
 use Rattle.minimum_weight.specs.Preorder.{waiting, beneath, mostParts, Waits, Listing}
 use Rattle.minimum_weight.proofs.Edges.{found-far}
 use Rattle.minimum_weight.proofs.Turns.{HasTriangulation, Whole, Down, firstTriangle, patchOf, patch-length, down-first, found-first}
+use Rattle.minimum_weight.proofs.Answer.{answer-whole}
 use Rattle.minimum_weight.proofs.Listing.{top, put, skip, start, turn-due, top-whole, turn-place, top-place, rest-waits, left-place, one-turn, end}
 use Rattle.minimum_weight.proofs.preorder.write_preorder.Statement.{statement}
 use Rattle.minimum_weight.proofs.preorder.write_preorder.Tie as tie
@@ -29,7 +31,7 @@ abbrev job : tie.Start Inv-loop μ-loop → Job
 job s = jobOf (s .args .n) (s .args .candidates .now) (s .args .weights .now) (s .args .rows .now)
 
 tiled : (s : tie.Start Inv-loop μ-loop) → HasTriangulation (job s)
-tiled s = record { valid = s .pre .0 .0 .valid; bounded = s .pre .0 .0 .bounded; some = s .pre .1 .1 }
+tiled s = record { valid = s .pre .0 .0 .valid; bounded = s .pre .0 .0 .bounded; some = omega (arith, s .pre .1 .1, ap costOf (answer-whole (s .args .n) _ _ _ (s .pre .0 .0))) }
 
 -- the table has a place for each triangle
 room : (s : tie.Start Inv-loop μ-loop) → length (patchOf (tiled s)) ≤ length (s .args .triangles .now)
@@ -204,7 +206,10 @@ same-length c =
     ap length (end (tiled s) (c .before .loop .inv) (c .loop-test .left)) ∙ filled-length (patchOf (tiled s)) (s .args .triangles .now) (room s)
 
 returns : tie.Need-returns Inv-loop μ-loop
-returns c = end (tiled (c .before .before .before .before .before .before)) (c .before .loop .inv) (c .loop-test .left)
+returns c =
+    let s = c .before .before .before .before .before .before in
+    end (tiled s) (c .before .loop .inv) (c .loop-test .left)
+    ∙ ap (λ k. filled (restOf k) (s .args .triangles .now)) (sym (answer-whole (s .args .n) _ _ _ (s .pre .0 .0)))
 
 pub write-preorder-spec : {M : Type 1} → statement M
 write-preorder-spec =

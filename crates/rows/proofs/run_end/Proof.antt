@@ -1,14 +1,14 @@
--- `minimum_weight::rows::run_end` meets its contract. Assumes nothing.
+-- `rows::run_end` meets its contract. Assumes nothing.
 use Prim.Native.Nat.{_+_, _-_, _≤_}
 use mathlib.Core.Path.{sym, _∙_}
 use native.Mathlib.Omega.{arith}
 use borrow.Author.Needs.{needs}
 use lib.ListN.{length}
-use Rattle.minimum_weight.specs.Tables.{Cut}
-use Rattle.minimum_weight.proofs.RowSearch.{cut-up, cut-down, cut-meet}
-use Rattle.minimum_weight.proofs.Runs.{run-start}
-use Rattle.minimum_weight.proofs.rows.run_end.Statement.{statement}
-use Rattle.minimum_weight.proofs.rows.run_end.Tie as tie
+use Rattle.rows.specs.Search.{Cut}
+use Rattle.rows.proofs.Bisection.{cut-up, cut-down, cut-meet}
+use Rattle.rows.proofs.Runs.{run-start}
+use Rattle.rows.proofs.run_end.Statement.{statement}
+use Rattle.rows.proofs.run_end.Tie as tie
 
 abbrev Inv-loop : tie.InvT-loop
 Inv-loop rows start outer end₀ end = Cut rows (outer + 1) 0 end (length rows) × (start ≤ end)

@@ -1,11 +1,11 @@
--- `minimum_weight::rows::weight_if` meets its contract. Assumes nothing.
+-- `rows::weight_if` meets its contract. Assumes nothing.
 use mathlib.Core.Path.{sym, _∙_}
 use borrow.Author.Tests.{eq-eqb, ne-eqb}
 use Rattle.lists.proofs.Choice.{yes, no}
-use Rattle.minimum_weight.proofs.Bools.{and-yes, and-no}
+use Rattle.lists.proofs.Bools.{and-yes, and-no}
 use borrow.Author.Needs.{needs}
-use Rattle.minimum_weight.proofs.rows.weight_if.Statement.{statement}
-use Rattle.minimum_weight.proofs.rows.weight_if.Tie as tie
+use Rattle.rows.proofs.weight_if.Statement.{statement}
+use Rattle.rows.proofs.weight_if.Tie as tie
 
 array-read-o : tie.Need-array-read-o
 array-read-o c = search needs

@@ -3,7 +3,7 @@ ghost use mathlib.Core.Path.{_≡_};
 ghost use Prim.Native.Nat.{_+_, _<_, _≤_};
 ghost use Rattle.terms.specs.Limits.{maxTriples};
 ghost use Rattle.triangulation.specs.Jobs.{pairWeight};
-ghost use Rattle.minimum_weight.specs.Tables.{RowsAscend, rowIsBefore, rowOrZero, Cut};
+ghost use Rattle.rows.specs.Search.{RowsAscend, rowIsBefore, rowOrZero, Cut};
 
 // The row is before (outer, inner).
 fn is_before(row: [u32; 3], outer: usize, inner: usize) -> bool

@@ -1,10 +1,10 @@
--- `minimum_weight::rows::is_before` meets its contract. Assumes nothing.
+-- `rows::is_before` meets its contract. Assumes nothing.
 use mathlib.Core.Path.{sym, _∙_}
-use Rattle.minimum_weight.proofs.Bools.{and-yes, and-no, or-yes, or-no}
+use Rattle.lists.proofs.Bools.{and-yes, and-no, or-yes, or-no}
 use borrow.Author.Needs.{needs}
 use borrow.Author.Tests.{le-ltb, lt-ltb, eq-eqb, ne-eqb}
-use Rattle.minimum_weight.proofs.rows.is_before.Statement.{statement}
-use Rattle.minimum_weight.proofs.rows.is_before.Tie as tie
+use Rattle.rows.proofs.is_before.Statement.{statement}
+use Rattle.rows.proofs.is_before.Tie as tie
 
 array-read-o : tie.Need-array-read-o
 array-read-o c = search needs

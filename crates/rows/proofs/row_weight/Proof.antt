@@ -1,10 +1,10 @@
--- `minimum_weight::rows::row_weight` meets its contract. Assumes nothing.
+-- `rows::row_weight` meets its contract. Assumes nothing.
 use mathlib.Core.Path.{_∙_}
 use native.Mathlib.Omega.{arith}
 use borrow.Author.Needs.{needs}
-use Rattle.minimum_weight.proofs.RowSearch.{cut-end, cut-out}
-use Rattle.minimum_weight.proofs.rows.row_weight.Statement.{statement}
-use Rattle.minimum_weight.proofs.rows.row_weight.Tie as tie
+use Rattle.rows.proofs.Bisection.{cut-end, cut-out}
+use Rattle.rows.proofs.row_weight.Statement.{statement}
+use Rattle.rows.proofs.row_weight.Tie as tie
 
 lower-bound-requires : tie.Need-lower-bound-requires
 lower-bound-requires c κs = search needs

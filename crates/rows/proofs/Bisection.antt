@@ -13,7 +13,7 @@ use borrow.Author.Tests.{eqb-true, eqb-false, eq-eqb, ltb-true, ltb-false, lt-lt
 use Rattle.terms.specs.Entries.{entryAt, outer, inner, rowWeight}
 use Rattle.lists.proofs.Choice.{no, not-true-false, true-not-false}
 use Rattle.triangulation.specs.Jobs.{pairWeight}
-use Rattle.minimum_weight.specs.Tables.{RowsAscend, Cut, rowIsBefore, rowOrZero}
+use Rattle.rows.specs.Search.{RowsAscend, Cut, rowIsBefore, rowOrZero}
 
 -- (x, y) is before (o, i), or is not
 pub before-true : (x y o i : ℕ) → (ltb x o || eqb x o && ltb y i) ≡ true → (x < o) ⊎ ((x ≡ o) × (y < i))

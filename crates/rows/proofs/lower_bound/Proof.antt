@@ -1,13 +1,13 @@
--- `minimum_weight::rows::lower_bound` meets its contract. Assumes nothing.
+-- `rows::lower_bound` meets its contract. Assumes nothing.
 use Prim.Native.Nat.{_+_, _-_, _/_, _<_}
 use mathlib.Core.Path.{sym, _∙_}
 use native.Mathlib.Omega.{arith}
 use borrow.Author.Needs.{needs}
 use lib.ListN.{length}
-use Rattle.minimum_weight.specs.Tables.{Cut}
-use Rattle.minimum_weight.proofs.RowSearch.{cut-start, cut-up, cut-down, cut-meet}
-use Rattle.minimum_weight.proofs.rows.lower_bound.Statement.{statement}
-use Rattle.minimum_weight.proofs.rows.lower_bound.Tie as tie
+use Rattle.rows.specs.Search.{Cut}
+use Rattle.rows.proofs.Bisection.{cut-start, cut-up, cut-down, cut-meet}
+use Rattle.rows.proofs.lower_bound.Statement.{statement}
+use Rattle.rows.proofs.lower_bound.Tie as tie
 
 abbrev Inv-loop : tie.InvT-loop
 Inv-loop rows outer inner low₀ high₀ low high = Cut rows outer inner low high

@@ -1,0 +1,70 @@
+-- What a call of the judge answers, and what it leaves in every place of the work table. Definitions only.
+use Prim.Native.Nat.{ℕ, zero, suc, _-_}
+use mathlib.Core.List.{List}
+use lib.ListN.{length, replicate}
+use Rattle.lists.specs.Lists.{filled}
+use Rattle.triangulation.specs.Triangulations.{Answer, none, patch, best}
+use Rattle.triangulation.specs.Jobs.{jobOf}
+use Rattle.jobs.specs.Job.{codeWithoutTriangles}
+use Rattle.validation.specs.Validation.{listCode}
+use Rattle.judge.specs.declared.Judgement.{Judgement}
+use Rattle.judge.specs.declared.Judgement.the-variants.{Accepted, Refused}
+
+-- the number and the excess of each case of a judgement (rule 5.10)
+abbrev pub numberOf : Judgement → ℕ
+numberOf (Accepted excess) = 0
+numberOf (Refused number) = number
+
+abbrev pub excessOf : Judgement → ℕ
+excessOf (Accepted excess) = excess
+excessOf (Refused number) = 0
+
+-- the two together (rule 5.10)
+pub record Values : Type 0 where
+  pub number : ℕ
+  pub excess : ℕ
+
+abbrev pub values : ℕ → ℕ → Values
+values k x = record { number = k; excess = x }
+
+abbrev pub valuesOf : Judgement → Values
+valuesOf j = values (numberOf j) (excessOf j)
+
+-- what they are: where no number is due 0 and the excess, else the number and 0 (rule 5.10)
+abbrev pub dueValues : ℕ → ℕ → Values
+dueValues zero excess = values 0 excess
+dueValues (suc k) excess = values (suc k) 0
+
+-- how far a stated total is above the least (rule 3.14); a job without a tiling has no list to accept
+abbrev pub excessOver : Answer → ℕ → ℕ
+excessOver none stated = 0
+excessOver (patch least triangles) stated = stated - least
+
+-- the first number, or where there is none the next (rule 4.36)
+abbrev pub orElse : ℕ → ℕ → ℕ
+orElse zero next = next
+orElse (suc k) next = suc k
+
+-- the number of the job, with no triangle table, and then that of the list (rule 4.36)
+unfoldable pub judgeCode : ℕ → List (List ℕ) → List ℕ → List (List ℕ) → List ℕ → ℕ → ℕ → ℕ
+judgeCode n candidates weights rows list stated workPlaces =
+    orElse (codeWithoutTriangles n candidates weights rows workPlaces)
+    (listCode (jobOf n candidates weights rows) list stated)
+
+-- a judgement, and what the work table holds after the call (rule 5.10)
+pub record Result : Type 0 where
+  pub judgement : Judgement
+  pub work : List ℕ
+
+abbrev pub result : Judgement → List ℕ → Result
+result j w = record { judgement = j; work = w }
+
+-- an acceptance leaves 0 in a place for each candidate (rule 3.9); a refusal changes no table (rule 4.30)
+abbrev pub settled : ℕ → ℕ → ℕ → List ℕ → Result
+settled zero excess count work = result (Accepted excess) (filled (replicate count 0) work)
+settled (suc k) excess count work = result (Refused (suc k)) work
+
+-- the call, by the first number due on it (rules 3.14, 4.36)
+unfoldable pub judged : ℕ → List (List ℕ) → List ℕ → List (List ℕ) → List ℕ → ℕ → List ℕ → Result
+judged n candidates weights rows list stated work =
+    settled (judgeCode n candidates weights rows list stated (length work)) (excessOver (best (jobOf n candidates weights rows)) stated) (length candidates) work

@@ -1,0 +1,27 @@
+-- The numbers due on a call of the judge: each by itself, and their order. Definitions only.
+use Prim.Native.Nat.{ℕ, _-_}
+use mathlib.Core.List.{List, [], _∷_, List·Memᴰ}
+use mathlib.Core.Logic.{_≢_}
+use Rattle.triangulation.specs.Jobs.{jobOf}
+use Rattle.jobs.specs.Due.{Due, upTo}
+use Rattle.validation.specs.Validation.{listTotal}
+use Rattle.judge.specs.Demands.{IsTiling}
+
+-- the order of the numbers (rule 4.36)
+abbrev pub order : List ℕ
+order = 14 ∷ 13 ∷ 15 ∷ 16 ∷ 17 ∷ 21 ∷ 22 ∷ []
+
+module _ (n : ℕ) (candidates : List (List ℕ)) (weights : List ℕ) (rows : List (List ℕ)) (list : List ℕ) (stated workPlaces : ℕ) where
+  -- number k is due
+  pub data JudgeDue : ℕ → Type 0 where
+    -- one of the job's, beside a triangle table that has its n - 2 places (rules 4.13 to 4.17, 4.36)
+    of-job : {k : ℕ} → Due n candidates weights rows (n - 2) workPlaces k → JudgeDue k
+    -- the list is no tiling, or has a repeat (rule 4.21)
+    no-tiling : ((set : List ℕ) → IsTiling (jobOf n candidates weights rows) list set → ⊥) → JudgeDue 21
+    -- the stated total is not the list's (rule 4.22)
+    other-total : stated ≢ listTotal (jobOf n candidates weights rows) list → JudgeDue 22
+
+  -- k is the first number due: it is due, and none that stands before it in the order is (rule 4.36)
+  pub record FirstDue (k : ℕ) : Type 0 where
+    pub due : JudgeDue k
+    pub none-before : (j : ℕ) → List·Memᴰ j (upTo k order) → JudgeDue j → ⊥

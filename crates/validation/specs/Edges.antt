@@ -1,0 +1,77 @@
+-- Tables over the edges (i, j), i < j. What functions say to each other; nobody has to believe it.
+use Prim.Native.Nat.{ℕ, _+_, _*_, _^_, _≤_, _<_}
+use mathlib.Core.Path.{_≡_}
+use mathlib.Core.Bool.{Bool}
+use mathlib.Core.List.{List, [], List·Memᴰ}
+use lib.ListN.{length, getD, set}
+use lib.Dec.{ltb}
+use Rattle.lists.specs.Lists.{every}
+use Rattle.terms.specs.Limits.{maxVertices}
+use Rattle.terms.specs.Entries.{entryAt, vertexA, vertexB, vertexC}
+use Rattle.triangulation.specs.Triangulations.{Job, only, sum, allBelow, longEdge, shortEdge, isBoundary, edgeOk}
+use Rattle.triangulation.specs.Jobs.{jobOf}
+
+-- the place of the edge (i, j), and how many places there are
+abbrev pub edgeAt : ℕ → ℕ → ℕ
+edgeAt i j = i * maxVertices + j
+
+abbrev pub edgePlaces : ℕ
+edgePlaces = maxVertices * maxVertices
+
+abbrev pub countAt : List ℕ → ℕ → ℕ → ℕ
+countAt table i j = getD table (edgeAt i j) 0
+
+-- one more at the edge (i, j)
+unfoldable pub added : List ℕ → ℕ → ℕ → List ℕ
+added table i j = set table (edgeAt i j) (countAt table i j + 1)
+
+-- one more at (i, j) fits into a byte
+abbrev pub Room : List ℕ → ℕ → ℕ → Type 0
+Room table i j = countAt table i j + 1 < 2 ^ 8
+
+-- candidate k is a triangle
+pub record Triangle (candidates : List (List ℕ)) (k : ℕ) : Type 0 where
+  pub there : k < length candidates
+  pub ab : vertexA (entryAt candidates k) < vertexB (entryAt candidates k)
+  pub bc : vertexB (entryAt candidates k) < vertexC (entryAt candidates k)
+  pub few : vertexC (entryAt candidates k) < maxVertices
+
+-- a short list names triangles alone
+pub record Triangles (candidates : List (List ℕ)) (list : List ℕ) : Type 0 where
+  pub each : (k : ℕ) → List·Memᴰ k list → Triangle candidates k
+  pub short-list : length list ≤ maxVertices
+
+-- the candidates alone, as a job
+abbrev pub bareJob : List (List ℕ) → Job
+bareJob candidates = jobOf 0 candidates [] []
+
+abbrev pub bare : ℕ → Job
+bare n = jobOf n [] [] []
+
+-- 1 where candidate k has the edge (i, j) with its third vertex between, and where it has it with that vertex outside
+abbrev pub between : List (List ℕ) → ℕ → ℕ → ℕ → ℕ
+between candidates i j k = only (longEdge (bareJob candidates) i j k) 1
+
+abbrev pub outside : List (List ℕ) → ℕ → ℕ → ℕ → ℕ
+outside candidates i j k = only (shortEdge (bareJob candidates) i j k) 1
+
+-- the table has at each edge the sum of g over the list
+pub record Sums (g : ℕ → ℕ → ℕ → ℕ) (list table : List ℕ) : Type 0 where
+  pub long-enough : length table ≡ edgePlaces
+  pub at : (i j : ℕ) → i < maxVertices → j < maxVertices → countAt table i j ≡ sum (g i j) list
+
+-- both tables do, each for its side
+pub record Counted (candidates : List (List ℕ)) (list betweens outsides : List ℕ) : Type 0 where
+  pub on-between : Sums (between candidates) list betweens
+  pub on-outside : Sums (outside candidates) list outsides
+
+-- the test of the edge (i, j), and of all edges
+abbrev pub edgeFits : ℕ → List ℕ → List ℕ → ℕ → ℕ → Bool
+edgeFits n betweens outsides j i = edgeOk (bare n) (isBoundary (bare n) i j) (countAt betweens i j) (countAt outsides i j)
+
+abbrev pub edgesFit : ℕ → List ℕ → List ℕ → Bool
+edgesFit n betweens outsides = allBelow n (λ j. allBelow j (edgeFits n betweens outsides j))
+
+-- every number of the list is below a bound
+abbrev pub allBelowBound : List ℕ → ℕ → Bool
+allBelowBound list bound = every 0 (length list) (λ i. ltb (getD list i 0) bound)

@@ -1,0 +1,3 @@
+pub mod Validation
+pub mod Edges
+pub mod Totals
