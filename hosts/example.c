@@ -1,4 +1,5 @@
-/* A host in C: closes the rim of a rim file of either edition and prints what the bench program prints. Its tables are as long as the rim needs.
+/* A host in C: closes the rim of a rim file of either edition and prints what the bench program prints. Its tables are as long as the rim needs. Then it
+ * judges the patch as if another program had made it, with its own total and with a wrong one.
  * With --limit N it takes rims of at most N vertices. With --convert it writes the file in the other edition instead.
  * Status 0 where the file is accepted, 1 where it is refused, 2 with one line on standard error where it could not run. */
 #include "patch_box.h"
@@ -81,19 +82,38 @@ static void print_patch(const struct tables *t, patch_box_patch_answer answer)
     }
 }
 
+/* Judges the patch as one from elsewhere, which may have its triangles in any order, here in the reverse one, and with this total. */
+static void print_judgement(struct tables *t, size_t triangles, uint64_t stated)
+{
+    uint16_t list[PATCH_BOX_MAX_TRIANGLES];
+    for (size_t i = 0; i < triangles; i++)
+        list[i] = t->triangles[triangles - 1 - i];
+    patch_box_judge_answer answer =
+        patch_box_judge(triangles + 2, t->candidates, t->sizes.candidates, t->weights, t->sizes.weights, t->rows, t->sizes.rows, list, triangles, stated,
+                        t->work, t->sizes.work);
+    printf("judged with total %llu: ", (unsigned long long)stated);
+    if (answer.number == PATCH_BOX_ACCEPTED)
+        printf("accepted %llu\n", (unsigned long long)answer.excess);
+    else
+        printf("refused %lu\n", (unsigned long)answer.number);
+}
+
 /* The file and the tables, as the calls that close a rim take them. */
 #define LENT(file, t) \
     (file)->bytes, (file)->length, (t)->triangles, (t)->sizes.triangles, (t)->candidates, (t)->sizes.candidates, (t)->weights, (t)->sizes.weights, \
         (t)->rows, (t)->sizes.rows, (t)->work, (t)->sizes.work
 
-/* Closes the rim and prints the answer; gives its number. */
+/* Closes the rim and prints the answer, and for a patch how it is judged; gives the answer's number. */
 static uint32_t close_with(struct tables *t, const struct rim_file *file, const struct request *asked)
 {
     patch_box_patch_answer answer = asked->limited ? patch_box_rim_within(asked->limit, LENT(file, t)) : patch_box_rim(LENT(file, t));
-    if (answer.number == PATCH_BOX_ACCEPTED && answer.triangles == 0)
+    if (answer.number == PATCH_BOX_ACCEPTED && answer.triangles == 0) {
         printf("none\n");
-    else if (answer.number == PATCH_BOX_ACCEPTED)
+    } else if (answer.number == PATCH_BOX_ACCEPTED) {
         print_patch(t, answer);
+        print_judgement(t, answer.triangles, answer.total);
+        print_judgement(t, answer.triangles, answer.total + 1);
+    }
     return answer.number;
 }
 

@@ -1,5 +1,6 @@
 //! A host in Rust: closes the rim of a rim file of either edition and prints what the bench program
-//! prints. Its tables are as long as the rim needs. With --limit N it takes rims of at most N
+//! prints. Its tables are as long as the rim needs. Then it judges the patch as if another program had
+//! made it, with its own total and with a wrong one. With --limit N it takes rims of at most N
 //! vertices. With --convert it writes the file in the other edition instead. Status 0 where the file
 //! is accepted, 1 where it is refused, 2 with one line on standard error where it could not run.
 
@@ -40,7 +41,20 @@ fn shown(tables: &OwnedTables, triangles: usize, total: u64) -> String {
     text
 }
 
-/// What the bench program prints for a patch or 'none'.
+/// How the patch is judged as one from elsewhere, which may have its triangles in any order, here in
+/// the reverse one, and with this total.
+fn judged(tables: &mut OwnedTables, triangles: usize, stated: u64) -> String {
+    let list: Vec<u16> = tables.triangles[..triangles].iter().rev().copied().collect();
+    let OwnedTables { candidates, weights, rows, work, .. } = tables;
+    let judgement =
+        match patch_box::judge(triangles + 2, candidates, weights, rows, &list, stated, work) {
+            Ok(excess) => format!("accepted {excess}"),
+            Err(number) => format!("refused {}", number.code()),
+        };
+    format!("judged with total {stated}: {judgement}\n")
+}
+
+/// What the bench program prints for a patch or 'none', and how a patch is judged.
 fn close(file: &[u8], limit: Option<usize>) -> Result<Vec<u8>, Number> {
     let sizes = match limit {
         None => patch_box::sizes(file),
@@ -53,7 +67,11 @@ fn close(file: &[u8], limit: Option<usize>) -> Result<Vec<u8>, Number> {
     };
     let text = match outcome? {
         Outcome::None => String::from("none\n"),
-        Outcome::Patch { triangles, total } => shown(&tables, triangles, total),
+        Outcome::Patch { triangles, total } => {
+            shown(&tables, triangles, total)
+                + &judged(&mut tables, triangles, total)
+                + &judged(&mut tables, triangles, total + 1)
+        }
     };
     Ok(text.into_bytes())
 }

@@ -50,27 +50,29 @@ enum {
 
 /* Why a call refused: the values of the field `number`. */
 enum {
-    PATCH_BOX_ACCEPTED = 0,            /* not refused */
-    PATCH_BOX_LENGTH = 1,              /* the length of the file does not fit its record count, or the count is over 256 */
-    PATCH_BOX_AREA_FACTOR = 2,         /* the area factor is more than 16 */
-    PATCH_BOX_LINK = 3,                /* a link leads past the last record */
-    PATCH_BOX_RECORD_REPEATED = 4,     /* a link leads back to a record of the chain */
-    PATCH_BOX_TOO_MANY_VERTICES = 5,   /* the chain has more than 64 records */
-    PATCH_BOX_KIND = 6,                /* a record is neither a point nor a level point */
-    PATCH_BOX_NO_HEIGHT = 7,           /* a level point comes before any point */
-    PATCH_BOX_NOT_FINITE = 8,          /* a coordinate is not finite, or the unused bytes of a level point are not zero */
-    PATCH_BOX_OUT_OF_RANGE = 9,        /* a coordinate is not from -125 to 125 mm */
-    PATCH_BOX_TOO_FEW_VERTICES = 10,   /* the rim has fewer than 3 vertices */
-    PATCH_BOX_VERTEX_REPEATED = 11,    /* two vertices are at one grid point */
-    PATCH_BOX_COSPHERICAL = 12,        /* five vertices, not all in one plane, are on a sphere that has no vertex inside; in a flat rim, four on such a circle */
-    PATCH_BOX_TABLE_TOO_SHORT = 13,    /* a lent table is too short */
-    PATCH_BOX_VERTEX_COUNT = 14,       /* the n of a direct job, or the limit asked for, is not from 3 to 64 */
-    PATCH_BOX_CANDIDATE = 15,          /* the candidates of a direct job are not vertices a < b < c < n in rising order */
-    PATCH_BOX_ROW = 16,                /* the rows of a direct job are not hanging pairs in rising order */
-    PATCH_BOX_WEIGHT = 17,             /* a weight of a direct job is more than 2,000,000,000 */
-    PATCH_BOX_NORMAL = 18,             /* a number of a normal is not from -1000 to 1000 */
-    PATCH_BOX_NORMAL_LOST = 19,        /* a normal would be lost: a record of the file to convert has one that is not zero */
-    PATCH_BOX_OVER_LIMIT = 20          /* the chain has more records than the limit asked for */
+    PATCH_BOX_ACCEPTED = 0,             /* not refused */
+    PATCH_BOX_LENGTH = 1,               /* the length of the file does not fit its record count, or the count is over 256 */
+    PATCH_BOX_AREA_FACTOR = 2,          /* the area factor is more than 16 */
+    PATCH_BOX_LINK = 3,                 /* a link leads past the last record */
+    PATCH_BOX_RECORD_REPEATED = 4,      /* a link leads back to a record of the chain */
+    PATCH_BOX_TOO_MANY_VERTICES = 5,    /* the chain has more than 64 records */
+    PATCH_BOX_KIND = 6,                 /* a record is neither a point nor a level point */
+    PATCH_BOX_NO_HEIGHT = 7,            /* a level point comes before any point */
+    PATCH_BOX_NOT_FINITE = 8,           /* a coordinate is not finite, or the unused bytes of a level point are not zero */
+    PATCH_BOX_OUT_OF_RANGE = 9,         /* a coordinate is not from -125 to 125 mm */
+    PATCH_BOX_TOO_FEW_VERTICES = 10,    /* the rim has fewer than 3 vertices */
+    PATCH_BOX_VERTEX_REPEATED = 11,     /* two vertices are at one grid point */
+    PATCH_BOX_COSPHERICAL = 12,         /* five vertices, not all in one plane, are on a sphere that has no vertex inside; in a flat rim, four on such a circle */
+    PATCH_BOX_TABLE_TOO_SHORT = 13,     /* a lent table is too short */
+    PATCH_BOX_VERTEX_COUNT = 14,        /* the n of a direct job, or the limit asked for, is not from 3 to 64 */
+    PATCH_BOX_CANDIDATE = 15,           /* the candidates of a direct job are not vertices a < b < c < n in rising order */
+    PATCH_BOX_ROW = 16,                 /* the rows of a direct job are not hanging pairs in rising order */
+    PATCH_BOX_WEIGHT = 17,              /* a weight of a direct job is more than 2,000,000,000 */
+    PATCH_BOX_NORMAL = 18,              /* a number of a normal is not from -1000 to 1000 */
+    PATCH_BOX_NORMAL_LOST = 19,         /* a normal would be lost: a record of the file to convert has one that is not zero */
+    PATCH_BOX_OVER_LIMIT = 20,          /* the chain has more records than the limit asked for */
+    PATCH_BOX_NOT_A_TRIANGULATION = 21, /* the list to judge is not a triangulation, or names a candidate twice */
+    PATCH_BOX_WRONG_TOTAL = 22          /* the total stated for the list to judge is not its own */
 };
 
 /* Vertices a < b < c. Candidates stand in rising order, and a candidate's number is its place, from 0. */
@@ -88,6 +90,11 @@ typedef struct {
     size_t triangles; /* how many first places of the triangle table are filled: n - 2, or 0 */
     uint64_t total;   /* the total of the patch, or 0 */
 } patch_box_patch_answer;
+
+typedef struct {
+    uint32_t number;
+    uint64_t excess; /* of the stated total over the least one of the job */
+} patch_box_judge_answer;
 
 typedef struct {
     uint32_t number;
@@ -151,6 +158,18 @@ patch_box_patch_answer patch_box_job(size_t n,
                                      uint16_t *triangles, size_t triangles_len,
                                      uint64_t *work, size_t work_len);
 
+/* The judge of a patch that another program made for a direct job: `list` has the numbers of its candidates, in any order, and `stated` is the total that
+ * it is said to have. A number of 13 to 17, 21 or 22, or the excess of that total over the least one, 0 where no patch of the job costs less. A job whose
+ * candidates hold no triangulation has no list but those refused with 21. Places for weights and work are as in patch_box_job, and so is what is left in
+ * the work table; the list may have any length. */
+patch_box_judge_answer patch_box_judge(size_t n,
+                                       const patch_box_candidate *candidates, size_t candidates_len,
+                                       const uint32_t *weights, size_t weights_len,
+                                       const patch_box_row *rows, size_t rows_len,
+                                       const uint16_t *list, size_t list_len,
+                                       uint64_t stated,
+                                       uint64_t *work, size_t work_len);
+
 /* The reader alone: a number of 1 to 11 or 18, or how many vertices the rim has. */
 patch_box_read_answer patch_box_read(const uint8_t *file, size_t file_len);
 
@@ -180,6 +199,7 @@ patch_box_convert_answer patch_box_convert(const uint8_t *file, size_t file_len,
 typedef char patch_box_assert_candidate[sizeof(patch_box_candidate) == 3 ? 1 : -1];
 typedef char patch_box_assert_row[sizeof(patch_box_row) == 12 ? 1 : -1];
 typedef char patch_box_assert_patch_answer[sizeof(patch_box_patch_answer) == 24 && offsetof(patch_box_patch_answer, total) == 16 ? 1 : -1];
+typedef char patch_box_assert_judge_answer[sizeof(patch_box_judge_answer) == 16 && offsetof(patch_box_judge_answer, excess) == 8 ? 1 : -1];
 typedef char patch_box_assert_read_answer[sizeof(patch_box_read_answer) == 16 ? 1 : -1];
 typedef char patch_box_assert_find_answer[sizeof(patch_box_find_answer) == 24 ? 1 : -1];
 typedef char patch_box_assert_sizes_answer[sizeof(patch_box_sizes_answer) == 48 ? 1 : -1];

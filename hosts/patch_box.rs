@@ -155,10 +155,12 @@ numbers! {
     Normal = 18, "a number of a normal is not from -1000 to 1000";
     NormalLost = 19, "a normal would be lost: a record of the file to convert has one that is not zero";
     OverLimit = 20, "the chain has more records than the limit asked for";
+    NotATriangulation = 21, "the list to judge is not a triangulation, or names a candidate twice";
+    WrongTotal = 22, "the total stated for the list to judge is not its own";
 }
 
 impl Number {
-    /// The number itself, 1 to 20.
+    /// The number itself, 1 to 22.
     pub fn code(self) -> u32 {
         self as u32
     }
@@ -177,15 +179,16 @@ impl fmt::Display for Number {
 
 impl Error for Number {}
 
-/// A call of the archive: numbers as they are, then each slice as its pointer and its length, those
-/// that are only read first.
+/// A call of the archive: numbers as they are, and each slice as its pointer and its length, those
+/// that are only read first. A number may stand before them, and another between.
 macro_rules! call {
-    ($name:ident($($number:ident)?; $($read:ident),*; $($lent:ident),*)) => {
+    ($name:ident($($number:ident)?; $($read:ident),* $(with $other:ident)?; $($lent:ident),*)) => {
         // SAFETY: each pointer is a slice's own, with that slice's length; mutable slices are disjoint.
         unsafe {
             archive::$name(
                 $($number,)?
                 $($read.as_ptr(), $read.len(),)*
+                $($other,)?
                 $($lent.as_mut_ptr(), $lent.len(),)*
             )
         }
@@ -228,6 +231,24 @@ pub fn job(
     work: &mut [u64],
 ) -> Result<Outcome, Number> {
     call!(patch_box_job(n; candidates, weights, rows; triangles, work)).outcome()
+}
+
+/// The judge of a patch that another program made for a direct job: by how much its stated total
+/// exceeds the least one. The list has the numbers of its candidates, in any order. A number of 13 to
+/// 17, 21 or 22 where it is refused.
+pub fn judge(
+    n: usize,
+    candidates: &[Candidate],
+    weights: &[u32],
+    rows: &[Row],
+    list: &[u16],
+    stated: u64,
+    work: &mut [u64],
+) -> Result<u64, Number> {
+    let archive::Judge { number, excess } =
+        call!(patch_box_judge(n; candidates, weights, rows, list with stated; work));
+    accepted(number, [excess as usize])?;
+    Ok(excess)
 }
 
 /// The reader alone: how many vertices the rim has, or a number of 1 to 11 or 18.
@@ -367,6 +388,12 @@ mod archive {
     }
 
     #[repr(C)]
+    pub struct Judge {
+        pub number: u32,
+        pub excess: u64,
+    }
+
+    #[repr(C)]
     pub struct Read {
         pub number: u32,
         pub vertices: usize,
@@ -445,6 +472,21 @@ mod archive {
             work: *mut u64,
             work_len: usize,
         ) -> Patch;
+
+        pub fn patch_box_judge(
+            n: usize,
+            candidates: *const Candidate,
+            candidates_len: usize,
+            weights: *const u32,
+            weights_len: usize,
+            rows: *const Row,
+            rows_len: usize,
+            list: *const u16,
+            list_len: usize,
+            stated: u64,
+            work: *mut u64,
+            work_len: usize,
+        ) -> Judge;
 
         pub fn patch_box_read(file: *const u8, file_len: usize) -> Read;
 

@@ -32,7 +32,7 @@ fn shouted(name: &str) -> String {
 #[test]
 fn numbers() {
     let codes: Vec<u32> = Number::ALL.iter().map(|number| number.code()).collect();
-    assert_eq!(codes, (1..=20).collect::<Vec<u32>>());
+    assert_eq!(codes, (1..=22).collect::<Vec<u32>>());
     for number in Number::ALL {
         let name = shouted(&format!("{number:?}"));
         assert_eq!(constant(&name), (number.code() as usize, number.reason()));
@@ -40,7 +40,7 @@ fn numbers() {
         assert_eq!(Number::of_code(number.code()), Some(*number));
         assert_eq!(number.to_string(), format!("refused {}: {}", number.code(), number.reason()));
     }
-    assert_eq!([0, 21, u32::MAX].map(Number::of_code), [None; 3]);
+    assert_eq!([0, 23, u32::MAX].map(Number::of_code), [None; 3]);
 }
 
 #[test]
@@ -69,7 +69,7 @@ fn calls(text: &'static str) -> Vec<&'static str> {
 fn same_calls() {
     let declared = calls(include_str!("../patch_box.rs"));
     assert_eq!(calls(HEADER), declared);
-    assert_eq!(declared.len(), 10);
+    assert_eq!(declared.len(), 11);
 }
 
 /// The bound on rows, counted: every pair of triples of 64 in which one hangs on the other.
@@ -101,4 +101,6 @@ fn empty_tables_are_lent() {
     assert_eq!(patch_box::convert(&[], &mut []), Err(Number::Length));
     assert_eq!(patch_box::job(3, &[], &[], &[], &mut [], &mut []), Err(Number::TableTooShort));
     assert_eq!(patch_box::job(3, &[], &[], &[], &mut [0], &mut []), Ok(patch_box::Outcome::None));
+    let judged = patch_box::judge(3, &[], &[], &[], &[], 0, &mut []);
+    assert_eq!(judged, Err(Number::NotATriangulation));
 }

@@ -4,16 +4,12 @@
 
 mod common;
 
-use common::rim_file;
+use common::{rim_file, wavy_edge};
 use patch_box::{Found, Number, Outcome, OwnedTables, Sizes};
 
 /// A wavy edge of n points, without normals and with them.
 fn edges(n: usize) -> [Vec<u8>; 2] {
-    let point = |k: usize| {
-        let (sin, cos) = (std::f32::consts::TAU * k as f32 / n as f32).sin_cos();
-        [60.0 * cos + (k % 5) as f32, 50.0 * sin, (k * k % 19) as f32 / 2.0]
-    };
-    let points: Vec<[f32; 3]> = (0..n).map(point).collect();
+    let points = wavy_edge(n);
     [rim_file(&points, None), rim_file(&points, Some(&vec![[300, -200, 900]; n]))]
 }
 

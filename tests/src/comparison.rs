@@ -1,8 +1,8 @@
 //! One call made by two, with the answers and every place of every table compared.
 
 use crate::calls::{
-    Calls, ConvertAnswer, FindAnswer, Job, Lent, PatchAnswer, Places, ReadAnswer, Tables,
-    MOST_BYTES,
+    Calls, ConvertAnswer, FindAnswer, Job, JudgeAnswer, Lent, Patch, PatchAnswer, Places,
+    ReadAnswer, Tables, MOST_BYTES,
 };
 use crate::library::{each, each_within};
 
@@ -109,6 +109,31 @@ pub fn compare_job(
     let mut left = [before.clone(), before];
     let answers = [expected.patch_job(job.n, &mut left[0]), tested.patch_job(job.n, &mut left[1])];
     same([expected, tested], answers, left[0].difference(&left[1]), &case);
+    answers[0]
+}
+
+/// The judge on a patch of a direct job, with so many places in the work table. An acceptance leaves
+/// 0 in one for each candidate, a refusal has no excess, and no other place changes.
+pub fn compare_judge(
+    expected: &dyn Calls,
+    tested: &dyn Calls,
+    job: &Job,
+    patch: &Patch,
+    work: usize,
+) -> JudgeAnswer {
+    let case = || format!("{work} places, {patch:?} and {job:?}");
+    let mut before = Tables::of_patch(job, &patch.list, work);
+    let mut left = [before.clone(), before.clone()];
+    let answers = [
+        expected.judge(job.n, patch.stated, &mut left[0]),
+        tested.judge(job.n, patch.stated, &mut left[1]),
+    ];
+    same([expected, tested], answers, left[0].difference(&left[1]), &case);
+    match answers[0].number {
+        0 => before.work.fill(&vec![0; job.candidates.len()]),
+        number => assert_eq!(answers[0], JudgeAnswer::refused(number), "{}", case()),
+    }
+    assert_eq!(left[0].difference(&before), None, "{}", case());
     answers[0]
 }
 

@@ -63,11 +63,33 @@ pub fn tiling(n: usize, mut middle: impl FnMut(u8, u8) -> u8) -> Vec<Triangle> {
     triangles
 }
 
+/// A tiling at random: triangles of any shape, or long ones towards either end.
+pub fn random_tiling(n: usize, random: &mut Random) -> Vec<Triangle> {
+    let (left, right) = (random.between(1, 6), random.between(1, 6));
+    tiling(n, |first, last| {
+        let (low, high) = (i64::from(first) + 1, i64::from(last) - 1);
+        let near = [(low + left).min(high), (high - right).max(low)];
+        let spread = random.between(low, high);
+        random.one_of(&[spread, near[0], near[1], near[1]]) as u8
+    })
+}
+
 /// A job over a random part of the triples: of `keep` in 100 candidates and `rows` in 100 rows,
 /// with weights up to `highest`.
 pub fn random_job(n: usize, keep: usize, rows: usize, highest: u32, random: &mut Random) -> Job {
     let mut candidates = all_triples(n);
     candidates.retain(|_| random.below(100) < keep);
+    job_over(n, candidates, rows, highest, random)
+}
+
+/// A job over these candidates, with `rows` in 100 rows and weights up to `highest`.
+pub fn job_over(
+    n: usize,
+    candidates: Vec<Triangle>,
+    rows: usize,
+    highest: u32,
+    random: &mut Random,
+) -> Job {
     let weights = candidates.iter().map(|_| random.below(highest as usize + 1) as u32).collect();
     let mut pairs = hanging_pairs(&candidates);
     pairs.retain(|_| random.below(100) < rows);

@@ -9,12 +9,14 @@
 pub mod calls;
 pub mod comparison;
 pub mod damage;
+pub mod damaged_jobs;
 pub mod fast;
 pub mod interval;
 pub mod jobs;
 pub mod law;
 pub mod library;
 pub mod normals;
+pub mod patches;
 pub mod planes;
 pub mod programs;
 pub mod random;

@@ -1,10 +1,11 @@
 //! Tables of every length from none to more than enough (rule 4.13), compared place by place.
 
-use outside_tests::calls::{Calls, Job, Places, Tables};
-use outside_tests::comparison::{compare_finder, compare_job, compare_rim};
-use outside_tests::jobs::random_job;
-use outside_tests::law::BY_SETS;
+use outside_tests::calls::{Calls, Job, Patch, Places, Tables};
+use outside_tests::comparison::{compare_finder, compare_job, compare_judge, compare_rim};
+use outside_tests::jobs::{random_job, random_tiling};
+use outside_tests::law::{judge, BY_SETS};
 use outside_tests::library::under_test;
+use outside_tests::patches::numbers;
 use outside_tests::planes;
 use outside_tests::random::{seeds, Random};
 use outside_tests::rims::{Edition, RimFile, Shape, FIVE_CORNERS, FLAT, LINE, P, SQUARE};
@@ -143,6 +144,32 @@ fn tables_of_a_direct_job() {
                         let enough = n - 2 <= triangles && count <= work && count <= weights;
                         assert_eq!(answer.number, if enough { 0 } else { 13 });
                     }
+                }
+            }
+        }
+    }
+}
+
+/// The judge asks for the weight and work tables only: its list is never too short a table.
+#[test]
+fn tables_of_the_judge() {
+    for seed in seeds("tables of the judge") {
+        let mut random = Random::new(seed);
+        for _ in 0..60 {
+            let n = random.between(3, 6) as usize;
+            let job = random_job(n, 100, 70, 2, &mut random);
+            let list = numbers(&job, &random_tiling(n, &mut random));
+            let total = judge::total(&job, &list);
+            let patches = [(0, &list[..], total), (22, &list, total + 1), (21, &list[1..], total)];
+            let count = job.candidates.len();
+            for (work, weights) in (0..=count + 2).flat_map(|w| (0..=count + 2).map(move |x| (w, x)))
+            {
+                let enough = count <= work && count <= weights;
+                let job = with_weights(&job, weights);
+                for (number, list, stated) in patches {
+                    let patch = Patch { list: list.to_vec(), stated };
+                    let answer = compare_judge(&BY_SETS, under_test(), &job, &patch, work);
+                    assert_eq!(answer.number, if enough { number } else { 13 });
                 }
             }
         }

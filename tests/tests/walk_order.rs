@@ -2,7 +2,7 @@
 
 use outside_tests::calls::{Job, Tables, Triangle};
 use outside_tests::comparison::compare_job;
-use outside_tests::jobs::{hanging_pairs, tiling};
+use outside_tests::jobs::{hanging_pairs, random_tiling, tiling};
 use outside_tests::law::{Law, BY_INTERVALS, BY_SETS};
 use outside_tests::library::under_test;
 use outside_tests::random::{seeds, Random};
@@ -103,14 +103,7 @@ fn random_tilings() {
         let mut random = Random::new(seed);
         for _ in 0..3_000 {
             let n = random.between(3, 64) as usize;
-            let (left, right) = (random.between(1, 6), random.between(1, 6));
-            let mut other = Random::new(random.next_u64());
-            let candidates = tiling(n, |first, last| {
-                let (low, high) = (i64::from(first) + 1, i64::from(last) - 1);
-                let near = [(low + left).min(high), (high - right).max(low)];
-                let spread = other.between(low, high);
-                other.one_of(&[spread, near[0], near[1], near[1]]) as u8
-            });
+            let candidates = random_tiling(n, &mut random);
             let job = job_of(n, candidates, &mut random);
             assert!(listed_whole(&BY_INTERVALS, &job, &mut random) <= (n - 1) / 2);
         }

@@ -11,11 +11,14 @@ usage: ./rim make [--area N] [--bend N] [--decimal-comma] [-o FILE] POINTS
        ./rim show [--list] [-o FILE] RIM
        ./rim draw [--from VIEW] [-o FILE] RIM
        ./rim stl|obj [-o FILE] RIM
+       ./rim judge [-o FILE] RIM PATCH
 
-  make  a rim file from a list of points
-  show  a rim file as text: header, records, vertices, the outcome in words
-  draw  the patch as a picture (SVG)
-  stl   the patch as a mesh (ASCII STL), obj as OBJ; both in millimetres
+  make   a rim file from a list of points
+  show   a rim file as text: header, records, vertices, the outcome in words
+  draw   the patch as a picture (SVG)
+  stl    the patch as a mesh (ASCII STL), obj as OBJ; both in millimetres
+  judge  a patch that another program made: accepted EXCESS, which is how far its total is above the
+         least one, or refused K
 
 POINTS is text with a line for each point of the rim, in order around the gap; the last point joins
 the first. A line is x y z in millimetres, or x y for a level point, which has the height of the point
@@ -25,7 +28,10 @@ the last point, to the first), which the patch is to leave smoothly: three whole
 1000, best of length 1000, or, where one has a decimal mark, a direction of any length. It looks to
 the side from which the rim runs counterclockwise. 0 0 0, or no normal, is no surface. With a normal
 in it the list makes a file of edition 2, without one a file of edition 1.
-RIM is a rim file of either edition. For POINTS and RIM, - is standard input.
+RIM is a rim file of either edition. PATCH is text as ./patch prints it: patch N T TOTAL, then a line
+for each triangle. Of such a line the three vertices that it begins with are read; lines, and vertices
+in a line, may be in any order, and # starts a comment. For one of POINTS, RIM and PATCH, - is
+standard input.
 
   --area N          area factor, 0 to 16 (default 1)
   --bend N          bend factor, 0 to 65535 (default 1)
@@ -36,11 +42,15 @@ RIM is a rim file of either edition. For POINTS and RIM, - is standard input.
                     line the one where it looks longest)
   -o FILE           write to FILE, which is replaced only by a complete one (default: standard output)
 
-Status: 0 done; 1 the list or the rim is refused, or has no patch to mill; 2 it could not run.
+Status: 0 done; 1 the list, the rim or the patch is refused, or there is no patch to mill; 2 it could
+not run, or PATCH is no patch of the rim that can be read.
 ";
 
+/// The commands in words.
+const COMMANDS: &str = "make, show, draw, stl, obj or judge";
+
 /// What to write. A picture without a view is seen from where the rim shows best.
-#[derive(Clone, Copy, Debug, PartialEq)]
+#[derive(Clone, Debug, PartialEq)]
 pub enum Command {
     Make { area: u16, bend: u16, comma: Comma },
     Show,
@@ -48,6 +58,7 @@ pub enum Command {
     Draw(Option<View>),
     Stl,
     Obj,
+    Judge { patch: Place },
 }
 
 #[derive(Clone, Debug, PartialEq)]
@@ -56,7 +67,7 @@ pub enum Request {
     Run { command: Command, input: Place, output: Place },
 }
 
-/// The options that a command takes, with their defaults.
+/// The options that a command takes, with their defaults, and the patch to judge.
 struct Options {
     area: u16,
     bend: u16,
@@ -64,6 +75,7 @@ struct Options {
     list: bool,
     view: Option<View>,
     output: Place,
+    patch: Place,
 }
 
 fn place(word: String) -> Place {
@@ -89,6 +101,7 @@ impl Options {
         list: false,
         view: None,
         output: Place::Standard,
+        patch: Place::Standard,
     };
 
     /// Takes an option, and its value from the words that follow.
@@ -111,6 +124,26 @@ impl Options {
         Ok(())
     }
 
+    /// Takes the words that are files, and gives the first, which is POINTS or RIM.
+    fn take_files(&mut self, command: &str, words: Vec<String>) -> Result<Place, String> {
+        let count = words.len();
+        let files: Vec<Place> = words.into_iter().map(place).collect();
+        match (command, &files[..]) {
+            ("judge", [Place::Standard, Place::Standard]) => {
+                Err("judge takes standard input for RIM or for PATCH, not for both".into())
+            }
+            ("judge", [rim, patch]) => {
+                self.patch = patch.clone();
+                Ok(rim.clone())
+            }
+            ("judge", _) => Err(format!("judge takes two files, RIM and PATCH; {count} are given")),
+            (_, [file]) => Ok(file.clone()),
+            _ => {
+                Err(format!("{command} takes one file, or - for standard input; {count} are given"))
+            }
+        }
+    }
+
     fn command(&self, command: &str) -> Result<Command, String> {
         match command {
             "make" => Ok(Command::Make { area: self.area, bend: self.bend, comma: self.comma }),
@@ -119,7 +152,8 @@ impl Options {
             "draw" => Ok(Command::Draw(self.view)),
             "stl" => Ok(Command::Stl),
             "obj" => Ok(Command::Obj),
-            _ => Err(format!("there is no command '{command}': make, show, draw, stl or obj")),
+            "judge" => Ok(Command::Judge { patch: self.patch.clone() }),
+            _ => Err(format!("there is no command '{command}': {COMMANDS}")),
         }
     }
 }
@@ -130,22 +164,17 @@ pub fn parse(words: Vec<String>) -> Result<Request, String> {
         return Ok(Request::Help);
     }
     let mut words = words.into_iter();
-    let name =
-        words.next().ok_or("a command is expected: make, show, draw, stl or obj (./rim --help)")?;
+    let name = words.next().ok_or(format!("a command is expected: {COMMANDS} (./rim --help)"))?;
     Options::DEFAULT.command(&name)?;
     let mut options = Options::DEFAULT;
-    let mut inputs = Vec::new();
+    let mut files = Vec::new();
     while let Some(word) = words.next() {
         if word.starts_with('-') && word != "-" {
             options.take(&name, &word, &mut words)?;
         } else {
-            inputs.push(word);
+            files.push(word);
         }
     }
-    if inputs.len() != 1 {
-        let count = inputs.len();
-        return Err(format!("{name} takes one file, or - for standard input; {count} are given"));
-    }
-    let input = place(inputs.remove(0));
+    let input = options.take_files(&name, files)?;
     Ok(Request::Run { command: options.command(&name)?, input, output: options.output })
 }

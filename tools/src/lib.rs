@@ -1,11 +1,13 @@
-//! Rim files for people: made from a list of points, shown as text, and their patches as meshes and
-//! pictures. Rules are those of docs/SPECIFICATION.md.
+//! Rim files for people: made from a list of points, shown as text, their patches as meshes and
+//! pictures, and patches from elsewhere judged. Rules are those of docs/SPECIFICATION.md.
 
 #![forbid(unsafe_code)]
 
 pub mod arguments;
+pub mod brought;
 pub mod diagnosis;
 pub mod geometry;
+pub mod judge;
 pub mod list;
 pub mod mesh;
 pub mod output;
@@ -14,15 +16,16 @@ pub mod picture;
 pub mod points;
 pub mod rim_file;
 pub mod show;
+pub mod text;
 pub mod vectors;
 pub mod view;
 
 /// Why a command ended without what was asked for, in one line.
 #[derive(Clone, Debug, PartialEq, Eq)]
 pub enum Failure {
-    /// The list or the rim is refused, or the rim has no patch.
+    /// The list, the rim or the patch is refused, or the rim has no patch.
     Refused(String),
-    /// Arguments, files.
+    /// Arguments, files, a text that is no patch of the rim.
     CannotRun(String),
 }
 

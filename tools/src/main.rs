@@ -5,15 +5,14 @@
 use patch_box::Number;
 use rim::arguments::{parse, Command, Request, HELP};
 use rim::diagnosis::diagnose;
+use rim::judge::{judge, Judgement};
 use rim::output::{is_screen, read, reason, write, Place};
 use rim::patch::{close, Patch};
 use rim::points::{points, Comma};
+use rim::text::MAX_BYTES;
 use rim::{list, mesh, picture, rim_file, show, Failure};
 use std::io::Write;
 use std::process::ExitCode;
-
-/// Bytes of the longest list of points.
-const MAX_LIST: usize = 1 << 20;
 
 fn input(place: &Place, longest: usize) -> Result<Vec<u8>, Failure> {
     read(place, longest as u64 + 1)
@@ -26,10 +25,7 @@ fn rim_input(place: &Place) -> Result<Vec<u8>, Failure> {
 
 fn make(place: &Place, area: u16, bend: u16, comma: Comma) -> Result<Vec<u8>, Failure> {
     let refused = |why: String| Failure::Refused(format!("{}: {why}", place.name()));
-    let list = input(place, MAX_LIST)?;
-    if list.len() > MAX_LIST {
-        return Err(refused(format!("a list of points has at most {MAX_LIST} bytes")));
-    }
+    let list = input(place, MAX_BYTES)?;
     let file = rim_file::encode(&points(&list, comma).map_err(refused)?, area, bend);
     match patch_box::read(&file) {
         Ok(_) => Ok(file),
@@ -62,6 +58,25 @@ fn milled(place: &Place, write: fn(&Patch) -> String) -> Result<Vec<u8>, Failure
     Ok(write(&patch).into_bytes())
 }
 
+/// What a command writes, and how it ends once that is written: with a status, or with a line too.
+type Answer = (Vec<u8>, Result<u8, Failure>);
+
+fn judged(rim: &Place, patch: &Place) -> Result<Answer, Failure> {
+    let (file, text) = (rim_input(rim)?, input(patch, MAX_BYTES)?);
+    let said = |place: &Place, why: String| format!("{}: {why}", place.name());
+    let judgement = judge(&file, &text).map_err(|why| Failure::CannotRun(said(patch, why)))?;
+    let (number, why) = match judgement {
+        Judgement::Accepted { excess } => {
+            return Ok((format!("accepted {excess}\n").into_bytes(), Ok(0)));
+        }
+        Judgement::RimRefused(number) => {
+            (number, said(rim, show::refusal(number, &diagnose(&file))))
+        }
+        Judgement::PatchRefused(number, why) => (number, said(patch, why)),
+    };
+    Ok((format!("refused {}\n", number.code()).into_bytes(), Err(Failure::Refused(why))))
+}
+
 fn put(place: &Place, bytes: &[u8]) -> Result<(), Failure> {
     let name = match place {
         Place::Standard => "standard output".into(),
@@ -70,21 +85,21 @@ fn put(place: &Place, bytes: &[u8]) -> Result<(), Failure> {
     write(place, bytes).map_err(|error| Failure::CannotRun(format!("{name}: {}", reason(&error))))
 }
 
-/// What is written, and the status.
-fn answer(command: Command, from: &Place) -> Result<(Vec<u8>, u8), Failure> {
+fn answer(command: Command, from: &Place) -> Result<Answer, Failure> {
     match command {
-        Command::Make { area, bend, comma } => Ok((make(from, area, bend, comma)?, 0)),
+        Command::Make { area, bend, comma } => Ok((make(from, area, bend, comma)?, Ok(0))),
         Command::Show => {
             let (text, taken) = show::show(&rim_input(from)?);
-            Ok((text.into_bytes(), if taken { 0 } else { 1 }))
+            Ok((text.into_bytes(), Ok(if taken { 0 } else { 1 })))
         }
         Command::List => {
             let (file, _) = taken(from, patch_box::read)?;
-            Ok((list::list(&file).into_bytes(), 0))
+            Ok((list::list(&file).into_bytes(), Ok(0)))
         }
-        Command::Draw(view) => Ok((picture::svg(&closed(from)?, view).into_bytes(), 0)),
-        Command::Stl => Ok((milled(from, mesh::stl)?, 0)),
-        Command::Obj => Ok((milled(from, mesh::obj)?, 0)),
+        Command::Draw(view) => Ok((picture::svg(&closed(from)?, view).into_bytes(), Ok(0))),
+        Command::Stl => Ok((milled(from, mesh::stl)?, Ok(0))),
+        Command::Obj => Ok((milled(from, mesh::obj)?, Ok(0))),
+        Command::Judge { patch } => judged(from, &patch),
     }
 }
 
@@ -103,9 +118,9 @@ fn run() -> Result<u8, Failure> {
             "a rim file is no text for a screen: use -o FILE or > FILE".into(),
         ));
     }
-    let (bytes, status) = answer(command, &from)?;
+    let (bytes, end) = answer(command, &from)?;
     put(&to, &bytes)?;
-    Ok(status)
+    end
 }
 
 fn main() -> ExitCode {

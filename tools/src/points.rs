@@ -4,6 +4,7 @@
 //! coordinates with decimal commas, which would be as many numbers.
 
 use crate::rim_file::{grid_number, Point, LIMIT, NORMAL_AXES, NORMAL_LIMIT};
+use crate::text::{lines, text};
 use crate::vectors::unit;
 use patch_box::MAX_VERTICES;
 use std::str::FromStr;
@@ -28,31 +29,15 @@ pub enum Comma {
 /// The points of a list that makes an accepted file (rules 4.5, 4.7 to 4.11, 4.18), or the first thing
 /// wrong with it.
 pub fn points(bytes: &[u8], comma: Comma) -> Result<Vec<Point>, String> {
-    let listed = parse(&text(bytes)?, comma)?;
+    let listed = parse(&text(bytes, "list of points")?, comma)?;
     check_count(&listed)?;
     check_distinct(&listed)?;
     Ok(listed.iter().map(|listed| listed.point).collect())
 }
 
-/// Bytes that are not UTF-8 can do no harm in a comment, and are no number elsewhere.
-fn text(bytes: &[u8]) -> Result<String, String> {
-    if bytes.starts_with(&[0xff, 0xfe]) || bytes.starts_with(&[0xfe, 0xff]) {
-        return Err("the list is UTF-16 text: save it as UTF-8 or plain text".into());
-    }
-    if bytes.contains(&0) {
-        return Err("this is no list of points: it has bytes that are no text".into());
-    }
-    let text = String::from_utf8_lossy(bytes);
-    Ok(text.strip_prefix('\u{feff}').unwrap_or(&text).to_string())
-}
-
 fn parse(text: &str, comma: Comma) -> Result<Vec<Listed>, String> {
     let mut listed = Vec::new();
-    for (line, words) in (1..).zip(text.lines()) {
-        let words = words.split('#').next().unwrap_or("").trim();
-        if words.is_empty() {
-            continue;
-        }
+    for (line, words) in lines(text) {
         let point = point(words, comma).and_then(|point| match (point.height, listed.len()) {
             (_, MAX_VERTICES) => Err(format!("a rim has at most {MAX_VERTICES} points")),
             (None, 0) => Err("a level point has the height of the point before it; the first point needs x, y and z".into()),

@@ -110,7 +110,7 @@ fn points_on_one_grid_point() {
 fn files_that_are_no_text() {
     let utf16: Vec<u8> =
         "\u{feff}0 0 0".encode_utf16().flat_map(|unit| unit.to_le_bytes()).collect();
-    refused(&utf16, "the list is UTF-16 text: save it as UTF-8 or plain text");
+    refused(&utf16, "the list of points is UTF-16 text: save it as UTF-8 or plain text");
     refused(bytes_of("p.rim"), "this is no list of points: it has bytes that are no text");
     refused(vec![b' '; (1 << 20) + 1], "a list of points has at most 1048576 bytes");
     let name = example("p.rim").display().to_string();

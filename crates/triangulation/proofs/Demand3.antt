@@ -20,7 +20,7 @@ use Rattle.triangulation.proofs.Least.{Image, image, map-mem, subset-me
 
 -- two subsets of an ascending list with the same members are the same
 module _ where
-  SameMembers : List ℕ → List ℕ → Type 0
+  unfoldable pub SameMembers : List ℕ → List ℕ → Type 0
   SameMembers s t = ((k : ℕ) → Mem k s → Mem k t) × ((k : ℕ) → Mem k t → Mem k s)
 
   -- a subset of i, i + 1, .. starts with i, or is one of i + 1, ..
@@ -41,7 +41,7 @@ module _ where
   tail-mem : (i c : ℕ) (r t : List ℕ) → List·Memᴰ r (subsets (upFrom (suc i) c)) → ((k : ℕ) → Mem k (i ∷ r) → Mem k (i ∷ t)) → (k : ℕ) → Mem k r → Mem k t
   tail-mem i c r t m h k q = ⊎-elim (λ e. absurd (above i c r m (rw e at q))) (λ z. z) (List·Memᴰ·cases-cons (h k (List·Memᴰ·tail q)))
 
-  same-subset : (i c : ℕ) (s t : List ℕ) → List·Memᴰ s (subsets (upFrom i c)) → List·Memᴰ t (subsets (upFrom i c)) → SameMembers s t → s ≡ t
+  pub same-subset : (i c : ℕ) (s t : List ℕ) → List·Memᴰ s (subsets (upFrom i c)) → List·Memᴰ t (subsets (upFrom i c)) → SameMembers s t → s ≡ t
   unfolding SameMembers
   same-subset i zero s t m n h = ⊎-elim (λ e. ⊎-elim (λ d. e ∙ sym d) (λ z. absurd (List·Memᴰ·not-nil z)) (List·Memᴰ·cases-cons n)) (λ z. absurd (List·Memᴰ·not-nil z)) (List·Memᴰ·cases-cons m)
   same-subset i (suc c) s t m n h = go (split i c s m) (split i c t n) (λ s t. same-subset (suc i) c s t)
@@ -83,7 +83,7 @@ same-list? (x ∷ xs) (y ∷ ys) = go (eqb x y) refl (same-list? xs ys)
     go true e (inr q) = inr (λ z. q (tail-eq-of-cons-eq z))
     go false e r = inr (λ z. eqb-false x y e (head-eq-of-cons-eq z))
 
-sum-ones : (s : List ℕ) → sum (λ k. 1) s ≡ length s
+pub sum-ones : (s : List ℕ) → sum (λ k. 1) s ≡ length s
 sum-ones [] = refl
 sum-ones (x ∷ s) = omega (arith, sum-ones s)
 

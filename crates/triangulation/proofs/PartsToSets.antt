@@ -30,7 +30,7 @@ upFrom-mem i zero k m = absurd (List·Memᴰ·not-nil m)
 upFrom-mem i (suc c) k m = ⊎-elim (λ e. (omega arith, omega arith)) (λ r. let d = upFrom-mem (suc i) c k r in (omega arith, omega arith)) (List·Memᴰ·cases-cons m)
 
 -- a number is in upFrom once at most
-upFrom-once : (i c x : ℕ) → count (λ k. eqb k x) (upFrom i c) ≤ only (leb i x) 1
+pub upFrom-once : (i c x : ℕ) → count (λ k. eqb k x) (upFrom i c) ≤ only (leb i x) 1
 upFrom-once i zero x = omega arith
 upFrom-once i (suc c) x = go (eqb i x) (leb (suc i) x) (leb i x) refl refl refl (upFrom-once (suc i) c x)
   where
@@ -43,11 +43,11 @@ upFrom-once i (suc c) x = go (eqb i x) (leb (suc i) x) (leb i x) refl refl refl 
     go false true false p q r ih = absurd (false≢true (sym r ∙ le-leb i x (omega (arith, leb-true (suc i) x q))))
     go false false e p q r ih = omega arith
 
-only-le : (b : Bool) → only b 1 ≤ 1
+pub only-le : (b : Bool) → only b 1 ≤ 1
 only-le true = omega arith
 only-le false = omega arith
 
-count-keep : (p q : ℕ → Bool) (s : List ℕ) → count p (keep q s) ≤ count p s
+pub count-keep : (p q : ℕ → Bool) (s : List ℕ) → count p (keep q s) ≤ count p s
 count-keep p q [] = omega arith
 count-keep p q (x ∷ xs) = go (q x) (count-keep p q xs)
   where

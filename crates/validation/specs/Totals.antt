@@ -1,6 +1,7 @@
 -- The total of a list of triangles, row by row. What functions say to each other; nobody has to believe it.
-use Prim.Native.Nat.{ℕ}
+use Prim.Native.Nat.{ℕ, _+_}
 use mathlib.Core.List.{List, []}
+use lib.ListN.{getD}
 use Rattle.terms.specs.Entries.{entryAt, vertexA, vertexC}
 use Rattle.triangulation.specs.Triangulations.{only, sum, shortEdge}
 use Rattle.triangulation.specs.Jobs.{jobOf, pairWeight}
@@ -12,3 +13,7 @@ hangingRow candidates rows o i = only (shortEdge (jobOf 0 candidates [] []) (ver
 -- of all that a list names
 abbrev pub hangingRows : List (List ℕ) → List (List ℕ) → List ℕ → ℕ → ℕ
 hangingRows candidates rows list o = sum (hangingRow candidates rows o) list
+
+-- what triangle o adds to the total of a list
+abbrev pub share : List (List ℕ) → List ℕ → List (List ℕ) → List ℕ → ℕ → ℕ
+share candidates weights rows list o = getD weights o 0 + hangingRows candidates rows list o

@@ -1,7 +1,8 @@
 // The edge test of a list of triangles, by tables over the edges (i, j), i < j, with a place for each i and j.
 ghost use mathlib.Core.Path.{_≡_};
 ghost use Prim.Native.Nat.{_≤_, _<_};
-ghost use lib.ListN.{length, replicate};
+ghost use mathlib.Core.List.{[]};
+ghost use lib.ListN.{replicate};
 ghost use Rattle.terms.specs.Limits.{maxVertices};
 ghost use Rattle.terms.specs.Entries.{vertexA, vertexB, vertexC};
 ghost use Rattle.triangulation.specs.Triangulations.{isBoundary, edgeOk, allBelow, isTriangulation};

@@ -2,13 +2,14 @@
 
 mod conversion;
 mod finder;
+mod judge;
 mod reader;
 mod tiler;
 mod vectors;
 mod weights;
 
 use crate::calls::{
-    Calls, ConvertAnswer, FindAnswer, Lent, PatchAnswer, Places, ReadAnswer, Tables,
+    Calls, ConvertAnswer, FindAnswer, JudgeAnswer, Lent, PatchAnswer, Places, ReadAnswer, Tables,
 };
 use finder::Faces;
 use reader::Polygon;
@@ -87,6 +88,26 @@ impl Calls for Fast {
         let count = candidates.len();
         let work = &mut tables.work.table()[..count];
         tiler::tile(n, candidates, &weights[..count], rows, tables.triangles.table(), work)
+    }
+
+    fn judge(&self, n: usize, stated: u64, tables: &mut Tables) -> JudgeAnswer {
+        let candidates = tables.candidates.view();
+        let weights = tables.weights.view();
+        let rows = tables.rows.view();
+        // The list is no table to be filled: n places are enough for every one.
+        let number = tiler::number_due(n, candidates, weights, rows, n, tables.work.view().len());
+        if number != 0 {
+            return JudgeAnswer::refused(number);
+        }
+        let list = tables.triangles.view();
+        let number = judge::number_due(n, candidates, weights, rows, list, stated);
+        if number != 0 {
+            return JudgeAnswer::refused(number);
+        }
+        let count = candidates.len();
+        let work = &mut tables.work.table()[..count];
+        let least = tiler::least_total(n, candidates, &weights[..count], rows, work);
+        JudgeAnswer { number: 0, excess: stated - least }
     }
 
     fn read_rim(&self, file: &[u8]) -> ReadAnswer {

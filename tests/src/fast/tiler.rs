@@ -141,6 +141,13 @@ impl Job<'_> {
         }
     }
 
+    /// The least total of the whole polygon, with those of the parts left in the work places.
+    fn least_total(&self, n: usize, weights: &[u32], work: &mut [u64]) -> u64 {
+        self.fill(weights, work);
+        let whole = Part { outer: u32::MAX, first: 0, last: (n - 1) as u8 };
+        self.best_under(whole, &[], work).0
+    }
+
     fn write(&self, n: usize, work: &[u64], triangles: &mut [u16]) {
         let mut stack = Vec::with_capacity(MOST_PARTS);
         stack.push(Part { outer: u32::MAX, first: 0, last: (n - 1) as u8 });
@@ -168,9 +175,7 @@ pub fn tile(
     work: &mut [u64],
 ) -> PatchAnswer {
     let job = Job { starts: block_starts(candidates), candidates, rows };
-    job.fill(weights, work);
-    let whole = Part { outer: u32::MAX, first: 0, last: (n - 1) as u8 };
-    let (total, _) = job.best_under(whole, &[], work);
+    let total = job.least_total(n, weights, work);
     if total != NONE {
         job.write(n, work, triangles);
     }
@@ -179,4 +184,18 @@ pub fn tile(
         NONE => PatchAnswer::NONE,
         _ => PatchAnswer { number: 0, triangles: n - 2, total },
     }
+}
+
+/// The total of that patch alone, for a job that has one.
+pub fn least_total(
+    n: usize,
+    candidates: &[Triangle],
+    weights: &[u32],
+    rows: &[Row],
+    work: &mut [u64],
+) -> u64 {
+    let job = Job { starts: block_starts(candidates), candidates, rows };
+    let total = job.least_total(n, weights, work);
+    work.fill(0);
+    total
 }

@@ -1,0 +1,170 @@
+//! Patches from elsewhere, judged through the calls.
+
+#![forbid(unsafe_code)]
+
+mod common;
+
+use common::{rim_file, wavy_edge};
+use patch_box::{Candidate, Number, Outcome, OwnedTables, Row};
+
+/// A direct job, and how many places are lent for work.
+#[derive(Clone)]
+struct Job {
+    n: usize,
+    candidates: Vec<Candidate>,
+    weights: Vec<u32>,
+    rows: Vec<Row>,
+    places: usize,
+}
+
+/// The job of rim file P (rule 6.1): its two triangulations cost 469 and 520.
+fn p() -> Job {
+    Job {
+        n: 4,
+        candidates: vec![[0, 1, 2], [0, 1, 3], [0, 2, 3], [1, 2, 3]],
+        weights: vec![80, 64, 80, 93],
+        rows: vec![[1, 3, 312], [2, 0, 360]],
+        places: 6,
+    }
+}
+
+/// No call writes it.
+const GUARD: u64 = u64::MAX;
+
+impl Job {
+    fn with(mut self, change: impl FnOnce(&mut Job)) -> Job {
+        change(&mut self);
+        self
+    }
+
+    /// The judge's answer. An acceptance leaves zeros in a work place for each candidate and nothing
+    /// else, a refusal nothing at all.
+    fn judge(&self, list: &[u16], stated: u64) -> Result<u64, Number> {
+        let Job { n, candidates, weights, rows, places } = self;
+        let mut work = vec![GUARD; *places];
+        let judged = patch_box::judge(*n, candidates, weights, rows, list, stated, &mut work);
+        let cleared = judged.map_or(0, |_| candidates.len());
+        assert!(work[..cleared].iter().all(|&place| place == 0), "{list:?}: {work:?}");
+        assert!(work[cleared..].iter().all(|&place| place == GUARD), "{list:?}: {work:?}");
+        judged
+    }
+}
+
+#[test]
+fn accepted_in_any_order() {
+    for (list, stated, excess) in
+        [([1, 3], 469, 0), ([3, 1], 469, 0), ([0, 2], 520, 51), ([2, 0], 520, 51)]
+    {
+        assert_eq!(p().judge(&list, stated), Ok(excess));
+    }
+}
+
+/// Their bends count 0, so the totals are 64 + 93 and 80 + 80.
+#[test]
+fn pairs_without_a_row() {
+    let job = p().with(|job| job.rows.clear());
+    assert_eq!(job.judge(&[1, 3], 157), Ok(0));
+    assert_eq!(job.judge(&[2, 0], 160), Ok(3));
+}
+
+/// As many as there are candidates; a further weight counts for nothing.
+#[test]
+fn places_that_just_suffice() {
+    let job = p().with(|job| job.places = 4);
+    assert_eq!(job.judge(&[0, 2], 520), Ok(51));
+    let longer = p().with(|job| job.weights.push(u32::MAX));
+    assert_eq!(longer.judge(&[0, 2], 520), Ok(51));
+}
+
+/// Too few triangles, too many, the wrong ones, one twice, and numbers of no candidate, whatever the
+/// total; and each list of a job without a triangulation.
+#[test]
+fn lists_that_are_no_triangulation() {
+    let lists: [&[u16]; 16] = [
+        &[],
+        &[0],
+        &[1],
+        &[0, 1],
+        &[1, 2],
+        &[2, 3],
+        &[0, 1, 3],
+        &[0, 1, 2, 3],
+        &[1, 1],
+        &[1, 3, 1],
+        &[3, 1, 1],
+        &[1, 3, 1, 3],
+        &[1, 4],
+        &[1, 3, 4],
+        &[65_535, 1, 3],
+        &[1; 1000],
+    ];
+    for list in lists {
+        for stated in [0, 469, 520] {
+            assert_eq!(p().judge(list, stated), Err(Number::NotATriangulation), "{list:?}");
+        }
+    }
+    let open = p().with(|job| {
+        job.candidates = vec![[0, 1, 2], [0, 1, 3]];
+        job.rows.clear();
+    });
+    for list in [&[][..], &[0], &[1], &[0, 1]] {
+        assert_eq!(open.judge(list, 144), Err(Number::NotATriangulation), "{list:?}");
+    }
+}
+
+#[test]
+fn totals_that_are_not_the_lists() {
+    for stated in [0, 157, 468, 470, 520, (1 << 32) + 469, u64::MAX] {
+        assert_eq!(p().judge(&[1, 3], stated), Err(Number::WrongTotal), "{stated}");
+    }
+    for stated in [469, 519, 521] {
+        assert_eq!(p().judge(&[0, 2], stated), Err(Number::WrongTotal), "{stated}");
+    }
+}
+
+/// 14, 13, 15, 16 and 17 in this order, and each before 21 and 22: a job has the faults of those above
+/// it too. No length of the list gives 13.
+#[test]
+fn numbers_of_the_job_come_first() {
+    let heavy = p().with(|job| job.weights[2] = 2_000_000_001);
+    let row = heavy.clone().with(|job| job.rows.swap(0, 1));
+    let candidate = row.clone().with(|job| job.candidates.swap(0, 1));
+    let short_weights = candidate.clone().with(|job| job.weights.truncate(3));
+    let short_work = candidate.clone().with(|job| job.places = 3);
+    let count = short_work.clone().with(|job| job.n = 65);
+    for (job, number) in [
+        (heavy, Number::Weight),
+        (row, Number::Row),
+        (candidate, Number::Candidate),
+        (short_weights, Number::TableTooShort),
+        (short_work, Number::TableTooShort),
+        (count.clone(), Number::VertexCount),
+        (count.with(|job| job.n = 2), Number::VertexCount),
+    ] {
+        for list in [&[][..], &[1, 3], &[3, 1, 1], &[1; 70]] {
+            for stated in [469, 470] {
+                assert_eq!(job.judge(list, stated), Err(number), "{list:?}");
+            }
+        }
+    }
+}
+
+/// The patch of a rim has no excess, whichever triangle comes first; one more in its total is one too
+/// many, and without a triangle it is no patch.
+#[test]
+fn the_box_accepts_its_own_patches() {
+    for n in [3, 4, 24, 64] {
+        let file = rim_file(&wavy_edge(n), None);
+        let mut tables = OwnedTables::new(patch_box::sizes(&file).expect("taken"));
+        let outcome = patch_box::rim(&file, tables.lend());
+        let Ok(Outcome::Patch { total, .. }) = outcome else { panic!("{outcome:?}") };
+        let OwnedTables { triangles: mut list, candidates, weights, rows, work } = tables;
+        let job = Job { n, candidates, weights, rows, places: work.len() + 1 };
+        for _ in 0..n {
+            assert_eq!(job.judge(&list, total), Ok(0));
+            assert_eq!(job.judge(&list, total + 1), Err(Number::WrongTotal));
+            assert_eq!(job.judge(&list[1..], total), Err(Number::NotATriangulation));
+            list.rotate_left(1);
+        }
+    }
+}

@@ -1,0 +1,162 @@
+//! Patches of direct jobs as other programs might make them, right ones and wrong ones.
+
+use crate::calls::{Job, JudgeAnswer, Patch, Row, Triangle};
+use crate::interval;
+use crate::jobs::all_triples;
+use crate::law::judge;
+use crate::random::Random;
+
+/// The numbers of some of a job's candidates.
+pub fn numbers(job: &Job, triangles: &[Triangle]) -> Vec<u16> {
+    let number = |triangle| job.candidates.binary_search(triangle).expect("a candidate") as u16;
+    triangles.iter().map(number).collect()
+}
+
+/// Every set of so many candidates, as a list.
+pub fn every_set(candidates: usize) -> impl Iterator<Item = Vec<u16>> {
+    let numbers = move |set: u64| (0..candidates as u16).filter(move |k| set >> k & 1 == 1);
+    (0..1 << candidates).map(move |set| numbers(set).collect())
+}
+
+/// Totals to state for a list of a job with this least total: first its own, then others, which are
+/// the same now and then.
+pub fn totals(job: &Job, list: &[u16], least: u64) -> [u64; 8] {
+    let own = judge::total(job, list);
+    let without_rows = judge::total(&Job { rows: Vec::new(), ..job.clone() }, list);
+    let next = [own.wrapping_sub(1), own + 1, own + (1 << 32)];
+    [own, next[0], next[1], next[2], 0, u64::MAX, least, without_rows]
+}
+
+/// The least total of a job; any number where it has no tiling.
+pub fn least_total(job: &Job) -> u64 {
+    interval::best(job).map_or(0, |best| best.total)
+}
+
+/// A way to spoil the list of a tiling. What comes of it is never a tiling: two of them differ in
+/// more than one triangle.
+type Slip = (&'static str, fn(&Job, &mut Vec<u16>, &mut Random));
+
+pub const SLIPS: [Slip; 11] = [
+    ("one left out", |_, list, random| {
+        list.swap_remove(random.below(list.len()));
+    }),
+    ("one twice", |_, list, random| list.push(random.one_of(list))),
+    ("one in the place of another", |_, list, _| match &mut list[..] {
+        [one, .., other] => *other = *one,
+        _ => list.push(list[0]),
+    }),
+    ("another candidate in the place of one", |job, list, random| {
+        let another = another(job, list, random);
+        replace_one(list, another, random);
+    }),
+    ("another candidate too", |job, list, random| list.push(another(job, list, random))),
+    ("all of them twice", |_, list, _| list.extend_from_within(..)),
+    ("nothing", |_, list, _| list.clear()),
+    ("the first number past the candidates", |job, list, random| {
+        replace_one(list, job.candidates.len() as u16, random);
+    }),
+    ("the second number past them", |job, list, random| {
+        replace_one(list, job.candidates.len() as u16 + 1, random);
+    }),
+    ("the largest number", |_, list, random| replace_one(list, u16::MAX, random)),
+    ("a number past them too", |job, list, _| list.push(job.candidates.len() as u16)),
+];
+
+fn replace_one(list: &mut [u16], number: u16, random: &mut Random) {
+    list[random.below(list.len())] = number;
+}
+
+/// A candidate that the list does not name, or where it names them all a number past them.
+fn another(job: &Job, list: &[u16], random: &mut Random) -> u16 {
+    let mut others: Vec<u16> = (0..job.candidates.len() as u16).collect();
+    others.retain(|k| !list.contains(k));
+    match others.is_empty() {
+        true => job.candidates.len() as u16,
+        false => random.one_of(&others),
+    }
+}
+
+/// The list of a tiling after a slip, in any order.
+pub fn spoilt(slip: Slip, job: &Job, list: &[u16], random: &mut Random) -> Vec<u16> {
+    let mut list = list.to_vec();
+    slip.1(job, &mut list, random);
+    random.shuffle(&mut list);
+    list
+}
+
+/// Patches of a job of few candidates: every set of them in any order, with each total where it is a
+/// tiling and with one of them where not, and what comes of each tiling by a slip.
+pub fn all_of(job: &Job, random: &mut Random) -> Vec<Patch> {
+    let least = least_total(job);
+    let mut patches = Vec::new();
+    let mut add = |list: &[u16], totals: &[u64]| {
+        patches.extend(totals.iter().map(|&stated| Patch { list: list.to_vec(), stated }));
+    };
+    for mut list in every_set(job.candidates.len()) {
+        random.shuffle(&mut list);
+        let totals = totals(job, &list, least);
+        if !judge::is_tiling(job, &list) {
+            add(&list, &[random.one_of(&totals)]);
+            continue;
+        }
+        add(&list, &totals);
+        for slip in SLIPS {
+            add(&spoilt(slip, job, &list, random), &totals[..3]);
+        }
+    }
+    patches
+}
+
+fn job(n: usize, candidates: &[Triangle], weights: &[u32], rows: &[Row]) -> Job {
+    Job { n, candidates: candidates.to_vec(), weights: weights.to_vec(), rows: rows.to_vec() }
+}
+
+/// Patches worked by hand, with their answers: of the jobs of rules 6.1 and 6.2, and surfaces that
+/// have each rim edge in one triangle and every other in none or two, but on one side of it.
+pub fn worked() -> Vec<(Job, Patch, JudgeAnswer)> {
+    let p = job(4, &all_triples(4), &[80, 64, 80, 93], &[[1, 3, 312], [2, 0, 360]]);
+    let one = job(3, &[[0, 1, 2]], &[5], &[]);
+    let none = job(3, &[], &[], &[]);
+    let five = job(5, &all_triples(5), &[1; 10], &[]);
+    let eight = job(8, &all_triples(8), &[1; 56], &[]);
+    let band = numbers(&five, &[[0, 1, 3], [0, 2, 3], [0, 2, 4], [1, 2, 4], [1, 3, 4]]);
+    let fan = (1..7).map(|b| [0, b, b + 1]).collect::<Vec<Triangle>>();
+    let solid = [[1, 3, 5], [1, 3, 7], [1, 5, 7], [3, 5, 7]];
+    let fan_and_solid = numbers(&eight, &[&fan[..], &solid].concat());
+    let fan = numbers(&eight, &fan);
+    let cases: [(&Job, &[u16], u64, u32, u64); 28] = [
+        (&p, &[1, 3], 469, 0, 0),
+        (&p, &[3, 1], 469, 0, 0),
+        (&p, &[0, 2], 520, 0, 51),
+        (&p, &[2, 0], 520, 0, 51),
+        (&p, &[0, 2], 469, 22, 0),
+        (&p, &[1, 3], 520, 22, 0),
+        (&p, &[1, 3], 157, 22, 0),
+        (&p, &[1, 3], 829, 22, 0),
+        (&p, &[1, 3], 0, 22, 0),
+        (&p, &[1, 1], 469, 21, 0),
+        (&p, &[1, 1], 128, 21, 0),
+        (&p, &[1, 3, 3], 469, 21, 0),
+        (&p, &[1, 3, 1, 3], 469, 21, 0),
+        (&p, &[1], 64, 21, 0),
+        (&p, &[1], 469, 21, 0),
+        (&p, &[1, 4], 64, 21, 0),
+        (&p, &[1, 3, 4], 469, 21, 0),
+        (&p, &[1, 2], 144, 21, 0),
+        (&p, &[0, 1, 2, 3], 989, 21, 0),
+        (&p, &[], 0, 21, 0),
+        (&one, &[0], 5, 0, 0),
+        (&one, &[0], 4, 22, 0),
+        (&one, &[0, 0], 5, 21, 0),
+        (&one, &[], 0, 21, 0),
+        (&none, &[], 0, 21, 0),
+        (&five, &band, 5, 21, 0),
+        (&eight, &fan, 6, 0, 0),
+        (&eight, &fan_and_solid, 10, 21, 0),
+    ];
+    let case = |&(job, list, stated, number, excess): &(&Job, &[u16], u64, u32, u64)| {
+        let patch = Patch { list: list.to_vec(), stated };
+        (job.clone(), patch, JudgeAnswer { number, excess })
+    };
+    cases.iter().map(case).collect()
+}

@@ -1,0 +1,63 @@
+//! A patch brought from elsewhere, as text in the form that the bench program prints (rule 5.4): a line
+//! `patch N T TOTAL`, then a line for each triangle, which begins with its vertices. What follows them
+//! is not read. Lines, and vertices in a line, may have any order.
+
+use crate::text::{lines, text};
+
+/// A triangle and the line it stands on, counted from 1.
+#[derive(Clone, Copy, Debug, PartialEq, Eq)]
+pub struct Named {
+    pub line: usize,
+    /// In rising order. The rim need not have them.
+    pub vertices: [u64; 3],
+}
+
+/// What the text says.
+#[derive(Clone, Debug, PartialEq, Eq)]
+pub struct Brought {
+    /// The line that states the next two, counted from 1.
+    pub line: usize,
+    /// How many vertices the rim has.
+    pub vertices: u64,
+    pub total: u64,
+    pub triangles: Vec<Named>,
+}
+
+/// The patch, or the first thing that keeps the text from being read.
+pub fn brought(bytes: &[u8]) -> Result<Brought, String> {
+    let text = text(bytes, "patch")?;
+    let mut lines = lines(&text);
+    let at = |line: usize| move |why: String| format!("line {line}: {why}");
+    let (line, first) = lines.next().ok_or("there is no line in the text")?;
+    let [vertices, count, total] = stated(first).map_err(at(line))?;
+    let triangle = |(line, words)| Ok(Named { line, vertices: triangle(words).map_err(at(line))? });
+    let triangles = lines.map(triangle).collect::<Result<Vec<Named>, String>>()?;
+    let named = triangles.len();
+    if named as u64 != count {
+        return Err(at(line)(format!("it says {count} triangles, the text has {named}")));
+    }
+    Ok(Brought { line, vertices, total, triangles })
+}
+
+/// N, T and TOTAL of the first line.
+fn stated(words: &str) -> Result<[u64; 3], String> {
+    let words: Vec<&str> = words.split_whitespace().collect();
+    let ["patch", n, t, total] = words[..] else {
+        return Err("a patch begins with the line patch N T TOTAL".into());
+    };
+    Ok([number(n)?, number(t)?, number(total)?])
+}
+
+fn triangle(words: &str) -> Result<[u64; 3], String> {
+    let words: Vec<&str> = words.split_whitespace().take(3).collect();
+    let [a, b, c] = words[..] else {
+        return Err(format!("a triangle has 3 vertices, this line has {}", words.len()));
+    };
+    let mut vertices = [number(a)?, number(b)?, number(c)?];
+    vertices.sort_unstable();
+    Ok(vertices)
+}
+
+fn number(word: &str) -> Result<u64, String> {
+    word.parse().map_err(|_| format!("'{word}' is not a whole number (a comment starts with #)"))
+}

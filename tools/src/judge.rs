@@ -1,0 +1,129 @@
+//! A patch brought from elsewhere, judged by the library. It decides; this only says where to look.
+
+use crate::brought::{brought, Brought, Named};
+use crate::geometry::rim_edges;
+use patch_box::{Number, OwnedTables};
+
+/// What the library says of a rim and a patch.
+#[derive(Clone, Debug, PartialEq, Eq)]
+pub enum Judgement {
+    /// How far the total of the patch is above the least of the rim.
+    Accepted {
+        excess: u64,
+    },
+    RimRefused(Number),
+    /// With the refusal in one line.
+    PatchRefused(Number, String),
+}
+
+/// The judgement, or why the text cannot be read as a patch of the rim.
+pub fn judge(file: &[u8], text: &[u8]) -> Result<Judgement, String> {
+    let mut job = match Job::of(file) {
+        Ok(job) => job,
+        Err(number) => return Ok(Judgement::RimRefused(number)),
+    };
+    let patch = brought(text)?;
+    if patch.vertices != job.n as u64 {
+        let Brought { line, vertices, .. } = patch;
+        return Err(format!("line {line}: it says {vertices} vertices, the rim has {}", job.n));
+    }
+    let list = job.numbers(&patch.triangles);
+    Ok(match job.judge(&list, patch.total) {
+        Ok(excess) => Judgement::Accepted { excess },
+        Err(number) => Judgement::PatchRefused(number, job.refusal(number, &patch, &list)),
+    })
+}
+
+/// The direct job of a rim (rule 3.1).
+struct Job {
+    n: usize,
+    tables: OwnedTables,
+}
+
+/// No candidate's number: no rim has so many.
+const NO_CANDIDATE: u16 = u16::MAX;
+
+impl Job {
+    fn of(file: &[u8]) -> Result<Job, Number> {
+        let mut tables = OwnedTables::new(patch_box::sizes(file)?);
+        let OwnedTables { candidates, weights, rows, .. } = &mut tables;
+        patch_box::find(file, candidates, weights, rows)?;
+        Ok(Job { n: patch_box::read(file)?, tables })
+    }
+
+    /// The candidate numbers of triangles. Candidates stand in rising order.
+    fn numbers(&self, triangles: &[Named]) -> Vec<u16> {
+        let candidates: Vec<[u64; 3]> =
+            self.tables.candidates.iter().map(|candidate| candidate.map(u64::from)).collect();
+        let number = |triangle: &Named| candidates.binary_search(&triangle.vertices);
+        triangles.iter().map(|t| number(t).map_or(NO_CANDIDATE, |k| k as u16)).collect()
+    }
+
+    fn judge(&mut self, list: &[u16], total: u64) -> Result<u64, Number> {
+        let OwnedTables { candidates, weights, rows, work, .. } = &mut self.tables;
+        patch_box::judge(self.n, candidates, weights, rows, list, total, work)
+    }
+
+    /// A refusal in one line, with its place where that is known.
+    fn refusal(&self, number: Number, patch: &Brought, list: &[u16]) -> String {
+        let place = match number {
+            Number::NotATriangulation => wrong_triangle(&patch.triangles, list)
+                .or_else(|| wrong_edge(&patch.triangles, self.n)),
+            Number::WrongTotal => {
+                let (line, stated, own) = (patch.line, patch.total, self.total(list));
+                Some(format!("line {line}: it says {stated}, the triangles have {own}"))
+            }
+            _ => None,
+        };
+        place.map_or(number.to_string(), |place| format!("{number}: {place}"))
+    }
+
+    /// Of a triangulation, by rule 3.4.
+    fn total(&self, list: &[u16]) -> u64 {
+        let listed = |number: u32| list.iter().any(|&k| k as u32 == number);
+        let own = list.iter().map(|&k| self.tables.weights[k as usize]);
+        let pairs = self.tables.rows.iter().filter(|row| listed(row[0]) && listed(row[1]));
+        own.chain(pairs.map(|row| row[2])).map(u64::from).sum()
+    }
+}
+
+/// The first triangle that is no candidate, or that an earlier line has too.
+fn wrong_triangle(triangles: &[Named], list: &[u16]) -> Option<String> {
+    (0..list.len()).find_map(|k| {
+        let Named { line, vertices: [a, b, c] } = triangles[k];
+        if list[k] == NO_CANDIDATE {
+            return Some(format!("line {line}: {a} {b} {c} is no candidate of the rim"));
+        }
+        let earlier = list[..k].iter().position(|&number| number == list[k])?;
+        Some(format!("line {line}: {a} {b} {c} is on line {} too", triangles[earlier].line))
+    })
+}
+
+/// The first edge that is not in as many triangles as rule 3.3 says, the rim edges before the others.
+fn wrong_edge(triangles: &[Named], n: usize) -> Option<String> {
+    let rim = rim_edges(n).find_map(|[i, j]| {
+        let count: usize = sides(triangles, [i, j]).iter().sum();
+        let line = format!("the rim edge from {i} to {j} is in {count} triangles, not in one");
+        (count != 1).then_some(line)
+    });
+    let inner = (0..n).flat_map(|i| (i + 2..n).map(move |j| [i, j]));
+    let mut inner = inner.filter(|&edge| edge != [0, n - 1]);
+    rim.or_else(|| {
+        inner.find_map(|[i, j]| {
+            let [one, other] = sides(triangles, [i, j]);
+            let line = format!(
+                "the edge from {i} to {j} is in {one} triangles on one side and {other} on the other"
+            );
+            (one != other || one > 1).then_some(line)
+        })
+    })
+}
+
+/// How many triangles with this edge have their third vertex between its ends, and how many do not.
+fn sides(triangles: &[Named], edge: [usize; 2]) -> [usize; 2] {
+    let edge = edge.map(|end| end as u64);
+    let with = triangles.iter().filter(|t| edge.iter().all(|end| t.vertices.contains(end)));
+    let (between, beside): (Vec<&Named>, Vec<&Named>) =
+        with.partition(|t| !edge.contains(&t.vertices[1]));
+    [between.len(), beside.len()]
+}
