@@ -111,20 +111,24 @@ fn job(n: usize, candidates: &[Triangle], weights: &[u32], rows: &[Row]) -> Job 
     Job { n, candidates: candidates.to_vec(), weights: weights.to_vec(), rows: rows.to_vec() }
 }
 
-/// Patches worked by hand, with their answers: of the jobs of rules 6.1 and 6.2, and surfaces that
-/// have each rim edge in one triangle and every other in none or two, but on one side of it.
+/// Patches worked by hand, with their answers: of the jobs of rules 6.1 to 6.3, of a job with the
+/// largest weights, and two surfaces that have each rim edge in one triangle and every other edge in
+/// none or two, but on one side of it. `band` is a Möbius band, `solid` has four faces.
 pub fn worked() -> Vec<(Job, Patch, JudgeAnswer)> {
     let p = job(4, &all_triples(4), &[80, 64, 80, 93], &[[1, 3, 312], [2, 0, 360]]);
+    let wrong_row = job(4, &all_triples(4), &[1; 4], &[[1, 0, 1]]);
     let one = job(3, &[[0, 1, 2]], &[5], &[]);
     let none = job(3, &[], &[], &[]);
-    let five = job(5, &all_triples(5), &[1; 10], &[]);
-    let eight = job(8, &all_triples(8), &[1; 56], &[]);
+    let no_job = job(65, &[], &[], &[]);
+    let heavy = 2_000_000_000;
+    let five = job(5, &all_triples(5), &[heavy; 10], &[[3, 0, heavy], [4, 0, heavy]]);
     let band = numbers(&five, &[[0, 1, 3], [0, 2, 3], [0, 2, 4], [1, 2, 4], [1, 3, 4]]);
-    let fan = (1..7).map(|b| [0, b, b + 1]).collect::<Vec<Triangle>>();
+    let eight = job(8, &all_triples(8), &[1; 56], &[]);
+    let fan: Vec<Triangle> = (1..7).map(|b| [0, b, b + 1]).collect();
     let solid = [[1, 3, 5], [1, 3, 7], [1, 5, 7], [3, 5, 7]];
     let fan_and_solid = numbers(&eight, &[&fan[..], &solid].concat());
     let fan = numbers(&eight, &fan);
-    let cases: [(&Job, &[u16], u64, u32, u64); 28] = [
+    let cases: [(&Job, &[u16], u64, u32, u64); 35] = [
         (&p, &[1, 3], 469, 0, 0),
         (&p, &[3, 1], 469, 0, 0),
         (&p, &[0, 2], 520, 0, 51),
@@ -145,12 +149,19 @@ pub fn worked() -> Vec<(Job, Patch, JudgeAnswer)> {
         (&p, &[1, 2], 144, 21, 0),
         (&p, &[0, 1, 2, 3], 989, 21, 0),
         (&p, &[], 0, 21, 0),
+        (&wrong_row, &[1], 1, 16, 0),
         (&one, &[0], 5, 0, 0),
         (&one, &[0], 4, 22, 0),
         (&one, &[0, 0], 5, 21, 0),
         (&one, &[], 0, 21, 0),
         (&none, &[], 0, 21, 0),
-        (&five, &band, 5, 21, 0),
+        (&no_job, &[], 0, 14, 0),
+        (&five, &[2, 7, 9], 6_000_000_000, 0, 0),
+        (&five, &[0, 3, 5], 8_000_000_000, 0, 2_000_000_000),
+        (&five, &[0, 3, 5], 8_000_000_000 + (1 << 32), 22, 0),
+        (&five, &[0, 3, 5], 8_000_000_000 - (1 << 32), 22, 0),
+        (&five, &[0, 3, 5], 10_000_000_000, 22, 0),
+        (&five, &band, 10_000_000_000, 21, 0),
         (&eight, &fan, 6, 0, 0),
         (&eight, &fan_and_solid, 10, 21, 0),
     ];

@@ -265,7 +265,8 @@ fn patches_of_rims() {
 fn patches_of_the_examples() {
     let mut random = Random::new(1);
     let folder = Path::new(env!("CARGO_MANIFEST_DIR")).join("../examples");
-    let files = std::fs::read_dir(folder).expect("examples").map(|file| file.expect("a file").path());
+    let files =
+        std::fs::read_dir(folder).expect("examples").map(|file| file.expect("a file").path());
     let without = files.filter(|path| {
         let is_rim = path.extension().is_some_and(|end| end == "rim");
         is_rim && !judge_rim(&std::fs::read(path).expect("a file"), &mut random)

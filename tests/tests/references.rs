@@ -1,7 +1,7 @@
 //! The references against each other and against other ways to the same thing.
 
 use outside_tests::calls::{Job, Places, Tables};
-use outside_tests::comparison::{compare_job, compare_rim};
+use outside_tests::comparison::{compare_job, compare_judge, compare_rim};
 use outside_tests::fast::FAST;
 use outside_tests::jobs::{all_fours, random_job};
 use outside_tests::law::finder::{
@@ -9,6 +9,7 @@ use outside_tests::law::finder::{
 };
 use outside_tests::law::grid::{grid_number, GridNumber};
 use outside_tests::law::{tilings, BY_INTERVALS, BY_SETS};
+use outside_tests::patches::all_of;
 use outside_tests::planes;
 use outside_tests::random::{seeds, Random};
 use outside_tests::rims::{lattice, Point, RimFile, Shape};
@@ -151,6 +152,24 @@ fn jobs_by_sets_by_intervals_and_fast() {
             let keep = random.one_of(&[100, 80, 60]);
             let rows = random.one_of(&[100, 60, 20, 0]);
             two_against_sets(&random_job(n, keep, rows, random.one_of(&[0, 1, 3]), &mut random));
+        }
+    }
+}
+
+#[test]
+fn judges_by_sets_by_intervals_and_fast() {
+    for seed in seeds("judges by three references") {
+        let mut random = Random::new(seed);
+        for _ in 0..60 {
+            let n = random.between(3, 5) as usize;
+            let keep = random.one_of(&[100, 80, 60]);
+            let rows = random.one_of(&[100, 60, 0]);
+            let job = random_job(n, keep, rows, random.one_of(&[0, 1, 1000]), &mut random);
+            for patch in all_of(&job, &mut random) {
+                let work = job.candidates.len();
+                compare_judge(&BY_SETS, &BY_INTERVALS, &job, &patch, work);
+                compare_judge(&BY_SETS, &FAST, &job, &patch, work);
+            }
         }
     }
 }

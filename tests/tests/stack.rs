@@ -3,8 +3,10 @@
 #![cfg(feature = "library")]
 
 use outside_tests::calls::{Lent, Places, Tables, MOST_BYTES};
-use outside_tests::jobs::random_job;
+use outside_tests::jobs::{random_job, random_tiling};
+use outside_tests::law::judge;
 use outside_tests::library::under_test;
+use outside_tests::patches::numbers;
 use outside_tests::random::Random;
 use outside_tests::rims::{Edition, RimFile, Shape};
 
@@ -42,7 +44,11 @@ fn every_call() {
     }
     let job = random_job(64, 100, 10, 1000, &mut random);
     let mut tables = Tables::of_job(&job, 62, job.candidates.len());
+    let list = numbers(&job, &random_tiling(64, &mut random));
+    let stated = judge::total(&job, &list);
+    let mut to_judge = Tables::of_patch(&job, &list, job.candidates.len());
     on_a_small_stack(move || {
         under_test().patch_job(64, &mut tables);
+        assert_eq!(under_test().judge(64, stated, &mut to_judge).number, 0);
     });
 }

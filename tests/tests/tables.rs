@@ -162,7 +162,8 @@ fn tables_of_the_judge() {
             let total = judge::total(&job, &list);
             let patches = [(0, &list[..], total), (22, &list, total + 1), (21, &list[1..], total)];
             let count = job.candidates.len();
-            for (work, weights) in (0..=count + 2).flat_map(|w| (0..=count + 2).map(move |x| (w, x)))
+            for (work, weights) in
+                (0..=count + 2).flat_map(|w| (0..=count + 2).map(move |x| (w, x)))
             {
                 let enough = count <= work && count <= weights;
                 let job = with_weights(&job, weights);

@@ -4,12 +4,13 @@ use outside_tests::calls::{Calls, Job, JudgeAnswer, Patch, Tables};
 use outside_tests::damaged_jobs::{damaged, OF_JOBS};
 use outside_tests::jobs::random_job;
 use outside_tests::law::judge::{is_tiling, named, number_of_job, total};
-use outside_tests::law::tilings::{self, walk};
-use outside_tests::law::BY_SETS;
-use outside_tests::patches::{all_of, worked};
+use outside_tests::law::tilings::{best, walk};
+use outside_tests::law::{tests_of_jobs, BY_SETS};
+use outside_tests::patches::{all_of, least_total, worked};
 use outside_tests::random::Random;
 
-/// What a judge knows of an accepted job and a patch.
+/// What a judge knows of a patch, and of its job.
+#[derive(Clone, Copy)]
 struct Known {
     is_tiling: bool,
     total: u64,
@@ -20,12 +21,12 @@ struct Known {
 /// A judge in steps. A wrong one has one of them changed.
 #[derive(Clone, Copy)]
 struct Steps {
-    /// The number of a job with so many work places.
+    /// The number of a job with so many work places, or one of its list that comes before.
     number_of_job: fn(&Job, &[u16], usize) -> Option<u32>,
     is_tiling: fn(&Job, &[u16]) -> bool,
     total: fn(&Job, &[u16]) -> u64,
-    number_of_patch: fn(&Known) -> Option<u32>,
-    excess: fn(&Known) -> u64,
+    number_of_patch: fn(Known) -> Option<u32>,
+    excess: fn(Known) -> u64,
     /// The work places that hold 0 after this number, by the candidates and by all places.
     cleared: fn(u32, usize, usize) -> usize,
 }
@@ -34,17 +35,21 @@ const RIGHT: Steps = Steps {
     number_of_job: |job, _, work| number_of_job(job, work),
     is_tiling,
     total,
-    number_of_patch: |known| match (known.is_tiling, known.total == known.stated) {
-        (false, _) => Some(21),
-        (true, false) => Some(22),
-        (true, true) => None,
-    },
+    number_of_patch,
     excess: |known| known.stated.wrapping_sub(known.least),
     cleared: |number, candidates, _| if number == 0 { candidates } else { 0 },
 };
 
+fn number_of_patch(known: Known) -> Option<u32> {
+    match (known.is_tiling, known.total == known.stated) {
+        (false, _) => Some(21),
+        (true, false) => Some(22),
+        (true, true) => None,
+    }
+}
+
 impl Steps {
-    fn answer(&self, job: &Job, patch: &Patch, work: usize) -> JudgeAnswer {
+    fn answer(&self, job: &Job, patch: &Patch, least: u64, work: usize) -> JudgeAnswer {
         if let Some(number) = (self.number_of_job)(job, &patch.list, work) {
             return JudgeAnswer::refused(number);
         }
@@ -52,54 +57,47 @@ impl Steps {
             is_tiling: (self.is_tiling)(job, &patch.list),
             total: (self.total)(job, &patch.list),
             stated: patch.stated,
-            least: tilings::best(job).map_or(0, |best| best.total),
+            least,
         };
-        match (self.number_of_patch)(&known) {
+        match (self.number_of_patch)(known) {
             Some(number) => JudgeAnswer::refused(number),
-            None => JudgeAnswer { number: 0, excess: (self.excess)(&known) },
+            None => JudgeAnswer { number: 0, excess: (self.excess)(known) },
         }
     }
 
     /// The answer, and the tables after it.
-    fn judge(&self, job: &Job, patch: &Patch, work: usize) -> (JudgeAnswer, Tables) {
+    fn judge(&self, job: &Job, patch: &Patch, least: u64, work: usize) -> (JudgeAnswer, Tables) {
         let mut tables = Tables::of_patch(job, &patch.list, work);
-        let answer = self.answer(job, patch, work);
+        let answer = self.answer(job, patch, least, work);
         let cleared = (self.cleared)(answer.number, job.candidates.len(), work);
         tables.work.fill(&vec![0; cleared]);
         (answer, tables)
     }
 }
 
-/// The law's answer, and the tables after it.
-fn right(job: &Job, patch: &Patch, work: usize) -> (JudgeAnswer, Tables) {
-    let mut tables = Tables::of_patch(job, &patch.list, work);
-    (BY_SETS.judge(job.n, patch.stated, &mut tables), tables)
-}
-
 fn names_once(job: &Job, list: &[u16]) -> bool {
     named(job, list).len() == list.len()
 }
 
-/// Each rim edge is in one triangle, and each other edge in as many as will do.
-fn edges_fit(job: &Job, list: &[u16], others: fn(usize) -> bool) -> bool {
+/// Each rim edge is in one triangle, and every other in as many as will do.
+fn edges_fit(job: &Job, list: &[u16], will_do: fn(usize) -> bool) -> bool {
     let fits = |i: u8, j: u8| {
         let triangles = list.iter().map(|&k| job.candidates[k as usize]);
         let uses = triangles.filter(|t| t.contains(&i) && t.contains(&j)).count();
-        match j - i == 1 || (j - i) as usize == job.n - 1 {
+        match j == i + 1 || (j - i) as usize == job.n - 1 {
             true => uses == 1,
-            false => others(uses),
+            false => will_do(uses),
         }
     };
     let n = job.n as u8;
     names_once(job, list) && (0..n).all(|i| (i + 1..n).all(|j| fits(i, j)))
 }
 
-/// A repeat counts once.
-fn as_a_set(job: &Job, list: &[u16]) -> bool {
-    let mut set = list.to_vec();
-    set.sort_unstable();
-    set.dedup();
-    is_tiling(job, &set)
+fn without_repeats(job: &Job, list: &[u16]) -> bool {
+    let mut list = list.to_vec();
+    list.sort_unstable();
+    list.dedup();
+    is_tiling(job, &list)
 }
 
 fn without_numbers_past(job: &Job, list: &[u16]) -> bool {
@@ -113,54 +111,132 @@ fn in_walk_order(job: &Job, list: &[u16]) -> bool {
     is_tiling(job, list) && list == walk(&job.candidates, &named(job, list), 0, last)
 }
 
-fn or_none(job: &Job, list: &[u16]) -> bool {
-    is_tiling(job, list) || (list.is_empty() && tilings::best(job).is_none())
-}
-
 fn without_rows(job: &Job, list: &[u16]) -> u64 {
     total(&Job { rows: Vec::new(), ..job.clone() }, list)
 }
 
-/// Each row whose inner is in the list counts, and its outer need not be.
+/// A row counts where its inner is in the list, and its outer need not be.
 fn rows_by_the_inner(job: &Job, list: &[u16]) -> u64 {
     let set = named(job, list);
     let rows = job.rows.iter().filter(|row| set.contains(&(row[1] as usize)));
     without_rows(job, list) + rows.map(|row| row[2] as u64).sum::<u64>()
 }
 
-fn first_number(one: Option<u32>, is_due: bool, number: u32) -> Option<u32> {
-    one.or(is_due.then_some(number))
+fn wrong_total_first(known: Known) -> Option<u32> {
+    match (known.is_tiling, known.total == known.stated) {
+        (_, false) => Some(22),
+        (false, true) => Some(21),
+        (true, true) => None,
+    }
 }
 
-const WRONG: [(&str, Steps); 21] = [
-    ("edges without their sides", Steps {
-        is_tiling: |job, list| edges_fit(job, list, |uses| uses == 0 || uses == 2),
-        ..RIGHT
+fn length_first(job: &Job, list: &[u16], work: usize) -> Option<u32> {
+    match list.len().checked_add(2) == Some(job.n) {
+        true => number_of_job(job, work),
+        false => Some(21),
+    }
+}
+
+const WRONG: [(&str, fn(&mut Steps)); 21] = [
+    ("edges without their sides", |s| {
+        s.is_tiling = |job, list| edges_fit(job, list, |uses| uses == 0 || uses == 2);
     }),
-    ("rim edges alone", Steps { is_tiling: |job, list| edges_fit(job, list, |_| true), ..RIGHT }),
-    ("any n - 2 candidates", Steps {
-        is_tiling: |job, list| names_once(job, list) && list.len() == job.n - 2,
-        ..RIGHT
+    ("rim edges alone", |s| s.is_tiling = |job, list| edges_fit(job, list, |_| true)),
+    ("any n - 2 candidates", |s| {
+        s.is_tiling = |job, list| names_once(job, list) && list.len() == job.n - 2;
     }),
-    ("a repeat let through", Steps { is_tiling: as_a_set, ..RIGHT }),
-    ("numbers past the candidates overlooked", Steps { is_tiling: without_numbers_past, ..RIGHT }),
-    ("walk order asked for", Steps { is_tiling: in_walk_order, ..RIGHT }),
-    ("an empty list for 'none'", Steps { is_tiling: or_none, ..RIGHT }),
-    ("rows left out of the total", Steps { total: without_rows, ..RIGHT }),
-    ("a row of a pair not in the list", Steps { total: rows_by_the_inner, ..RIGHT }),
-    ("a total of 32 bits", Steps { total: |job, list| total(job, list) as u32 as u64, ..RIGHT }),
-    ("a stated total of 32 bits", Steps {
-        number_of_patch: |known| {
-            let stated = known.stated as u32 as u64;
-            (RIGHT.number_of_patch)(&Known { stated, ..*known })
-        },
-        ..RIGHT
+    ("a repeat let through", |s| s.is_tiling = without_repeats),
+    ("numbers past the candidates overlooked", |s| s.is_tiling = without_numbers_past),
+    ("walk order asked for", |s| s.is_tiling = in_walk_order),
+    ("an empty list for 'none'", |s| {
+        s.is_tiling = |job, list| is_tiling(job, list) || (list.is_empty() && best(job).is_none());
     }),
-    ("22 before 21", Steps {
-        number_of_patch: |known| {
-            let wrong_total = (known.total != known.stated).then_some(22);
-            wrong_total.or((!known.is_tiling).then_some(21))
-        },
-        ..RIGHT
+    ("rows left out of the total", |s| s.total = without_rows),
+    ("a row of a pair not in the list", |s| s.total = rows_by_the_inner),
+    ("a total of 32 bits", |s| s.total = |job, list| total(job, list) as u32 as u64),
+    ("a stated total of 32 bits", |s| {
+        s.number_of_patch =
+            |known| number_of_patch(Known { stated: known.stated as u32 as u64, ..known });
     }),
+    ("a stated total above the list's", |s| {
+        s.number_of_patch =
+            |known| number_of_patch(Known { stated: known.stated.min(known.total), ..known });
+    }),
+    ("the least total asked for", |s| {
+        s.number_of_patch = |known| number_of_patch(Known { total: known.least, ..known });
+    }),
+    ("22 before 21", |s| s.number_of_patch = wrong_total_first),
+    ("21 before the numbers of the job", |s| s.number_of_job = length_first),
+    ("13 for a short list", |s| {
+        s.number_of_job = |job, list, work| tests_of_jobs::number_due(job, list.len(), work);
+    }),
+    ("excess over the list's total", |s| s.excess = |known| known.stated - known.total),
+    ("excess below zero", |s| s.excess = |known| known.least.wrapping_sub(known.stated)),
+    ("work cleared on 21", |s| {
+        s.cleared = |number, candidates, _| if [0, 21].contains(&number) { candidates } else { 0 };
+    }),
+    ("work cleared to its end", |s| {
+        s.cleared = |number, _, places| if number == 0 { places } else { 0 };
+    }),
+    ("work not cleared", |s| s.cleared = |_, _, _| 0),
 ];
+
+/// How many cases tell each wrong judge from the right one.
+struct Told {
+    times: [(&'static str, usize); WRONG.len()],
+}
+
+impl Told {
+    fn by_nothing() -> Told {
+        Told { times: WRONG.map(|(name, _)| (name, 0)) }
+    }
+
+    /// One case more for each patch of a job. The steps by themselves are right.
+    fn by(&mut self, job: &Job, patches: &[Patch], work: usize) {
+        let least = number_of_job(job, work).map_or_else(|| least_total(job), |_| 0);
+        for patch in patches {
+            let mut tables = Tables::of_patch(job, &patch.list, work);
+            let right = (BY_SETS.judge(job.n, patch.stated, &mut tables), tables);
+            assert!(RIGHT.judge(job, patch, least, work) == right, "{patch:?} and {job:?}");
+            for ((_, change), (_, times)) in WRONG.iter().zip(&mut self.times) {
+                let mut steps = RIGHT;
+                change(&mut steps);
+                *times += (steps.judge(job, patch, least, work) != right) as usize;
+            }
+        }
+    }
+
+    fn expect_over(&self, least: usize) {
+        assert!(self.times.iter().all(|&(_, times)| times > least), "{:?}", self.times);
+    }
+}
+
+#[test]
+fn told_by_the_worked_cases() {
+    let mut told = Told::by_nothing();
+    for (job, patch, _) in worked() {
+        told.by(&job, &[patch], job.candidates.len() + 1);
+    }
+    told.expect_over(0);
+}
+
+/// Patches as those that `judge` compares by: many tell each wrong judge from the right one.
+#[test]
+fn told_by_patches_of_small_jobs() {
+    let mut random = Random::new(1);
+    let mut told = Told::by_nothing();
+    for case in 0..360 {
+        let keep = random.one_of(&[100, 70]);
+        let highest = random.one_of(&[0, 1, 1000, 2_000_000_000]);
+        let job = random_job(3 + case % 3, keep, 70, highest, &mut random);
+        let patches = all_of(&job, &mut random);
+        told.by(&job, &patches, job.candidates.len() + random.below(2));
+    }
+    let lists: [&[u16]; 3] = [&[0, 3, 5], &[0, 3], &[]];
+    let patches = lists.map(|list| Patch { list: list.to_vec(), stated: 21 });
+    for damage in OF_JOBS {
+        let lending = damaged(&[damage]);
+        told.by(&lending.job, &patches, lending.places[1]);
+    }
+    told.expect_over(30);
+}

@@ -28,10 +28,10 @@ the last point, to the first), which the patch is to leave smoothly: three whole
 1000, best of length 1000, or, where one has a decimal mark, a direction of any length. It looks to
 the side from which the rim runs counterclockwise. 0 0 0, or no normal, is no surface. With a normal
 in it the list makes a file of edition 2, without one a file of edition 1.
-RIM is a rim file of either edition. PATCH is text as ./patch prints it: patch N T TOTAL, then a line
-for each triangle. Of such a line the three vertices that it begins with are read; lines, and vertices
-in a line, may be in any order, and # starts a comment. For one of POINTS, RIM and PATCH, - is
-standard input.
+RIM is a rim file of either edition. PATCH is text in the form that ./patch prints: patch N T TOTAL,
+then a line for each of the T triangles, which begins with its three vertices; the rest of it is not
+read. The lines of triangles, and the vertices in each, may be in any order; # starts a comment.
+For any one of POINTS, RIM and PATCH, - is standard input.
 
   --area N          area factor, 0 to 16 (default 1)
   --bend N          bend factor, 0 to 65535 (default 1)
@@ -43,7 +43,7 @@ standard input.
   -o FILE           write to FILE, which is replaced only by a complete one (default: standard output)
 
 Status: 0 done; 1 the list, the rim or the patch is refused, or there is no patch to mill; 2 it could
-not run, or PATCH is no patch of the rim that can be read.
+not run, or PATCH cannot be read as a patch of RIM.
 ";
 
 /// The commands in words.

@@ -27,16 +27,18 @@ pub struct Brought {
 pub fn brought(bytes: &[u8]) -> Result<Brought, String> {
     let text = text(bytes, "patch")?;
     let mut lines = lines(&text);
-    let at = |line: usize| move |why: String| format!("line {line}: {why}");
     let (line, first) = lines.next().ok_or("there is no line in the text")?;
-    let [vertices, count, total] = stated(first).map_err(at(line))?;
-    let triangle = |(line, words)| Ok(Named { line, vertices: triangle(words).map_err(at(line))? });
-    let triangles = lines.map(triangle).collect::<Result<Vec<Named>, String>>()?;
+    let [vertices, count, total] = stated(first).map_err(|why| at(line, why))?;
+    let triangles = lines.map(named).collect::<Result<Vec<Named>, String>>()?;
     let named = triangles.len();
     if named as u64 != count {
-        return Err(at(line)(format!("it says {count} triangles, the text has {named}")));
+        return Err(at(line, format!("it says {count} triangles, the text has {named}")));
     }
     Ok(Brought { line, vertices, total, triangles })
+}
+
+fn at(line: usize, why: String) -> String {
+    format!("line {line}: {why}")
 }
 
 /// N, T and TOTAL of the first line.
@@ -46,6 +48,11 @@ fn stated(words: &str) -> Result<[u64; 3], String> {
         return Err("a patch begins with the line patch N T TOTAL".into());
     };
     Ok([number(n)?, number(t)?, number(total)?])
+}
+
+fn named((line, words): (usize, &str)) -> Result<Named, String> {
+    let vertices = triangle(words).map_err(|why| at(line, why))?;
+    Ok(Named { line, vertices })
 }
 
 fn triangle(words: &str) -> Result<[u64; 3], String> {

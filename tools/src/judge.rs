@@ -7,10 +7,8 @@ use patch_box::{Number, OwnedTables};
 /// What the library says of a rim and a patch.
 #[derive(Clone, Debug, PartialEq, Eq)]
 pub enum Judgement {
-    /// How far the total of the patch is above the least of the rim.
-    Accepted {
-        excess: u64,
-    },
+    /// By so much is the total of the patch above the least of the rim.
+    Accepted(u64),
     RimRefused(Number),
     /// With the refusal in one line.
     PatchRefused(Number, String),
@@ -29,7 +27,7 @@ pub fn judge(file: &[u8], text: &[u8]) -> Result<Judgement, String> {
     }
     let list = job.numbers(&patch.triangles);
     Ok(match job.judge(&list, patch.total) {
-        Ok(excess) => Judgement::Accepted { excess },
+        Ok(excess) => Judgement::Accepted(excess),
         Err(number) => Judgement::PatchRefused(number, job.refusal(number, &patch, &list)),
     })
 }
@@ -99,23 +97,26 @@ fn wrong_triangle(triangles: &[Named], list: &[u16]) -> Option<String> {
     })
 }
 
-/// The first edge that is not in as many triangles as rule 3.3 says, the rim edges before the others.
+/// The first edge that is not in the triangles that rule 3.3 asks for, rim edges before others.
 fn wrong_edge(triangles: &[Named], n: usize) -> Option<String> {
-    let rim = rim_edges(n).find_map(|[i, j]| {
+    wrong_rim_edge(triangles, n).or_else(|| wrong_inner_edge(triangles, n))
+}
+
+fn wrong_rim_edge(triangles: &[Named], n: usize) -> Option<String> {
+    rim_edges(n).find_map(|[i, j]| {
         let count: usize = sides(triangles, [i, j]).iter().sum();
         let line = format!("the rim edge from {i} to {j} is in {count} triangles, not in one");
         (count != 1).then_some(line)
-    });
-    let inner = (0..n).flat_map(|i| (i + 2..n).map(move |j| [i, j]));
-    let mut inner = inner.filter(|&edge| edge != [0, n - 1]);
-    rim.or_else(|| {
-        inner.find_map(|[i, j]| {
-            let [one, other] = sides(triangles, [i, j]);
-            let line = format!(
-                "the edge from {i} to {j} is in {one} triangles on one side and {other} on the other"
-            );
-            (one != other || one > 1).then_some(line)
-        })
+    })
+}
+
+fn wrong_inner_edge(triangles: &[Named], n: usize) -> Option<String> {
+    let pairs = (0..n).flat_map(|i| (i + 2..n).map(move |j| [i, j]));
+    pairs.filter(|&pair| pair != [0, n - 1]).find_map(|[i, j]| {
+        let [one, other] = sides(triangles, [i, j]);
+        let each = "does not have one triangle on each side, but";
+        let line = format!("the edge from {i} to {j} {each} {one} and {other}");
+        (one != other || one > 1).then_some(line)
     })
 }
 

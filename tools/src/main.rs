@@ -66,7 +66,7 @@ fn judged(rim: &Place, patch: &Place) -> Result<Answer, Failure> {
     let said = |place: &Place, why: String| format!("{}: {why}", place.name());
     let judgement = judge(&file, &text).map_err(|why| Failure::CannotRun(said(patch, why)))?;
     let (number, why) = match judgement {
-        Judgement::Accepted { excess } => {
+        Judgement::Accepted(excess) => {
             return Ok((format!("accepted {excess}\n").into_bytes(), Ok(0)));
         }
         Judgement::RimRefused(number) => {

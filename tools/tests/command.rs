@@ -17,7 +17,7 @@ fn help() {
 
 #[test]
 fn wrong_arguments() {
-    let commands = "make, show, draw, stl or obj";
+    let commands = "make, show, draw, stl, obj or judge";
     run(&[], b"").refused(2, &format!("a command is expected: {commands} (./rim --help)"));
     run(&["close", "x"], b"").refused(2, &format!("there is no command 'close': {commands}"));
     let files = |name: &str, count: usize| {

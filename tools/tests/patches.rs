@@ -2,27 +2,10 @@
 
 mod common;
 
-use common::{bytes_of, example, made, run};
+use common::{bytes_of, example, made, run, RIMS};
 use patch_box::{Number, Outcome, OwnedTables, TRIM_VERTICES};
 use rim::patch::{close, Triangle};
 use std::collections::HashMap;
-
-const RIMS: [&str; 14] = [
-    "p.rim",
-    "triangle.rim",
-    "flat5.rim",
-    "dent.rim",
-    "tilted.rim",
-    "cut24.rim",
-    "cut25.rim",
-    "saddle12.rim",
-    "ring64.rim",
-    "gap.rim",
-    "halves.rim",
-    "ridge.rim",
-    "ridge-normals.rim",
-    "skew64.rim",
-];
 
 /// Each example is what the tool makes today. `./rim` with the words writes it again.
 #[test]

@@ -2,7 +2,7 @@
 
 mod common;
 
-use common::{bytes_of, made, run, with_normals};
+use common::{bytes_of, made, run, with_normals, Numbers};
 use patch_box::Number;
 use rim::diagnosis::diagnose;
 use rim::patch::close;
@@ -225,16 +225,6 @@ fn last_line(file: &[u8], number: Number, place: &str) {
     assert_eq!((shown.status, shown.errors.as_str()), (1, ""), "{place}");
     let text = shown.text();
     assert_eq!(text.lines().last(), Some(format!("{number}: {place}").as_str()));
-}
-
-/// A small generator of numbers, the same in every run.
-struct Numbers(u64);
-
-impl Numbers {
-    fn below(&mut self, limit: usize) -> usize {
-        self.0 = self.0.wrapping_mul(6364136223846793005).wrapping_add(1442695040888963407);
-        (self.0 >> 33) as usize % limit
-    }
 }
 
 /// The tool finds the number that the library gives, on files damaged anywhere.

@@ -46,7 +46,7 @@ module _ (n : ℕ) (candidates : List (List ℕ)) (weights : List ℕ) (rows : L
   T k = test n candidates weights rows tp wp k
 
   -- the number is that of the first test in the order that fails
-  code-first : jobCode n candidates weights rows tp wp ≡ firstOf T order
+  pub code-first : jobCode n candidates weights rows tp wp ≡ firstOf T order
   unfolding jobCode listsCode
   code-first =
       ap (λ x. unless (countFits n) 14 (unless (enough (n - 2) tp) 13 x)) (unless-both (enough (length candidates) wp) (enough (length candidates) (length weights)) 13 _)

@@ -1,16 +1,18 @@
-//! Times of the reader, the finder, the tiler and the whole call beside the fast reference in the
-//! same run, over changing rims and jobs. Each figure is the least mean of several rounds, in
+//! Times of the reader, the finder, the tiler, the whole call and the judge beside the fast reference
+//! in the same run, over changing rims and jobs. Each figure is the least mean of several rounds, in
 //! microseconds per call: library, reference, and library / reference. The time is the clock's:
 //! the machine should be quiet, and the least round is the one that other work disturbed least.
 //! The finder's call reads the file too. The first table is of rim files of edition 1, at its end of
-//! flat rims; another has the whole call on the same rims but the flat ones in both editions, and the
+//! flat rims; the next has direct jobs, with the judge of the tiler's patch beside the tiler on the
+//! same job, and the one after it the same two on the lists of those rims of the first table that have
+//! a patch. Another has the whole call on the same rims but the flat ones in both editions, and the
 //! last the conversion of files, spare records and all. Without the library only the reference is
 //! timed.
 
 #![forbid(unsafe_code)]
 
-use outside_tests::calls::{Calls, Job, Lent, Places, Tables, MOST_BYTES};
-use outside_tests::comparison::compare_conversion;
+use outside_tests::calls::{Calls, Job, Lent, Patch, Places, Tables, MOST_BYTES};
+use outside_tests::comparison::{compare_conversion, compare_judge};
 use outside_tests::fast::FAST;
 use outside_tests::jobs::{job_of, random_job};
 use outside_tests::library::library;
@@ -83,6 +85,35 @@ fn tables_of(job: &Job) -> Tables {
     Tables::of_job(job, 62, job.candidates.len())
 }
 
+fn tiler_times(jobs: &[Job]) -> Times {
+    let mut tables: Vec<Tables> = jobs.iter().map(tables_of).collect();
+    measure(jobs.len(), &mut |calls, case| {
+        black_box(calls.patch_job(jobs[case].n, &mut tables[case]));
+    })
+}
+
+/// The tiler's patch of a job, or an empty list.
+fn patch_of(job: &Job) -> Patch {
+    let mut tables = tables_of(job);
+    let answer = FAST.patch_job(job.n, &mut tables);
+    Patch { list: tables.triangles.view()[..answer.triangles].to_vec(), stated: answer.total }
+}
+
+/// The judge of the tiler's patches.
+fn judge_times(jobs: &[Job]) -> Times {
+    let patches: Vec<Patch> = jobs.iter().map(patch_of).collect();
+    let both = || jobs.iter().zip(&patches);
+    for (job, patch) in both() {
+        compare_judge(&FAST, library().unwrap_or(&FAST), job, patch, job.candidates.len());
+    }
+    let tables =
+        both().map(|(job, patch)| Tables::of_patch(job, &patch.list, job.candidates.len()));
+    let mut tables: Vec<Tables> = tables.collect();
+    measure(jobs.len(), &mut |calls, case| {
+        black_box(calls.judge(jobs[case].n, patches[case].stated, &mut tables[case]));
+    })
+}
+
 /// The rims of one line of a table, by a maker of points.
 fn rim_files(n: usize, mut points: impl FnMut() -> Vec<Point>) -> Vec<RimFile> {
     (0..256 / n).map(|_| RimFile::plain(&points(), 1, 1)).collect()
@@ -111,7 +142,6 @@ fn rims(shape: &str, n: usize, files: Vec<RimFile>) {
     let files: Vec<Vec<u8>> = files.iter().map(RimFile::bytes).collect();
     let count = files.len();
     let jobs: Vec<Job> = files.iter().map(|file| job_of(&FAST, file, &mut tables)).collect();
-    let mut job_tables: Vec<Tables> = jobs.iter().map(tables_of).collect();
     check_rims(&files);
     let reader = measure(count, &mut |calls, case| {
         black_box(calls.read_rim(black_box(&files[case])));
@@ -119,9 +149,7 @@ fn rims(shape: &str, n: usize, files: Vec<RimFile>) {
     let finder = measure(count, &mut |calls, case| {
         black_box(calls.find_candidates(black_box(&files[case]), &mut tables));
     });
-    let tiler = measure(count, &mut |calls, case| {
-        black_box(calls.patch_job(n, &mut job_tables[case]));
-    });
+    let tiler = tiler_times(&jobs);
     let whole = measure(count, &mut |calls, case| {
         black_box(calls.patch_rim(black_box(&files[case]), &mut tables));
     });
@@ -179,17 +207,29 @@ fn conversions(n: usize, spare: usize, random: &mut Random) {
 fn jobs(n: usize, rows: usize, random: &mut Random) {
     let count = if n > 32 { 2 } else { 8 };
     let jobs: Vec<Job> = (0..count).map(|_| random_job(n, 100, rows, 1000, random)).collect();
-    let mut tables: Vec<Tables> = jobs.iter().map(tables_of).collect();
     check(count, |calls, case| {
         let mut left = tables_of(&jobs[case]);
         calls.patch_job(n, &mut left);
         left
     });
-    let tiler = measure(count, &mut |calls, case| {
-        black_box(calls.patch_job(n, &mut tables[case]));
-    });
+    let [tiler, judge] = [tiler_times(&jobs), judge_times(&jobs)];
     let [candidates, rows] = [jobs[0].candidates.len(), jobs[0].rows.len()];
-    println!("{n:>2} {candidates:>6} {rows:>8} {}", tiler.shown());
+    println!("{n:>2} {candidates:>6} {rows:>8} {} {}", tiler.shown(), judge.shown());
+}
+
+/// The tiler and the judge on the lists of rims, where they have a patch.
+fn patches_of_rims(shape: Shape, n: usize, random: &mut Random) {
+    let mut tables = Tables::guarded(Places::ENOUGH);
+    let files = rim_files(n, || shape.points(n, 1000, random)).into_iter();
+    let mut jobs: Vec<Job> = files.map(|file| job_of(&FAST, &file.bytes(), &mut tables)).collect();
+    let rims = jobs.len();
+    jobs.retain(|job| !patch_of(job).list.is_empty());
+    if !jobs.is_empty() {
+        let [tiler, judge] = [tiler_times(&jobs), judge_times(&jobs)];
+        let patches = format!("{} of {rims}", jobs.len());
+        let shape = format!("{shape:?}");
+        println!("{shape:<12} {n:>2} {patches:>8} {} {}", tiler.shown(), judge.shown());
+    }
 }
 
 fn main() {
@@ -211,12 +251,22 @@ fn main() {
         rims("Flat", n, rim_files(n, || flat_rim(n, &mut of_planes)));
     }
     println!(
-        "\ndirect jobs over all triples\n{:>2} {:>6} {:>8} {:>30}",
-        "n", "cand", "rows", "tiler"
+        "\ndirect jobs over all triples\n{:>2} {:>6} {:>8} {:>30} {:>30}",
+        "n", "cand", "rows", "tiler", "judge"
     );
     for n in SIZES {
         for rows in [0, 10, 100] {
             jobs(n, rows, &mut random);
+        }
+    }
+    println!(
+        "\npatches of rims judged\n{:<12} {:>2} {:>8} {:>30} {:>30}",
+        "shape", "n", "patches", "tiler", "judge"
+    );
+    let mut random = Random::new(1);
+    for shape in Shape::GENERAL {
+        for n in SIZES {
+            patches_of_rims(shape, n, &mut random);
         }
     }
     println!(

@@ -63,6 +63,24 @@ pub fn refused(list: impl AsRef<[u8]>, line: &str) {
     run(&["make", "-"], list.as_ref()).refused(1, &format!("standard input: {line}"));
 }
 
+/// The rims of examples/ that have a patch.
+pub const RIMS: [&str; 14] = [
+    "p.rim",
+    "triangle.rim",
+    "flat5.rim",
+    "dent.rim",
+    "tilted.rim",
+    "cut24.rim",
+    "cut25.rim",
+    "saddle12.rim",
+    "ring64.rim",
+    "gap.rim",
+    "halves.rim",
+    "ridge.rim",
+    "ridge-normals.rim",
+    "skew64.rim",
+];
+
 /// A file of examples/.
 pub fn example(name: &str) -> PathBuf {
     Path::new(env!("CARGO_MANIFEST_DIR")).join("../examples").join(name)
@@ -80,6 +98,16 @@ pub fn with_normals(file: &[u8], normal: [i16; 3]) -> Vec<u8> {
         bytes.extend(normal.iter().flat_map(|number| number.to_le_bytes()));
     }
     bytes
+}
+
+/// A small generator of numbers, the same in every run.
+pub struct Numbers(pub u64);
+
+impl Numbers {
+    pub fn below(&mut self, limit: usize) -> usize {
+        self.0 = self.0.wrapping_mul(6364136223846793005).wrapping_add(1442695040888963407);
+        (self.0 >> 33) as usize % limit
+    }
 }
 
 /// An empty folder that goes with its value.

@@ -1,0 +1,4 @@
+pub mod Tilings
+pub mod Numbers
+pub mod Least
+pub mod Settling

@@ -1,0 +1,128 @@
+-- The number that the judge gives is exactly the first that is due. Assumes nothing.
+use Prim.Native.Nat.{ℕ, zero, suc, _-_, _<_}
+use mathlib.Core.Path.{_≡_, refl, sym, ap, _∙_, subst}
+use mathlib.Core.Bool.{Bool, true, false, cond}
+use mathlib.Core.List.{List, List·Memᴰ, List·Memᴰ·head, List·Memᴰ·tail, List·Memᴰ·not-nil, List·Memᴰ·cases-cons}
+use mathlib.Core.Logic.{⊎-elim}
+use native.Mathlib.Omega.{arith}
+use lib.Dec.{eqb}
+use borrow.Author.Tests.{eqb-false, ne-eqb}
+use Rattle.lists.proofs.Choice.{true-not-false, not-true-false, not-false-true}
+use Rattle.triangulation.specs.Triangulations.{Job}
+use Rattle.triangulation.specs.Jobs.{jobOf}
+use Rattle.jobs.specs.Job.{unless, jobCode}
+use Rattle.jobs.specs.Due.{Accepted}
+use Rattle.jobs.specs.Due as job-due
+use Rattle.jobs.proofs.First.{up-listed, firstOf, first-fails, fails-first}
+use Rattle.jobs.proofs.Failing.{test, due-fails, due-listed, fails-due}
+use Rattle.jobs.proofs.Acceptance.{code-first, accepted-zero, zero-accepted}
+use Rattle.validation.specs.Validation.{named, isTiling, listTotal, listCode}
+use Rattle.judge.specs.Call.{orElse, judgeCode}
+use Rattle.judge.specs.Demands.{Acceptable}
+use Rattle.judge.specs.Due.{order, JudgeDue, of-job, no-tiling, other-total, FirstDue}
+use Rattle.judge.proofs.Tilings.{tiling-is, is-tiling, zero-acceptable, acceptable-zero}
+
+or-zero : (a b : ℕ) → orElse a b ≡ 0 → (a ≡ 0) × (b ≡ 0)
+or-zero zero b e = (refl, e)
+or-zero (suc a) b e = absurd (omega arith)
+
+-- the next number comes after the last test
+or-unless : (t : Bool) (k rest next : ℕ) → orElse (unless t (suc k) rest) next ≡ unless t (suc k) (orElse rest next)
+or-unless true k rest next = refl
+or-unless false k rest next = refl
+
+module _ (n : ℕ) (candidates : List (List ℕ)) (weights : List ℕ) (rows : List (List ℕ)) (list : List ℕ) (stated workPlaces : ℕ) where
+  abbrev job : Job
+  job = jobOf n candidates weights rows
+
+  abbrev code : ℕ
+  code = judgeCode n candidates weights rows list stated workPlaces
+
+  abbrev D : ℕ → Type 0
+  D k = JudgeDue n candidates weights rows list stated workPlaces k
+
+  -- each number's test: those of the job, and the list's two
+  abbrev jobTest : ℕ → Bool
+  jobTest k = test n candidates weights rows (n - 2) workPlaces k
+
+  abbrev judgeTest : ℕ → Bool
+  judgeTest k = cond (eqb k 21) (isTiling job list) (cond (eqb k 22) (eqb stated (listTotal job list)) (jobTest k))
+
+  -- the number is that of the first test in the order that fails
+  judge-first : code ≡ firstOf judgeTest order
+  unfolding judgeCode listCode
+  judge-first =
+      ap (λ k. orElse k (listCode job list stated)) (code-first n candidates weights rows (n - 2) workPlaces)
+      ∙ or-unless (jobTest 14) 13 _ _
+      ∙ ap (unless (jobTest 14) 14) (or-unless (jobTest 13) 12 _ _
+      ∙ ap (unless (jobTest 13) 13) (or-unless (jobTest 15) 14 _ _
+      ∙ ap (unless (jobTest 15) 15) (or-unless (jobTest 16) 15 _ _
+      ∙ ap (unless (jobTest 16) 16) (or-unless (jobTest 17) 16 _ _))))
+
+  -- a number of the job keeps its place and its test
+  of-the-job : (k : ℕ) → List·Memᴰ k job-due.order → List·Memᴰ k order × (judgeTest k ≡ jobTest k)
+  of-the-job k m =
+      ⊎-elim (λ q. (List·Memᴰ·head q, same q refl))
+      (λ m. ⊎-elim (λ q. (List·Memᴰ·tail (List·Memᴰ·head q), same q refl))
+      (λ m. ⊎-elim (λ q. (List·Memᴰ·tail (List·Memᴰ·tail (List·Memᴰ·head q)), same q refl))
+      (λ m. ⊎-elim (λ q. (List·Memᴰ·tail (List·Memᴰ·tail (List·Memᴰ·tail (List·Memᴰ·head q))), same q refl))
+      (λ m. ⊎-elim (λ q. (List·Memᴰ·tail (List·Memᴰ·tail (List·Memᴰ·tail (List·Memᴰ·tail (List·Memᴰ·head q)))), same q refl)) (λ m. absurd (List·Memᴰ·not-nil m))
+      (List·Memᴰ·cases-cons m)) (List·Memᴰ·cases-cons m)) (List·Memᴰ·cases-cons m)) (List·Memᴰ·cases-cons m)) (List·Memᴰ·cases-cons m)
+    where
+      same : {j : ℕ} → k ≡ j → judgeTest j ≡ jobTest j → judgeTest k ≡ jobTest k
+      same q e = subst (λ (i : ℕ). judgeTest i ≡ jobTest i) (sym q) e
+
+  -- ---- what is due fails, and what fails is due
+  judge-fails : {k : ℕ} → D k → judgeTest k ≡ false
+  judge-fails (of-job {k} d) = of-the-job k (due-listed n candidates weights rows (n - 2) workPlaces d) .1 ∙ due-fails n candidates weights rows (n - 2) workPlaces d
+  judge-fails (no-tiling h) = not-true-false _ (λ t. h (named job list) (tiling-is job list t))
+  judge-fails (other-total h) = ne-eqb stated (listTotal job list) h
+
+  judge-listed : {k : ℕ} → D k → List·Memᴰ k order
+  judge-listed (of-job {k} d) = of-the-job k (due-listed n candidates weights rows (n - 2) workPlaces d) .0
+  judge-listed (no-tiling h) = List·Memᴰ·tail (List·Memᴰ·tail (List·Memᴰ·tail (List·Memᴰ·tail (List·Memᴰ·tail (List·Memᴰ·head refl)))))
+  judge-listed (other-total h) = List·Memᴰ·tail (List·Memᴰ·tail (List·Memᴰ·tail (List·Memᴰ·tail (List·Memᴰ·tail (List·Memᴰ·tail (List·Memᴰ·head refl))))))
+
+  fails-judge : (k : ℕ) → List·Memᴰ k order → judgeTest k ≡ false → D k
+  fails-judge k m f =
+      ⊎-elim (λ q. early q (List·Memᴰ·head refl))
+      (λ m. ⊎-elim (λ q. early q (List·Memᴰ·tail (List·Memᴰ·head refl)))
+      (λ m. ⊎-elim (λ q. early q (List·Memᴰ·tail (List·Memᴰ·tail (List·Memᴰ·head refl))))
+      (λ m. ⊎-elim (λ q. early q (List·Memᴰ·tail (List·Memᴰ·tail (List·Memᴰ·tail (List·Memᴰ·head refl)))))
+      (λ m. ⊎-elim (λ q. early q (List·Memᴰ·tail (List·Memᴰ·tail (List·Memᴰ·tail (List·Memᴰ·tail (List·Memᴰ·head refl))))))
+      (λ m. ⊎-elim (λ q. at q (λ e. no-tiling (λ set t. true-not-false (is-tiling job list t) e)))
+      (λ m. ⊎-elim (λ q. at q (λ e. other-total (eqb-false stated (listTotal job list) e))) (λ m. absurd (List·Memᴰ·not-nil m))
+      (List·Memᴰ·cases-cons m)) (List·Memᴰ·cases-cons m)) (List·Memᴰ·cases-cons m)) (List·Memᴰ·cases-cons m)) (List·Memᴰ·cases-cons m)) (List·Memᴰ·cases-cons m)) (List·Memᴰ·cases-cons m)
+    where
+      at : {j : ℕ} → k ≡ j → (judgeTest j ≡ false → D j) → D k
+      at q due = subst D (sym q) (due (sym (ap judgeTest q) ∙ f))
+
+      early : {j : ℕ} → k ≡ j → List·Memᴰ j job-due.order → D k
+      early {j} q i = at q (λ e. of-job (fails-due n candidates weights rows (n - 2) workPlaces j i (sym (of-the-job j i .1) ∙ e)))
+
+  -- ---- a number is given exactly when it is the first due
+  pub code-due : (k : ℕ) → code ≡ suc k → FirstDue n candidates weights rows list stated workPlaces (suc k)
+  code-due k e =
+      let f = first-fails judgeTest order k (sym judge-first ∙ e) in
+      record { due = fails-judge (suc k) (f .listed) (f .fails-it); none-before = λ j m d. true-not-false (f .before-it j m) (judge-fails d) }
+
+  pub due-code : (k : ℕ) → FirstDue n candidates weights rows list stated workPlaces k → code ≡ k
+  due-code k f =
+      judge-first ∙ fails-first judgeTest order k
+      (record {
+        listed = judge-listed (f .due);
+        fails-it = judge-fails (f .due);
+        before-it = λ j m. not-false-true (judgeTest j) (λ e. f .none-before j m (fails-judge j (up-listed k order j m) e));
+      })
+
+  -- ---- and none exactly when the job is accepted and the list acceptable
+  pub zero-accepts : code ≡ 0 → Accepted n candidates weights rows (n - 2) workPlaces × Acceptable job list stated
+  unfolding judgeCode
+  zero-accepts e =
+      let z = or-zero (jobCode n candidates weights rows (n - 2) workPlaces) (listCode job list stated) e in
+      (zero-accepted n candidates weights rows (n - 2) workPlaces (z .0), zero-acceptable job list stated (z .1))
+
+  pub accepts-zero : Accepted n candidates weights rows (n - 2) workPlaces → Acceptable job list stated → code ≡ 0
+  unfolding judgeCode
+  accepts-zero a l =
+      ap (λ k. orElse k (listCode job list stated)) (accepted-zero n candidates weights rows (n - 2) workPlaces a) ∙ acceptable-zero job list stated l

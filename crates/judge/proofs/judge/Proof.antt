@@ -1,0 +1,105 @@
+-- `judge::judge` meets its contract, exit by exit. Assumes nothing.
+use Prim.Native.Nat.{_+_, _-_, _≤_}
+use mathlib.Core.Path.{_≡_, sym, _∙_}
+use mathlib.Core.List.{List}
+use native.Mathlib.Omega.{arith}
+use lib.ListN.{length}
+use Rattle.triangulation.specs.Triangulations.{Job}
+use Rattle.triangulation.specs.Jobs.{jobOf}
+use Rattle.minimum_weight.specs.Tables.{WellFormed}
+use Rattle.minimum_weight.proofs.Answer.{cleared}
+use Rattle.triangulator.proofs.Accepting.{accepted-well-formed}
+use Rattle.validation.specs.Validation.{listCode}
+use Rattle.judge.specs.Call.{judgeCode, judged}
+use Rattle.judge.specs.Demands.{Acceptable}
+use Rattle.judge.proofs.Tilings.{zero-acceptable}
+use Rattle.judge.proofs.Least.{excess-by-cost}
+use Rattle.judge.proofs.Settling.{settle-refused, settle-accepted, or-first, or-next}
+use borrow.Author.Needs.{needs}
+use Rattle.judge.proofs.judge.Statement.{statement}
+use Rattle.judge.proofs.judge.Tie as tie
+
+abbrev job : tie.Start → Job
+job s = jobOf (s .args .n) (s .args .candidates .now) (s .args .weights .now) (s .args .rows .now)
+
+code-without-triangles-requires : tie.Need-code-without-triangles-requires
+code-without-triangles-requires c κs = search needs
+
+returns : tie.Need-returns
+unfolding judged judgeCode
+returns c = settle-refused _ _ _ _ _ (or-first _ _ (c .before .code-without-triangles .ensures) (c .if1 .taken)) (c .if1 .taken)
+
+-- the job is accepted: the call, and what the dynamic programme needs
+module _ (g : tie.Else1) where
+  abbrev call : tie.Start
+  call = g .before .before .before .before .before
+
+  formed : WellFormed (call .args .n) (call .args .candidates .now) (call .args .weights .now) (call .args .rows .now) × (length (call .args .candidates .now) ≤ length (call .args .work .now)) × (call .args .n ≤ call .args .n - 2 + 2)
+  formed = accepted-well-formed (call .args .n) _ _ _ (call .args .n - 2) (length (call .args .work .now)) (sym (g .before .code-without-triangles .ensures) ∙ g .if1 .left)
+
+-- so is the list
+module _ (g : tie.Else2) where
+  abbrev of-job : tie.Else1
+  of-job = g .before .before
+
+  listed : listCode (job (call of-job)) (call of-job .args .list .now) (call of-job .args .stated) ≡ 0
+  listed = sym (g .before .list-code .ensures) ∙ g .if2 .left
+
+  acceptable : Acceptable (job (call of-job)) (call of-job .args .list .now) (call of-job .args .stated)
+  acceptable = zero-acceptable (job (call of-job)) (call of-job .args .list .now) (call of-job .args .stated) listed
+
+list-code-requires : tie.Need-list-code-requires
+list-code-requires c κs = let w = formed c .0 in (w .valid, w .bounded .few, w .weights-there, w .rows-ascend)
+
+returns-2 : tie.Need-returns-2
+unfolding judged judgeCode
+returns-2 c =
+    let g = c .before .before in
+    settle-refused _ _ _ _ _ (or-next _ _ (sym (g .before .code-without-triangles .ensures) ∙ g .if1 .left) (c .before .list-code .ensures)) (c .if2 .taken)
+
+block-starts-requires : tie.Need-block-starts-requires
+block-starts-requires c κs = formed (of-job c) .0 .ascending .by-first
+
+least-total-requires : tie.Need-least-total-requires
+least-total-requires c κs = let f = formed (of-job (c .before .before .before)) in (f .0, c .before .before .block-starts .ensures, f .1)
+
+clear-requires : tie.Need-clear-requires
+clear-requires c κs = omega (arith, formed (of-job (c .before .before .before .before .before .before .before)) .1, c .before .before .before .least-total .ensures .1 .long)
+
+sub-t21 : tie.Need-sub-t21
+sub-t21 c =
+    let g = c .before .before .before .before .before .before .before .before .before .before in
+    let s = call (of-job g) in
+    let a = acceptable g in
+    omega (arith, c .before .before .before .before .before .before .least-total .ensures .0, excess-by-cost (job s) (formed (of-job g) .0 .valid) (a .set) (a .tiling .tiles) (s .args .stated) (a .total) .0)
+
+same-length : tie.Need-same-length
+same-length c = search needs
+
+returns-3 : tie.Need-returns-3
+unfolding judged judgeCode
+returns-3 c =
+    let g = c .before .before .before .before .before .before .before .before .before .before in
+    let s = call (of-job g) in
+    let a = acceptable g in
+    let t = c .before .before .before .before .before .before .least-total .ensures in
+    let x = excess-by-cost (job s) (formed (of-job g) .0 .valid) (a .set) (a .tiling .tiles) (s .args .stated) (a .total) in
+    settle-accepted _ _ _ _
+    (sym (or-next _ _ (sym (of-job g .before .code-without-triangles .ensures) ∙ of-job g .if1 .left) (sym (listed g))))
+    (omega (arith, t .0, x .1))
+    (cleared (job s) (t .1) (c .before .before .clear .ensures))
+
+pub judge-spec : {M : Type 1} → statement M
+judge-spec =
+    tie.close
+    (tie.spec
+    code-without-triangles-requires
+    returns
+    list-code-requires
+    returns-2
+    block-starts-requires
+    least-total-requires
+    clear-requires
+    sub-t21
+    same-length
+    returns-3)
