@@ -2,7 +2,7 @@
 
 use crate::calls::{Job, JudgeAnswer, Patch, Row, Triangle};
 use crate::interval;
-use crate::jobs::all_triples;
+use crate::jobs::{all_triples, tiling};
 use crate::law::judge;
 use crate::random::Random;
 
@@ -111,63 +111,72 @@ fn job(n: usize, candidates: &[Triangle], weights: &[u32], rows: &[Row]) -> Job 
     Job { n, candidates: candidates.to_vec(), weights: weights.to_vec(), rows: rows.to_vec() }
 }
 
-/// Patches worked by hand, with their answers: of the jobs of rules 6.1 to 6.3, of a job with the
-/// largest weights, and two surfaces that have each rim edge in one triangle and every other edge in
-/// none or two, but on one side of it. `band` is a Möbius band, `solid` has four faces.
+/// A list with a stated total, and the number and the excess of the answer.
+type Case<'a> = (&'a [u16], u64, u32, u64);
+
+/// The job of rim file P (rule 6.1): its tilings are 1, 3 and 0, 2.
+const OF_P: [Case; 20] = [
+    (&[1, 3], 469, 0, 0),
+    (&[3, 1], 469, 0, 0),
+    (&[0, 2], 520, 0, 51),
+    (&[2, 0], 520, 0, 51),
+    (&[0, 2], 469, 22, 0),
+    (&[1, 3], 520, 22, 0),
+    (&[1, 3], 157, 22, 0),
+    (&[1, 3], 829, 22, 0),
+    (&[1, 3], 0, 22, 0),
+    (&[1, 1], 469, 21, 0),
+    (&[1, 1], 128, 21, 0),
+    (&[1, 3, 3], 469, 21, 0),
+    (&[1, 3, 1, 3], 469, 21, 0),
+    (&[1], 64, 21, 0),
+    (&[1], 469, 21, 0),
+    (&[1, 4], 64, 21, 0),
+    (&[1, 3, 4], 469, 21, 0),
+    (&[1, 2], 144, 21, 0),
+    (&[0, 1, 2, 3], 989, 21, 0),
+    (&[], 0, 21, 0),
+];
+
+/// The job of one candidate (rule 6.2).
+const OF_ONE: [Case; 4] = [(&[0], 5, 0, 0), (&[0], 4, 22, 0), (&[0, 0], 5, 21, 0), (&[], 0, 21, 0)];
+
+/// All triples of five vertices at the highest weight, and two rows: 012 on 023 and on 024. The last
+/// list is a band with a twist: every edge that is not of the rim is in two triangles on one side.
+const OF_FIVE: [Case; 6] = [
+    (&[2, 7, 9], 6_000_000_000, 0, 0),
+    (&[0, 3, 5], 8_000_000_000, 0, 2_000_000_000),
+    (&[0, 3, 5], 8_000_000_000 + (1 << 32), 22, 0),
+    (&[0, 3, 5], 8_000_000_000 - (1 << 32), 22, 0),
+    (&[0, 3, 5], 10_000_000_000, 22, 0),
+    (&[1, 3, 4, 7, 8], 10_000_000_000, 21, 0),
+];
+
+/// Patches worked by hand, with their answers. In the last, a tiling and the four faces of a solid,
+/// each edge is in as many triangles as in a tiling, but those of the solid are on one side.
 pub fn worked() -> Vec<(Job, Patch, JudgeAnswer)> {
     let p = job(4, &all_triples(4), &[80, 64, 80, 93], &[[1, 3, 312], [2, 0, 360]]);
-    let wrong_row = job(4, &all_triples(4), &[1; 4], &[[1, 0, 1]]);
     let one = job(3, &[[0, 1, 2]], &[5], &[]);
     let none = job(3, &[], &[], &[]);
-    let no_job = job(65, &[], &[], &[]);
     let heavy = 2_000_000_000;
     let five = job(5, &all_triples(5), &[heavy; 10], &[[3, 0, heavy], [4, 0, heavy]]);
-    let band = numbers(&five, &[[0, 1, 3], [0, 2, 3], [0, 2, 4], [1, 2, 4], [1, 3, 4]]);
+    let wrong_row = job(4, &all_triples(4), &[1; 4], &[[1, 0, 1]]);
+    let too_many = job(65, &[], &[], &[]);
     let eight = job(8, &all_triples(8), &[1; 56], &[]);
-    let fan: Vec<Triangle> = (1..7).map(|b| [0, b, b + 1]).collect();
-    let solid = [[1, 3, 5], [1, 3, 7], [1, 5, 7], [3, 5, 7]];
-    let fan_and_solid = numbers(&eight, &[&fan[..], &solid].concat());
-    let fan = numbers(&eight, &fan);
-    let cases: [(&Job, &[u16], u64, u32, u64); 35] = [
-        (&p, &[1, 3], 469, 0, 0),
-        (&p, &[3, 1], 469, 0, 0),
-        (&p, &[0, 2], 520, 0, 51),
-        (&p, &[2, 0], 520, 0, 51),
-        (&p, &[0, 2], 469, 22, 0),
-        (&p, &[1, 3], 520, 22, 0),
-        (&p, &[1, 3], 157, 22, 0),
-        (&p, &[1, 3], 829, 22, 0),
-        (&p, &[1, 3], 0, 22, 0),
-        (&p, &[1, 1], 469, 21, 0),
-        (&p, &[1, 1], 128, 21, 0),
-        (&p, &[1, 3, 3], 469, 21, 0),
-        (&p, &[1, 3, 1, 3], 469, 21, 0),
-        (&p, &[1], 64, 21, 0),
-        (&p, &[1], 469, 21, 0),
-        (&p, &[1, 4], 64, 21, 0),
-        (&p, &[1, 3, 4], 469, 21, 0),
-        (&p, &[1, 2], 144, 21, 0),
-        (&p, &[0, 1, 2, 3], 989, 21, 0),
-        (&p, &[], 0, 21, 0),
-        (&wrong_row, &[1], 1, 16, 0),
-        (&one, &[0], 5, 0, 0),
-        (&one, &[0], 4, 22, 0),
-        (&one, &[0, 0], 5, 21, 0),
-        (&one, &[], 0, 21, 0),
-        (&none, &[], 0, 21, 0),
-        (&no_job, &[], 0, 14, 0),
-        (&five, &[2, 7, 9], 6_000_000_000, 0, 0),
-        (&five, &[0, 3, 5], 8_000_000_000, 0, 2_000_000_000),
-        (&five, &[0, 3, 5], 8_000_000_000 + (1 << 32), 22, 0),
-        (&five, &[0, 3, 5], 8_000_000_000 - (1 << 32), 22, 0),
-        (&five, &[0, 3, 5], 10_000_000_000, 22, 0),
-        (&five, &band, 10_000_000_000, 21, 0),
-        (&eight, &fan, 6, 0, 0),
-        (&eight, &fan_and_solid, 10, 21, 0),
+    let fan = numbers(&eight, &tiling(8, |first, _| first + 1));
+    let solid = numbers(&eight, &[[1, 3, 5], [1, 3, 7], [1, 5, 7], [3, 5, 7]]);
+    let fan_and_solid = [&fan[..], &solid].concat();
+    let cases: [(Job, &[Case]); 7] = [
+        (p, &OF_P),
+        (one, &OF_ONE),
+        (none, &[(&[], 0, 21, 0)]),
+        (five, &OF_FIVE),
+        (wrong_row, &[(&[1], 1, 16, 0)]),
+        (too_many, &[(&[], 0, 14, 0)]),
+        (eight, &[(&fan, 6, 0, 0), (&fan_and_solid, 10, 21, 0)]),
     ];
-    let case = |&(job, list, stated, number, excess): &(&Job, &[u16], u64, u32, u64)| {
-        let patch = Patch { list: list.to_vec(), stated };
-        (job.clone(), patch, JudgeAnswer { number, excess })
+    let case = |job: &Job, &(list, stated, number, excess): &Case| {
+        (job.clone(), Patch { list: list.to_vec(), stated }, JudgeAnswer { number, excess })
     };
-    cases.iter().map(case).collect()
+    cases.iter().flat_map(|(job, cases)| cases.iter().map(move |of| case(job, of))).collect()
 }

@@ -103,20 +103,19 @@ fn wrong_edge(triangles: &[Named], n: usize) -> Option<String> {
 }
 
 fn wrong_rim_edge(triangles: &[Named], n: usize) -> Option<String> {
-    rim_edges(n).find_map(|[i, j]| {
-        let count: usize = sides(triangles, [i, j]).iter().sum();
-        let line = format!("the rim edge from {i} to {j} is in {count} triangles, not in one");
-        (count != 1).then_some(line)
+    rim_edges(n).find_map(|[i, j]| match sides(triangles, [i, j]).iter().sum::<usize>() {
+        1 => None,
+        count => Some(format!("the rim edge from {i} to {j} is in {count} triangles, not in one")),
     })
 }
 
 fn wrong_inner_edge(triangles: &[Named], n: usize) -> Option<String> {
+    let each = "does not have one triangle on each side, but";
     let pairs = (0..n).flat_map(|i| (i + 2..n).map(move |j| [i, j]));
-    pairs.filter(|&pair| pair != [0, n - 1]).find_map(|[i, j]| {
-        let [one, other] = sides(triangles, [i, j]);
-        let each = "does not have one triangle on each side, but";
-        let line = format!("the edge from {i} to {j} {each} {one} and {other}");
-        (one != other || one > 1).then_some(line)
+    let mut edges = pairs.filter(|&pair| pair != [0, n - 1]);
+    edges.find_map(|[i, j]| match sides(triangles, [i, j]) {
+        [0, 0] | [1, 1] => None,
+        [one, other] => Some(format!("the edge from {i} to {j} {each} {one} and {other}")),
     })
 }
 

@@ -9,12 +9,15 @@ use Rattle.finder.specs.Finding.{Finding, finding, candidateCountOf, rowCountOf
 use Rattle.finder.specs.Finding as finder
 use Rattle.triangulator.specs.declared.Outcome.{Outcome}
 use Rattle.triangulator.specs.Call.{Result, result}
+use Rattle.judge.specs.declared.Judgement.{Judgement}
+use Rattle.judge.specs.Call as judge
 use Rattle.pipeline.specs.Patching.{Tables, Patching, patching}
 use Rattle.converter.specs.declared.Conversion.{Conversion}
 use Rattle.converter.specs.Call.{Converting, converting}
 use Rattle.exports.specs.declared.ConvertAnswer.{ConvertAnswer}
+use Rattle.exports.specs.declared.JudgeAnswer.{JudgeAnswer}
 use Rattle.exports.specs.declared.PatchAnswer.{PatchAnswer}
-use Rattle.exports.specs.Answers.{patchAnswerOf, rimPatch, rimPatchOf, jobPatch, jobPatchOf, readAnswerOf, rimLists, rimListsOf, convertAnswerOf, fileConversion, fileConversionOf}
+use Rattle.exports.specs.Answers.{patchAnswerOf, rimPatch, rimPatchOf, jobPatch, jobPatchOf, judgeAnswerOf, jobJudgement, jobJudgementOf, readAnswerOf, rimLists, rimListsOf, convertAnswerOf, fileConversion, fileConversionOf}
 
 module _ {o : Outcome} {a : PatchAnswer} (e : a ≡ patchAnswerOf o) where
   pub rim-patched : {left : Tables} → {p : Patching} → patching o left ≡ p → rimPatch a left ≡ rimPatchOf p
@@ -36,3 +39,6 @@ module _ {a : Found} {number count row-count : ℕ} (e : number ≡ finder.numbe
 
 pub file-converted : {r : Conversion} {a : ConvertAnswer} {left : List ℕ} {c : Converting} → a ≡ convertAnswerOf r → converting r left ≡ c → fileConversion a left ≡ fileConversionOf c
 file-converted {left = left} e h = ap (λ (x : ConvertAnswer). fileConversion x left) e ∙ ap fileConversionOf h
+
+pub job-judged : {j : Judgement} {a : JudgeAnswer} {work : List ℕ} {r : judge.Result} → a ≡ judgeAnswerOf j → judge.result j work ≡ r → jobJudgement a work ≡ jobJudgementOf r
+job-judged {work = work} e h = ap (λ (x : JudgeAnswer). jobJudgement x work) e ∙ ap jobJudgementOf h
