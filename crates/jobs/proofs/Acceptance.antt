@@ -32,7 +32,7 @@ pub record Fitting (n : ℕ) (candidates : List (List ℕ)) (weights : List ℕ)
   pub work-room : length candidates ≤ work-places
   pub lists : ListsAccepted n candidates weights rows
 
-above-zero : (k : ℕ) → List·Memᴰ k order → 0 < k
+pub above-zero : (k : ℕ) → List·Memᴰ k order → 0 < k
 above-zero k m =
     ⊎-elim (λ q. omega arith)
     (λ m. ⊎-elim (λ q. omega arith)

@@ -2,3 +2,4 @@ pub mod Tilings
 pub mod Numbers
 pub mod Least
 pub mod Settling
+pub mod Demands

@@ -7,15 +7,16 @@ use mathlib.Core.Logic.{⊎-elim}
 use native.Mathlib.Omega.{arith}
 use lib.Dec.{eqb}
 use borrow.Author.Tests.{eqb-false, ne-eqb}
-use Rattle.lists.proofs.Choice.{true-not-false, not-true-false, not-false-true}
+use Rattle.lists.proofs.Choice.{no, true-not-false, not-true-false, not-false-true}
 use Rattle.triangulation.specs.Triangulations.{Job}
 use Rattle.triangulation.specs.Jobs.{jobOf}
+use Rattle.triangulation.specs.Demand3.{Triangulates}
 use Rattle.jobs.specs.Job.{unless, jobCode}
 use Rattle.jobs.specs.Due.{Accepted}
 use Rattle.jobs.specs.Due as job-due
 use Rattle.jobs.proofs.First.{up-listed, firstOf, first-fails, fails-first}
 use Rattle.jobs.proofs.Failing.{test, due-fails, due-listed, fails-due}
-use Rattle.jobs.proofs.Acceptance.{code-first, accepted-zero, zero-accepted}
+use Rattle.jobs.proofs.Acceptance.{above-zero, code-first, accepted-zero, zero-accepted}
 use Rattle.validation.specs.Validation.{named, isTiling, listTotal, listCode}
 use Rattle.judge.specs.Call.{orElse, judgeCode}
 use Rattle.judge.specs.Demands.{Acceptable}
@@ -126,3 +127,15 @@ module _ (n : ℕ) (candidates : List (List ℕ)) (weights : List ℕ) (rows : L
   unfolding judgeCode
   accepts-zero a l =
       ap (λ k. orElse k (listCode job list stated)) (accepted-zero n candidates weights rows (n - 2) workPlaces a) ∙ acceptable-zero job list stated l
+
+  -- where there is no tiling every list gets 21
+  pub no-tiling-code : Accepted n candidates weights rows (n - 2) workPlaces → ((set : List ℕ) → Triangulates job set → ⊥) → code ≡ 21
+  unfolding judgeCode listCode
+  no-tiling-code a h =
+      ap (λ k. orElse k (listCode job list stated)) (accepted-zero n candidates weights rows (n - 2) workPlaces a) ∙ no _ _ (not-true-false _ (λ t. h (named job list) (tiling-is job list t .tiles)))
+
+  -- a number that is due is not 0
+  pub due-above : {k : ℕ} → D k → k ≡ 0 → ⊥
+  due-above (of-job {k} d) e = omega (arith, above-zero k (due-listed n candidates weights rows (n - 2) workPlaces d))
+  due-above (no-tiling h) e = omega arith
+  due-above (other-total h) e = omega arith
