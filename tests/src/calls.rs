@@ -255,7 +255,8 @@ pub struct Patch {
 pub trait Calls {
     fn name(&self) -> String;
 
-    /// The same calls with a limit asked for, which a direct job and a conversion do not have.
+    /// The same calls with a limit asked for, which a direct job, a patch to judge and a conversion do
+    /// not have.
     fn within(&self, limit: usize) -> Box<dyn Calls>;
 
     /// The one call over all three stages.

@@ -131,7 +131,7 @@ fn wrong_total_first(known: Known) -> Option<u32> {
 }
 
 fn length_first(job: &Job, list: &[u16], work: usize) -> Option<u32> {
-    match list.len().checked_add(2) == Some(job.n) {
+    match list.len() + 2 == job.n {
         true => number_of_job(job, work),
         false => Some(21),
     }

@@ -1,22 +1,22 @@
 -- The number due on a list, by the steps of the code. Assumes nothing.
 use Prim.Native.Nat.{ℕ, _-_, _≤_, _<_}
-use mathlib.Core.Path.{_≡_, refl, sym, _∙_}
-use mathlib.Core.Bool.{true, false}
-use mathlib.Core.Logic.{_≢_}
+use mathlib.Core.Path.{_≡_, refl, sym, ap, ap₂, _∙_}
+use mathlib.Core.Bool.{Bool, true, false}
 use mathlib.Core.List.{List, []}
 use native.Mathlib.Omega.{arith}
 use lib.ListN.{length, getD}
-use lib.Dec.{ltb}
-use borrow.Author.Tests.{eq-eqb, ne-eqb, lt-ltb, ltb-true}
-use Rattle.lists.proofs.Choice.{yes, no, not-true-false, true-not-false}
+use lib.Dec.{eqb, ltb}
+use borrow.Author.Tests.{eqb-true, eq-eqb, lt-ltb, ltb-true}
+use Rattle.lists.proofs.Choice.{Truth, truth, holds, fails, yes, no, both-left, both-right, both-true, not-true-false, true-not-false}
 use Rattle.lists.proofs.Ranges.{every-at, every-all}
 use Rattle.lists.proofs.Members.{member-entry, entry-member}
 use Rattle.terms.specs.Limits.{maxVertices}
+use Rattle.jobs.specs.Job.{unless}
 use Rattle.triangulation.specs.Triangulations.{Job, Valid, isTriangulation, countBetween, countOutside, totalWeight}
 use Rattle.triangulation.specs.Jobs.{jobOf}
 use Rattle.triangulation.proofs.Sums.{Mem}
 use Rattle.validation.specs.Validation.{isTiling, listTotal, listCode}
-use Rattle.validation.specs.Edges.{Triangles, allBelowBound}
+use Rattle.validation.specs.Edges.{Triangles, allBelowBound, namesTriangles}
 use Rattle.validation.proofs.Naming.{tiling-names}
 use Rattle.validation.proofs.Tilings.{total-is, tiling-length, tiling-edges}
 
@@ -28,47 +28,44 @@ module _ (n : ℕ) (candidates : List (List ℕ)) (weights : List ℕ) (rows : L
   unfolding listCode
   no-tiling h = sym (no _ _ (not-true-false _ h))
 
-  -- a list of another length
-  pub code-length : length list ≢ n - 2 → 21 ≡ listCode job list stated
-  code-length h = no-tiling (λ t. h (tiling-length job list good t))
+  -- a tiling names n − 2 candidates
+  tiling-triangles : isTiling job list ≡ true → namesTriangles n (length candidates) list ≡ true
+  tiling-triangles t = both-true (eq-eqb (length list) (n - 2) (tiling-length job list good t)) (every-all 0 (length list) (λ i. ltb (getD list i 0) (length candidates))
+      (λ i l h. lt-ltb _ _ (tiling-names job list t .candidate (getD list i 0) (entry-member list 0 i h))))
 
-  -- a number that is no candidate's
-  pub code-unknown : allBelowBound list (length candidates) ≡ false → 21 ≡ listCode job list stated
-  code-unknown e = no-tiling (λ t. true-not-false (every-all 0 (length list) (λ i. ltb (getD list i 0) (length candidates))
-      (λ i l h. lt-ltb _ _ (tiling-names job list t .candidate (getD list i 0) (entry-member list 0 i h)))) e)
+  pub code-other : namesTriangles n (length candidates) list ≡ false → 21 ≡ listCode job list stated
+  code-other e = no-tiling (λ t. true-not-false (tiling-triangles t) e)
 
-  module _ (under : allBelowBound list (length candidates) ≡ true) where
-    member-under : (k : ℕ) → Mem k list → k < length candidates
-    member-under k m =
+  module _ (named : namesTriangles n (length candidates) list ≡ true) where
+    member-below : (k : ℕ) → Mem k list → k < length candidates
+    member-below k m =
         let e = member-entry list 0 k m in
-        rw (← e .is) (ltb-true (getD list (e .at) 0) (length candidates) (every-at 0 (length list) (λ i. ltb (getD list i 0) (length candidates)) under (e .at) (omega arith) (e .below)))
+        let b : allBelowBound list (length candidates) ≡ true = both-right (eqb (length list) (n - 2)) _ named in
+        rw (← e .is) (ltb-true (getD list (e .at) 0) (length candidates) (every-at 0 (length list) (λ i. ltb (getD list i 0) (length candidates)) b (e .at) (omega arith) (e .below)))
 
-    pub triangles-are : length list ≡ n - 2 → Triangles candidates list
-    triangles-are e = record {
-      each = λ k m. let h = member-under k m in record { there = h; ab = good .ab k h; bc = good .bc k h; few = omega (arith, good .cn k h) };
-      short-list = omega arith;
+    pub triangles-are : Triangles candidates list
+    triangles-are = record {
+      each = λ k m. let h = member-below k m in record { there = h; ab = good .ab k h; bc = good .bc k h; few = omega (arith, good .cn k h) };
+      short-list = let e : length list ≡ n - 2 = eqb-true (length list) (n - 2) (both-left (eqb (length list) (n - 2)) _ named) in omega arith;
     }
 
-    -- the code's edge test looks at n and the candidates alone
+    -- the code's edge test looks at n and the candidates alone, its total at all but n
     edges-are : isTriangulation (jobOf n candidates [] []) list ≡ isTiling job list
     unfolding isTriangulation countBetween countOutside
-    edges-are = sym (tiling-edges job list good member-under)
+    edges-are = sym (tiling-edges job list good member-below)
 
-    pub code-edges : isTriangulation (jobOf n candidates [] []) list ≡ false → 21 ≡ listCode job list stated
-    code-edges e = no-tiling (λ t. true-not-false t (sym edges-are ∙ e))
+    total-of : isTiling job list ≡ true → totalWeight (jobOf 0 candidates weights rows) list ≡ listTotal job list
+    unfolding totalWeight
+    total-of t = sym (total-is job list t)
 
-    module _ (tiles : isTriangulation (jobOf n candidates [] []) list ≡ true) where
-      tiling : isTiling job list ≡ true
-      tiling = sym edges-are ∙ tiles
+    right : isTiling job list ≡ true → unless (isTiling job list) 21 (unless (eqb stated (totalWeight (jobOf 0 candidates weights rows) list)) 22 0) ≡ listCode job list stated
+    unfolding listCode
+    right t = ap (λ (w : ℕ). unless (isTiling job list) 21 (unless (eqb stated w) 22 0)) (total-of t)
 
-      total-of : totalWeight (jobOf 0 candidates weights rows) list ≡ listTotal job list
-      unfolding totalWeight
-      total-of = sym (total-is job list tiling)
-
-      pub code-total : totalWeight (jobOf 0 candidates weights rows) list ≢ stated → 22 ≡ listCode job list stated
-      unfolding listCode
-      code-total d = sym (yes _ _ tiling ∙ no _ _ (ne-eqb _ _ (λ q. d (total-of ∙ sym q))))
-
-      pub code-right : totalWeight (jobOf 0 candidates weights rows) list ≡ stated → 0 ≡ listCode job list stated
-      unfolding listCode
-      code-right d = sym (yes _ _ tiling ∙ yes _ _ (eq-eqb _ _ (sym d ∙ total-of)))
+    pub code-is : {tiles : Bool} {total : ℕ} → tiles ≡ isTriangulation (jobOf n candidates [] []) list → total ≡ totalWeight (jobOf 0 candidates weights rows) list
+        → unless tiles 21 (unless (eqb stated total) 22 0) ≡ listCode job list stated
+    code-is {tiles} {total} e f = ap₂ (λ b t. unless b 21 (unless (eqb stated t) 22 0)) (e ∙ edges-are) f ∙ go (truth (isTiling job list))
+      where
+        go : Truth (isTiling job list) → unless (isTiling job list) 21 (unless (eqb stated (totalWeight (jobOf 0 candidates weights rows) list)) 22 0) ≡ listCode job list stated
+        go (holds t) = right t
+        go (fails t) = no _ _ t ∙ no-tiling (λ h. true-not-false h t)

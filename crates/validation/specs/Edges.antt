@@ -1,11 +1,11 @@
 -- Tables over the edges (i, j), i < j. What functions say to each other; nobody has to believe it.
-use Prim.Native.Nat.{ℕ, _+_, _*_, _^_, _≤_, _<_}
+use Prim.Native.Nat.{ℕ, _+_, _-_, _*_, _^_, _≤_, _<_}
 use mathlib.Core.Path.{_≡_}
 use mathlib.Core.Bool.{Bool}
 use mathlib.Core.List.{List, [], List·Memᴰ}
 use lib.ListN.{length, getD, set}
-use lib.Dec.{ltb}
-use Rattle.lists.specs.Lists.{every}
+use lib.Dec.{eqb, ltb}
+use Rattle.lists.specs.Lists.{every, both}
 use Rattle.terms.specs.Limits.{maxVertices}
 use Rattle.terms.specs.Entries.{entryAt, vertexA, vertexB, vertexC}
 use Rattle.triangulation.specs.Triangulations.{Job, only, sum, allBelow, longEdge, shortEdge, isBoundary, edgeOk}
@@ -72,6 +72,9 @@ edgeFits n betweens outsides j i = edgeOk (bare n) (isBoundary (bare n) i j) (co
 abbrev pub edgesFit : ℕ → List ℕ → List ℕ → Bool
 edgesFit n betweens outsides = allBelow n (λ j. allBelow j (edgeFits n betweens outsides j))
 
--- every number of the list is below a bound
+-- the list has n - 2 numbers, each of them a candidate's
 abbrev pub allBelowBound : List ℕ → ℕ → Bool
 allBelowBound list bound = every 0 (length list) (λ i. ltb (getD list i 0) bound)
+
+abbrev pub namesTriangles : ℕ → ℕ → List ℕ → Bool
+namesTriangles n count list = both (eqb (length list) (n - 2)) (allBelowBound list count)

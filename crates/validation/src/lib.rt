@@ -1,5 +1,6 @@
 // Whether a list of candidates from elsewhere is a triangulation without repeats, with the total stated for it: 21 and 22.
 mod edges;
+mod order;
 mod totals;
 
 ghost use mathlib.Core.Path.{_≡_};
@@ -10,12 +11,16 @@ ghost use Rattle.triangulation.specs.Triangulations.{Valid};
 ghost use Rattle.triangulation.specs.Jobs.{jobOf};
 ghost use Rattle.rows.specs.Search.{RowsAscend};
 ghost use Rattle.validation.specs.Validation.{listCode};
-ghost use Rattle.validation.specs.Edges.{allBelowBound};
+ghost use Rattle.validation.specs.Edges.{namesTriangles};
 
-// Every number of the list is a candidate's.
-fn names_candidates(list: &[u16], count: usize) -> bool
-    ensures { λ r. ⌜ r ≡ allBelowBound (now (list .entry)) count ⌝ }
+// As many numbers as a triangulation has triangles, n − 2, each of them a candidate's.
+fn names_triangles(n: usize, count: usize, list: &[u16]) -> bool
+    requires { ⌜ 2 ≤ n ⌝ }
+    ensures { λ r. ⌜ r ≡ namesTriangles n count (now (list .entry)) ⌝ }
 {
+    if list.len() != n - 2 {
+        return false;
+    }
     for i in 0..list.len() {
         if count <= list[i] as usize {
             return false;
@@ -24,7 +29,7 @@ fn names_candidates(list: &[u16], count: usize) -> bool
     true
 }
 
-// The first of 21 and 22 that is due on a list, or 0. A triangulation has n − 2 triangles; one that stands twice has its edges twice.
+// The first of 21 and 22 that is due on a list, or 0. That no candidate stands twice need not be tested: it would have its edges twice.
 pub fn list_code(
     n: usize,
     candidates: &[[u8; 3]],
@@ -36,17 +41,10 @@ pub fn list_code(
     requires { ⌜ Valid (jobOf n (now candidates) (now weights) (now rows)) × (n ≤ maxVertices) × (length (now candidates) ≤ length (now weights)) × RowsAscend (now rows) ⌝ }
     ensures { λ r. ⌜ r ≡ listCode (jobOf n (now (candidates .entry)) (now (weights .entry)) (now (rows .entry))) (now (list .entry)) stated ⌝ }
 {
-    if list.len() != n - 2 {
+    if !names_triangles(n, candidates.len(), list) {
         return codes::NOT_A_TRIANGULATION;
     }
-    if !names_candidates(list, candidates.len()) {
-        return codes::NOT_A_TRIANGULATION;
-    }
-    if !edges::is_triangulation(n, candidates, list) {
-        return codes::NOT_A_TRIANGULATION;
-    }
-    if totals::total(candidates, weights, rows, list) != stated {
-        return codes::WRONG_TOTAL;
-    }
-    0
+    let is_tiling = edges::is_triangulation(n, candidates, list);
+    let total = totals::total(candidates, weights, rows, list);
+    order::first_number(is_tiling, stated == total)
 }

@@ -1,18 +1,19 @@
 // The total of a list of triangles: their weights, and the rows of those that hang on each other.
 ghost use mathlib.Core.Path.{_≡_};
 ghost use Prim.Native.Nat.{_^_, _≤_, _<_};
-ghost use lib.ListN.{length};
+ghost use lib.ListN.{length, getD};
 ghost use Rattle.triangulation.specs.Triangulations.{totalWeight};
 ghost use Rattle.triangulation.specs.Jobs.{jobOf};
 ghost use Rattle.rows.specs.Search.{RowsAscend};
 ghost use Rattle.validation.specs.Edges.{Triangles};
 ghost use Rattle.validation.specs.Totals.{hangingRow, hangingRows};
 
-// The row weight of candidate i on candidate o, 0 where it does not hang on it.
-fn hanging_row(candidates: &[[u8; 3]], rows: &[[u32; 3]], o: usize, i: usize) -> u32
-    requires { ⌜ (o < length (now candidates)) × (i < length (now candidates)) × RowsAscend (now rows) ⌝ }
-    ensures { λ r. ⌜ r ≡ hangingRow (now (candidates .entry)) (now (rows .entry)) o i ⌝ }
+// The row weight of the list's k-th triangle on candidate o, 0 where it does not hang on it.
+fn hanging_row(candidates: &[[u8; 3]], rows: &[[u32; 3]], list: &[u16], o: usize, k: usize) -> u32
+    requires { ⌜ Triangles (now candidates) (now list) × (o < length (now candidates)) × RowsAscend (now rows) × (k < length (now list)) ⌝ }
+    ensures { λ r. ⌜ r ≡ hangingRow (now (candidates .entry)) (now (rows .entry)) o (getD (now (list .entry)) k 0) ⌝ }
 {
+    let i = list[k] as usize;
     if !jobs::rows::hangs_on(candidates[i], candidates[o]) {
         return 0;
     }
@@ -26,7 +27,7 @@ fn hanging_rows(candidates: &[[u8; 3]], rows: &[[u32; 3]], list: &[u16], o: usiz
 {
     let mut total = 0;
     for k in 0..list.len() {
-        total += hanging_row(candidates, rows, o, list[k] as usize) as u64;
+        total += hanging_row(candidates, rows, list, o, k) as u64;
     }
     total
 }

@@ -70,7 +70,7 @@ fn write_patch(best: Option<Tiling>, candidates: usize, tables: &mut Tables) -> 
 }
 
 /// The direct job that stands in the tables.
-pub fn job_in(n: usize, tables: &Tables) -> Job {
+fn job_in(n: usize, tables: &Tables) -> Job {
     Job {
         n,
         candidates: tables.candidates.view().to_vec(),

@@ -7,7 +7,6 @@ use lib.Seq.{take-length}
 use Rattle.triangulation.specs.Triangulations.{sum}
 use Rattle.validation.specs.Totals.{hangingRow}
 use Rattle.validation.proofs.Fronts.{sum-next}
-use Rattle.validation.proofs.EdgeCounts.{triangle-at}
 use Rattle.validation.proofs.totals.hanging_rows.Statement.{statement}
 use Rattle.validation.proofs.totals.hanging_rows.Tie as tie
 
@@ -20,23 +19,14 @@ abbrev μ-loop : tie.MeasureT-loop
 loop-holds : tie.Need-loop-holds Inv-loop μ-loop
 loop-holds c = (refl, omega arith, refl, omega arith)
 
-mul-hanging-row : tie.Need-mul-hanging-row Inv-loop μ-loop
-mul-hanging-row c = omega arith
-
-shared-slice-read-hanging-row : tie.Need-shared-slice-read-hanging-row Inv-loop μ-loop
-shared-slice-read-hanging-row c = omega arith
-
-cast-hanging-row : tie.Need-cast-hanging-row Inv-loop μ-loop
-cast-hanging-row c = omega (arith, c .shared-slice-known2 .given (c .before .before .loop .k))
-
 hanging-row-requires : tie.Need-hanging-row-requires Inv-loop μ-loop
-hanging-row-requires c κs = let s = c .before .before .before .before in (s .pre .1, triangle-at _ _ (s .pre .0) (c .before .before .loop .k) (omega arith) .there, s .pre .2)
+hanging-row-requires c κs = let s = c .before .before .before in (s .pre .0, s .pre .1, s .pre .2, omega arith)
 
 cast-total : tie.Need-cast-total Inv-loop μ-loop
 cast-total c = omega arith
 
 add-total : tie.Need-add-total Inv-loop μ-loop
-add-total c = let s = c .before .before .before .before .before in omega (arith, s .pre .0 .short-list)
+add-total c = let s = c .before .before .before .before in omega (arith, s .pre .0 .short-list)
 
 add-k : tie.Need-add-k Inv-loop μ-loop
 add-k c = omega arith
@@ -46,8 +36,8 @@ loop-less c = omega arith
 
 loop-again : tie.Need-loop-again Inv-loop μ-loop
 loop-again c =
-    let s = c .before .before .before .before .before .args in
-    let l = c .before .before .before .loop in (
+    let s = c .before .before .before .before .args in
+    let l = c .before .before .loop in (
       l .inv .0,
       omega arith,
       ap₂ (λ (x y : ℕ). x + y) (l .inv .2) (c .hanging-row .ensures) ∙ sym (sum-next (hangingRow (s .candidates .now) (s .rows .now) (s .o)) (s .list .now) (l .k) (omega arith)),
@@ -71,9 +61,6 @@ hanging-rows-spec =
     Inv-loop
     μ-loop
     loop-holds
-    mul-hanging-row
-    shared-slice-read-hanging-row
-    cast-hanging-row
     hanging-row-requires
     cast-total
     add-total
