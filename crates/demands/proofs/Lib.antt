@@ -4,6 +4,7 @@ pub mod Tables
 pub mod Demand1
 pub mod Demands
 pub mod Flat
+pub mod Judging
 pub mod Sizes
 pub mod Conversion
 pub mod Base

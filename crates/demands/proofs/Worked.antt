@@ -35,6 +35,8 @@ use Rattle.finder.specs.Finding.{short, numberDue}
 use Rattle.triangulation.specs.Triangulations.{Job, Answer, best, patch, bestKey, key, isTriangulation, totalWeight, preorderFrom, countBetween, countOutside}
 use Rattle.triangulation.specs.Jobs.{jobOf}
 use Rattle.triangulator.specs.Call.{settled, triangulated}
+use Rattle.validation.specs.Validation.{named, isTiling, listTotal, listCode}
+use Rattle.judge.specs.Call.{judgeCode, judged}
 use Rattle.pipeline.specs.Patching.{tables, Patching, patching, jobIn, tablesShort, patched, patchBy, polygonNumber, fileNumber, patchPolygon, patchFile}
 use Rattle.demands.specs.Worked.{Case, of-file, of-tilings, fileP, fileN, lentP, withTotals, worked}
 
@@ -179,7 +181,7 @@ rims-hold = refl
 
 -- ---- the list
 others-hold : map (λ c. c .computed) (drop 9 worked) ≡ map (λ c. c .expected) (drop 9 worked)
-unfolding gridNumberOf ofBits finite numerator denominator negative inRange roundEighths triangulated jobCode listsCode everyFrom candidateFits ascends before rowFits namesPair hangs rowBefore bestKey key isTriangulation totalWeight preorderFrom countBetween countOutside rootDigits lengthOf ratioOf bendOf
+unfolding gridNumberOf ofBits finite numerator denominator negative inRange roundEighths triangulated judged judgeCode listCode listTotal isTiling named jobCode listsCode everyFrom candidateFits ascends before rowFits namesPair hangs rowBefore bestKey key isTriangulation totalWeight preorderFrom countBetween countOutside rootDigits lengthOf ratioOf bendOf
 others-hold = refl
 
 pub worked-hold : map (λ c. c .computed) worked ≡ map (λ c. c .expected) worked

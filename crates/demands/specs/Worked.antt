@@ -1,4 +1,4 @@
--- The worked cases of rules 6.1 to 6.8 in one list: what the definitions give, and what it should be. Definitions only.
+-- The worked cases of rules 6.1 to 6.9 in one list: what the definitions give, and what it should be. Definitions only.
 use mathlib.Core.List.{List, [], _∷_, map}
 use Prim.Native.Nat.{ℕ}
 use lib.IntN.{ℤ, pos, negsuc}
@@ -20,14 +20,18 @@ use Rattle.reader.specs.Reading.{polygonOf}
 use Rattle.triangulation.specs.Triangulations.{Job, triangulations, totalWeight}
 use Rattle.triangulator.specs.declared.Outcome.the-variants.{Patch, None, Refused}
 use Rattle.triangulator.specs.Call.{Result, result}
-use Rattle.triangulator.specs.Cases.{lists, answered, single, ties}
+use Rattle.triangulator.specs.Cases.{Lists, lists, answered, single, listsP, ties}
+use Rattle.judge.specs.declared.Judgement.the-variants as judgement
+use Rattle.judge.specs.Call as judge
+use Rattle.judge.specs.Cases.{judgedOn, accepted, refused}
 use Rattle.pipeline.specs.Patching.{Tables, tables, Patching, patching, jobIn, patchPolygon, patchFile}
 
--- what a case computes: what the one call on a file or a polygon, or the call for a direct job, answers and leaves; tilings; a bend; a grid number
+-- what a case computes: what the one call on a file or a polygon, or the call for a direct job, answers and leaves, and what the judge does; tilings; a bend; a grid number
 pub data Value : Type 0 where
   of-file : Patching → Value
   of-rim : Patching → Value
   of-job : Result → Value
+  of-judge : judge.Result → Value
   of-tilings : List (List ℕ) → Value
   of-bend : ℕ → Value
   of-float : GridNumber → Value
@@ -105,6 +109,10 @@ lent t c r = tables (replicate t 9) (replicate c (triple 9 9 9)) (replicate c 9)
 abbrev pub rounds : ℕ → ℤ → Case
 rounds bits number = case (of-float (gridNumberOf (ofBits binary32 bits))) (of-float (grid-number.Value number))
 
+-- the judge's answer to a list and a total
+abbrev pub judges : Lists → List ℕ → ℕ → judge.Result → Case
+judges job list stated expected = case (of-judge (judgedOn job list stated)) (of-judge expected)
+
 abbrev pub worked : List Case
 worked =
     -- rule 6.1: P from its bytes through the one call; and its tilings, which are two
@@ -149,6 +157,18 @@ worked =
     ∷ case (of-job (answered (ties (triple 1 0 1 ∷ [])))) (of-job (result (Refused 16) (9 ∷ 9 ∷ 9 ∷ []) (9 ∷ 9 ∷ 9 ∷ 9 ∷ 9 ∷ [])))
     -- rule 6.4: two candidates that leave a hole
     ∷ case (of-job (answered (lists 5 (triple 0 1 2 ∷ triple 0 2 4 ∷ []) (1 ∷ 1 ∷ []) []))) (of-job (result None (9 ∷ 9 ∷ 9 ∷ 9 ∷ []) (0 ∷ 0 ∷ 9 ∷ [])))
+    -- rule 6.9: the lists of P judged, both tilings in any order, with another total, and what is no tiling; other jobs
+    ∷ judges listsP (1 ∷ 3 ∷ []) 469 (accepted 0)
+    ∷ judges listsP (3 ∷ 1 ∷ []) 469 (accepted 0)
+    ∷ judges listsP (0 ∷ 2 ∷ []) 520 (accepted 51)
+    ∷ judges listsP (0 ∷ 2 ∷ []) 469 (refused 22)
+    ∷ judges listsP (1 ∷ 3 ∷ 3 ∷ []) 469 (refused 21)
+    ∷ judges listsP (1 ∷ 1 ∷ []) 469 (refused 21)
+    ∷ judges listsP (1 ∷ []) 469 (refused 21)
+    ∷ judges listsP (1 ∷ 4 ∷ []) 469 (refused 21)
+    ∷ judges (ties (triple 1 0 1 ∷ [])) (1 ∷ 1 ∷ []) 0 (refused 16)
+    ∷ judges single (0 ∷ []) 5 (judge.result (judgement.Accepted 0) (0 ∷ 9 ∷ []))
+    ∷ judges (lists 3 [] [] []) [] 0 (judge.result (judgement.Refused 21) (9 ∷ []))
     -- rule 6.5: equal, perpendicular and opposite normals; a dot product of -1
     ∷ case (of-bend (bendBetween upward upward)) (of-bend 0)
     ∷ case (of-bend (bendBetween upward sideward)) (of-bend 1000)

@@ -30,7 +30,7 @@ not-both : {excess number : ℕ} → judgement.Accepted excess ≡ judgement.Ref
 not-both e = let z : _≡_ {A = ℕ} 0 1 = cc in omega arith
 
 -- the patch that is handed back with a patch
-patch-handed : {job : Job} {part : List ℕ} {count total : ℕ} → Handed job part (outcome.Patch count total) → HandedBack job total part
+pub patch-handed : {job : Job} {part : List ℕ} {count total : ℕ} → Handed job part (outcome.Patch count total) → HandedBack job total part
 patch-handed (with-patch c h) = h
 
 module _ (n : ℕ) (candidates : List (List ℕ)) (weights : List ℕ) (rows : List (List ℕ)) where

@@ -3,3 +3,4 @@ pub mod Numbers
 pub mod Least
 pub mod Settling
 pub mod Demands
+pub mod WrongCalls

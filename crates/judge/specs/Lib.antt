@@ -1,3 +1,5 @@
 pub mod Call
-pub mod Due
 pub mod Demands
+pub mod Due
+pub mod Cases
+pub mod WrongCalls

@@ -1,4 +1,4 @@
--- Direct jobs as calls on tables with one place more than needed, each holding 9, for the worked cases of rules 6.2 to 6.4. Definitions only.
+-- Direct jobs as calls on tables with one place more than needed, each holding 9, for the worked cases of rules 6.2 to 6.4 and 6.9. Definitions only.
 use Prim.Native.Nat.{ℕ, _+_, _-_}
 use mathlib.Core.List.{List, [], _∷_}
 use lib.ListN.{length, replicate}
@@ -30,3 +30,7 @@ quadrilateral weights rows = lists 4 (triple 0 1 2 ∷ triple 0 1 3 ∷ triple 0
 -- two tilings of equal total; and one where a row makes the earlier dearer, or names a pair that does not hang (rule 6.3)
 abbrev pub ties : List (List ℕ) → Lists
 ties rows = quadrilateral (1 ∷ 1 ∷ 1 ∷ 1 ∷ []) rows
+
+-- the lists that rim file P gives (rule 6.1)
+abbrev pub listsP : Lists
+listsP = quadrilateral (80 ∷ 64 ∷ 80 ∷ 93 ∷ []) (triple 1 3 312 ∷ triple 2 0 360 ∷ [])

@@ -4,7 +4,7 @@ use Prim.Native.Nat.{ℕ}
 use Rattle.terms.specs.Entries.{triple}
 use Rattle.triangulator.specs.declared.Outcome.the-variants.{Patch, None, Refused}
 use Rattle.triangulator.specs.Call.{Result, result}
-use Rattle.triangulator.specs.Cases.{Lists, single, quadrilateral, ties}
+use Rattle.triangulator.specs.Cases.{Lists, single, listsP, ties}
 
 -- a job, and what a program answers and leaves
 pub record Call : Type 0 where
@@ -13,10 +13,6 @@ pub record Call : Type 0 where
 
 abbrev pub call : Lists → Result → Call
 call l r = record { direct = l; leaves = r }
-
--- the lists that rim file P gives
-abbrev pub listsP : Lists
-listsP = quadrilateral (80 ∷ 64 ∷ 80 ∷ 93 ∷ []) (triple 1 3 312 ∷ triple 2 0 360 ∷ [])
 
 -- the work table of four candidates, cleared
 abbrev pub cleared : List ℕ

@@ -1,0 +1,61 @@
+-- The judge over the lists of a rim: the job is accepted, and what the one call answered is a patch with excess 0. Assumes nothing.
+use mathlib.Core.Path.{_≡_, refl, sym, ap, _∙_, subst}
+use mathlib.Core.List.{List}
+use Prim.Native.Nat.{ℕ, _-_, _≤_}
+use native.Mathlib.Omega.{arith}
+use lib.ListN.{length, take, replicate}
+use Rattle.lists.specs.Lists.{filled}
+use Rattle.lists.proofs.Writing.{filled-take}
+use Rattle.polygon.specs.declared.Polygon.{Polygon}
+use Rattle.polygon.specs.Polygon.{Valid}
+use Rattle.reader.specs.Order.{NoneDue}
+use Rattle.reader.specs.File.{Bytes}
+use Rattle.delaunay.specs.Candidates.{candidatesOf}
+use Rattle.jobs.specs.Due.{Accepted}
+use Rattle.jobs.proofs.Acceptance.{fitting-accepted}
+use Rattle.triangulator.specs.declared.Outcome.{Outcome}
+use Rattle.triangulator.specs.declared.Outcome.the-variants.{Patch}
+use Rattle.triangulator.specs.Call.{partOf}
+use Rattle.triangulator.specs.Demands.{Handed}
+use Rattle.judge.specs.declared.Judgement.the-variants as judgement
+use Rattle.judge.specs.Call.{result, judged}
+use Rattle.judge.proofs.Demands.{patch-handed, handed-accepted}
+use Rattle.pipeline.specs.Patching.{Tables, Patching, weightsIn, rowsIn, jobIn, patchFile}
+use Rattle.pipeline.proofs.Accepted.{weight-count, lists-accepted}
+use Rattle.demands.specs.Demand1.{polygonIn, CallDue}
+use Rattle.demands.proofs.Demand1.{accepted}
+use Rattle.demands.proofs.Demands.{file-handed}
+
+-- none of 13 to 17 is due on the lists of a rim beside a work table that is long enough (rule 4.36)
+pub rim-job-accepted : (p : Polygon) → Valid p → (workPlaces : ℕ) → length (candidatesOf p) ≤ workPlaces → Accepted (p .n) (candidatesOf p) (weightsIn p) (rowsIn p) (p .n - 2) workPlaces
+rim-job-accepted p v workPlaces h =
+    fitting-accepted (p .n) (candidatesOf p) (weightsIn p) (rowsIn p) (p .n - 2) workPlaces
+    (record { at-least = v .least; at-most = v .most; triangle-room = omega arith; work-room = h; lists = lists-accepted p v })
+
+module _ (limit : ℕ) (file : List ℕ) (bytes : Bytes file) (t : Tables) (none : NoneDue (CallDue limit file t)) where
+  abbrev p : Polygon
+  p = polygonIn limit file
+
+  -- what the one call left in the first places of its tables
+  abbrev left : Tables
+  left = patchFile limit file t .left
+
+  first-candidates : take (length (candidatesOf p)) (left .candidates) ≡ candidatesOf p
+  first-candidates = ap (λ (x : Patching). take (length (candidatesOf p)) (x .left .candidates)) (accepted limit file bytes t none .call-is) ∙ filled-take (candidatesOf p) (t .candidates) (length (candidatesOf p)) refl
+
+  first-weights : take (length (candidatesOf p)) (left .weights) ≡ weightsIn p
+  first-weights = ap (λ (x : Patching). take (length (candidatesOf p)) (x .left .weights)) (accepted limit file bytes t none .call-is) ∙ filled-take (weightsIn p) (t .weights) (length (candidatesOf p)) (sym (weight-count p))
+
+  first-rows : take (length (rowsIn p)) (left .rows) ≡ rowsIn p
+  first-rows = ap (λ (x : Patching). take (length (rowsIn p)) (x .left .rows)) (accepted limit file bytes t none .call-is) ∙ filled-take (rowsIn p) (t .rows) (length (rowsIn p)) refl
+
+  -- the patch of a rim file, with the lists that the call left, is accepted with excess 0 (rules 3.13, 3.14)
+  pub file-patch-accepted : (count total : ℕ) (work : List ℕ) → length (candidatesOf (polygonIn limit file)) ≤ length work → patchFile limit file t .outcome ≡ Patch count total
+      → judged (polygonIn limit file .n) (take (length (candidatesOf (polygonIn limit file))) (patchFile limit file t .left .candidates)) (take (length (candidatesOf (polygonIn limit file))) (patchFile limit file t .left .weights))
+      (take (length (rowsIn (polygonIn limit file))) (patchFile limit file t .left .rows)) (partOf (Patch count total) (patchFile limit file t .left .triangles)) total work
+      ≡ result (judgement.Accepted 0) (filled (replicate (length (candidatesOf (polygonIn limit file))) 0) work)
+  file-patch-accepted count total work room e =
+      (λ i. judged (p .n) (first-candidates i) (first-weights i) (first-rows i) (partOf (Patch count total) (left .triangles)) total work)
+      ∙ handed-accepted (p .n) (candidatesOf p) (weightsIn p) (rowsIn p) total (partOf (Patch count total) (left .triangles)) work
+      (rim-job-accepted p (accepted limit file bytes t none .polygon-valid) (length work) room)
+      (patch-handed (subst (λ (o : Outcome). Handed (jobIn p) (partOf o (left .triangles)) o) e (file-handed limit file bytes t none)))
