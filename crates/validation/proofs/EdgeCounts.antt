@@ -8,7 +8,8 @@ use native.Mathlib.Omega.{arith}
 use lib.ListN.{length, getD, set, take, replicate, length-set, length-replicate, getD-replicate}
 use lib.Seq.{length-take-le, getD-set-same, getD-set-other}
 use lib.Dec.{eqb}
-use borrow.Author.Tests.{eqb-true, eqb-false}
+use borrow.Author.Tests.{eqb-true, eqb-false, eq-eqb, ne-eqb}
+use Rattle.lists.proofs.Choice.{Truth, truth, holds, fails}
 use Rattle.lists.proofs.Members.{entry-member}
 use Rattle.terms.specs.Limits.{maxVertices}
 use Rattle.terms.specs.Entries.{entryAt, vertexA, vertexB, vertexC}
@@ -100,6 +101,22 @@ module _ (candidates : List (List ℕ)) (list : List ℕ) (ok : Triangles candid
               ∙ ap (λ x. x + only (eqb (vertexB (triangle i)) p && eqb (vertexC (triangle i)) q) 1) (added-at table (vertexA (triangle i)) (vertexB (triangle i)) ha hb (s .long-enough) p q hp hq)
               ∙ omega (arith, s .at p q hp hq, either-split (vertexA (triangle i)) (vertexB (triangle i)) (vertexC (triangle i)) p q (o .ab), sum-next (outside candidates p q) list i h);
         }
+
+-- ---- an edge inside: in no triangle, in others, and in one between
+module _ (n x y : ℕ) where
+  pub inner-unused : x + y ≡ 0 → edgeOk (bare n) false x y ≡ true
+  inner-unused e = ap (λ b. b || eqb x 1 && eqb y 1) (eq-eqb (x + y) 0 e)
+
+  pub inner-one-sided : x + y ≢ 0 → (x ≡ 1 → y ≡ 1 → ⊥) → edgeOk (bare n) false x y ≡ false
+  inner-one-sided d h = ap₂ (λ b t. b || t) (ne-eqb (x + y) 0 d) (go (truth (eqb x 1)) (truth (eqb y 1)))
+    where
+      go : Truth (eqb x 1) → Truth (eqb y 1) → (eqb x 1 && eqb y 1) ≡ false
+      go (holds p) (holds q) = absurd (h (eqb-true x 1 p) (eqb-true y 1 q))
+      go (holds p) (fails q) = ap₂ (λ b t. b && t) p q
+      go (fails p) q = ap (λ b. b && eqb y 1) p
+
+  pub inner-both : x ≡ 1 → edgeOk (bare n) false x y ≡ eqb y 1
+  inner-both e = ap₂ (λ b t. b || t && eqb y 1) (ne-eqb (x + y) 0 (λ (z : x + y ≡ 0). omega arith)) (eq-eqb x 1 e)
 
 -- ---- from zeros to the whole list
 pub zeros-sums : (g : ℕ → ℕ → ℕ → ℕ) (list : List ℕ) {table : List ℕ} → table ≡ replicate edgePlaces 0 → Sums g (take 0 list) table

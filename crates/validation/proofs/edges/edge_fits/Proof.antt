@@ -1,14 +1,19 @@
 -- `validation::edges::edge_fits` meets its contract. Assumes nothing.
 use Prim.Native.Nat.{_+_}
-use mathlib.Core.Path.{sym, ap, ap₂, _∙_}
-use mathlib.Core.Bool.{Bool, _&&_, _||_}
-use lib.Dec.{eqb}
-use borrow.Author.Tests.{eq-eqb, ne-eqb}
-use Rattle.triangulation.specs.Triangulations.{edgeOk}
+use mathlib.Core.Path.{_≡_, sym, ap, _∙_}
+use mathlib.Core.Bool.{Bool, true, false}
+use native.Mathlib.Omega.{arith}
+use Rattle.triangulation.specs.Triangulations.{isBoundary, edgeOk}
 use Rattle.validation.specs.Edges.{bare}
+use Rattle.validation.proofs.EdgeCounts.{inner-unused, inner-one-sided, inner-both}
 use borrow.Author.Needs.{needs}
 use Rattle.validation.proofs.edges.edge_fits.Statement.{statement}
 use Rattle.validation.proofs.edges.edge_fits.Tie as tie
+
+-- by whether the edge is on the rim
+by-rim : (s : tie.Start) {b : Bool} → isBoundary (bare (s .args .n)) (s .args .i) (s .args .j) ≡ b
+    → edgeOk (bare (s .args .n)) (isBoundary (bare (s .args .n)) (s .args .i) (s .args .j)) (s .args .between) (s .args .outside) ≡ edgeOk (bare (s .args .n)) b (s .args .between) (s .args .outside)
+by-rim s e = ap (λ (b : Bool). edgeOk (bare (s .args .n)) b (s .args .between) (s .args .outside)) e
 
 add-triangles : tie.Need-add-triangles
 add-triangles c = search needs
@@ -17,17 +22,27 @@ is-boundary-requires : tie.Need-is-boundary-requires
 is-boundary-requires c κs = search needs
 
 returns : tie.Need-returns
-returns c = let a = c .before .before .args in sym (ap (λ (b : Bool). edgeOk (bare (a .n)) b (a .between) (a .outside)) (sym (c .before .is-boundary .ensures) ∙ c .if1 .taken))
+returns c = sym (by-rim (c .before .before) (sym (c .before .is-boundary .ensures) ∙ c .if1 .taken))
+
+-- an edge inside
+module _ (g : tie.Else1) where
+  inside : isBoundary (bare (g .before .before .args .n)) (g .before .before .args .i) (g .before .before .args .j) ≡ false
+  inside = sym (g .before .is-boundary .ensures) ∙ g .if1 .left
 
 returns-2 : tie.Need-returns-2
-returns-2 c = let a = c .before .before .before .args in sym (ap (λ (b : Bool). edgeOk (bare (a .n)) b (a .between) (a .outside)) (sym (c .before .before .is-boundary .ensures) ∙ c .before .if1 .left) ∙ ap (λ (b : Bool). b || eqb (a .between) 1 && eqb (a .outside) 1) (eq-eqb (a .between + a .outside) 0 (c .if2 .taken)))
+returns-2 c = let s = c .before .before .before in sym (by-rim s (inside (c .before)) ∙ inner-unused (s .args .n) (s .args .between) (s .args .outside) (omega (arith, c .if2 .taken)))
 
 returns-3 : tie.Need-returns-3
-returns-3 c = let a = c .before .before .before .before .args in sym (ap (λ (b : Bool). edgeOk (bare (a .n)) b (a .between) (a .outside)) (sym (c .before .before .before .is-boundary .ensures) ∙ c .before .before .if1 .left) ∙ ap₂ (λ (b d : Bool). b || d && eqb (a .outside) 1) (ne-eqb (a .between + a .outside) 0 (c .before .if2 .left)) (ne-eqb (a .between) 1 (c .if3 .taken)))
+returns-3 c =
+    let s = c .before .before .before .before in
+    sym (by-rim s (inside (c .before .before)) ∙ inner-one-sided (s .args .n) (s .args .between) (s .args .outside) (λ z. c .before .if2 .left z)
+    (λ (x : s .args .between ≡ 1) (y : s .args .outside ≡ 1). omega (arith, c .if3 .taken)))
 
 returns-4 : tie.Need-returns-4
-returns-4 c = let a = c .before .before .before .before .args in sym (ap (λ (b : Bool). edgeOk (bare (a .n)) b (a .between) (a .outside)) (sym (c .before .before .before .is-boundary .ensures) ∙ c .before .before .if1 .left) ∙ ap₂ (λ (b d : Bool). b || d && eqb (a .outside) 1) (ne-eqb (a .between + a .outside) 0 (c .before .if2 .left)) (eq-eqb (a .between) 1 (c .if3 .left)))
+returns-4 c =
+    let s = c .before .before .before .before in
+    let x : s .args .between ≡ 1 = omega (arith, c .if3 .left) in
+    sym (by-rim s (inside (c .before .before)) ∙ inner-both (s .args .n) (s .args .between) (s .args .outside) x)
 
 pub edge-fits-spec : {M : Type 1} → statement M
-edge-fits-spec =
-    tie.close (tie.spec add-triangles is-boundary-requires returns returns-2 returns-3 returns-4)
+edge-fits-spec = tie.close (tie.spec add-triangles is-boundary-requires returns returns-2 returns-3 returns-4)
