@@ -1,7 +1,7 @@
 -- The excess of a stated total over the least. Assumes nothing.
-use Prim.Native.Nat.{ℕ, _+_, _-_, _≤_}
-use mathlib.Core.Path.{_≡_, refl, ap}
-use mathlib.Core.List.{List, [], _∷_}
+use Prim.Native.Nat.{ℕ, _-_, _≤_}
+use mathlib.Core.Path.{_≡_, refl}
+use mathlib.Core.List.{List, _∷_}
 use native.Mathlib.Omega.{arith}
 use Rattle.triangulation.specs.Triangulations.{Job, Valid, Answer, none, patch, totalWeight, bestKey, answerOf, best}
 use Rattle.triangulation.specs.Recursion.{costOf}

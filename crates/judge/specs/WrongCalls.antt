@@ -1,7 +1,6 @@
 -- What wrong judges would answer and leave. That none of it is right is proved (proofs/WrongCalls.antt); nobody has to believe it.
 use Prim.Native.Nat.{ℕ}
 use mathlib.Core.List.{List, [], _∷_}
-use lib.ListN.{replicate}
 use Rattle.terms.specs.Entries.{triple}
 use Rattle.triangulator.specs.Cases.{Lists, lists, single, listsP}
 use Rattle.judge.specs.declared.Judgement.the-variants.{Accepted, Refused}

@@ -1,13 +1,13 @@
 -- The number due on a list, by the steps of the code. Assumes nothing.
 use Prim.Native.Nat.{ℕ, _-_, _≤_, _<_}
-use mathlib.Core.Path.{_≡_, refl, sym, ap, ap₂, _∙_}
+use mathlib.Core.Path.{_≡_, sym, ap, ap₂, _∙_}
 use mathlib.Core.Bool.{Bool, true, false}
 use mathlib.Core.List.{List, []}
 use native.Mathlib.Omega.{arith}
 use lib.ListN.{length, getD}
 use lib.Dec.{eqb, ltb}
 use borrow.Author.Tests.{eqb-true, eq-eqb, lt-ltb, ltb-true}
-use Rattle.lists.proofs.Choice.{Truth, truth, holds, fails, yes, no, both-left, both-right, both-true, not-true-false, true-not-false}
+use Rattle.lists.proofs.Choice.{Truth, truth, holds, fails, no, both-left, both-right, both-true, not-true-false, true-not-false}
 use Rattle.lists.proofs.Ranges.{every-at, every-all}
 use Rattle.lists.proofs.Members.{member-entry, entry-member}
 use Rattle.terms.specs.Limits.{maxVertices}

@@ -1,7 +1,6 @@
 -- `judge::judge` meets its contract, exit by exit. Assumes nothing.
 use Prim.Native.Nat.{_+_, _-_, _≤_}
 use mathlib.Core.Path.{_≡_, sym, _∙_}
-use mathlib.Core.List.{List}
 use native.Mathlib.Omega.{arith}
 use lib.ListN.{length}
 use Rattle.triangulation.specs.Triangulations.{Job}

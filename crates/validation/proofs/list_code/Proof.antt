@@ -1,5 +1,5 @@
 -- `validation::list_code` meets its contract. Assumes nothing.
-use mathlib.Core.Path.{_≡_, sym, _∙_}
+use mathlib.Core.Path.{_≡_, _∙_}
 use mathlib.Core.Bool.{true}
 use lib.ListN.{length}
 use Rattle.lists.proofs.Choice.{holds-via, fails-via}

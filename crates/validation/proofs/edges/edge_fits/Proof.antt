@@ -1,7 +1,6 @@
 -- `validation::edges::edge_fits` meets its contract. Assumes nothing.
-use Prim.Native.Nat.{_+_}
 use mathlib.Core.Path.{_≡_, sym, ap, _∙_}
-use mathlib.Core.Bool.{Bool, true, false}
+use mathlib.Core.Bool.{Bool, false}
 use native.Mathlib.Omega.{arith}
 use Rattle.triangulation.specs.Triangulations.{isBoundary, edgeOk}
 use Rattle.validation.specs.Edges.{bare}
