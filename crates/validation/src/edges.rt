@@ -12,11 +12,11 @@ ghost use Rattle.validation.specs.Edges.{edgeAt, edgePlaces, added, Room
 const EDGES: usize = terms::MAX_VERTICES * terms::MAX_VERTICES;
 
 // The place of the edge (i, j).
-fn edge_index(i: u8, j: u8) -> usize
+fn edge_index(i: usize, j: usize) -> usize
     requires { ⌜ (i < maxVertices) × (j < maxVertices) ⌝ }
     ensures { λ r. ⌜ (r ≡ edgeAt i j) × (r < edgePlaces) ⌝ }
 {
-    i as usize * terms::MAX_VERTICES + j as usize
+    i * terms::MAX_VERTICES + j
 }
 
 // One triangle more at the edge (i, j).
@@ -24,7 +24,7 @@ fn add(table: &mut [u8; EDGES], i: u8, j: u8)
     requires { ⌜ (i < maxVertices) × (j < maxVertices) × Room (now table) i j ⌝ }
     ensures { λ _. ⌜ now (table .exit) ≡ added (now (table .entry)) i j ⌝ }
 {
-    let at = edge_index(i, j);
+    let at = edge_index(i as usize, j as usize);
     table[at] += 1;
 }
 
@@ -100,7 +100,7 @@ fn edges_to_fit(n: usize, j: usize, between: &[u8; EDGES], outside: &[u8; EDGES]
     ensures { λ r. ⌜ r ≡ allBelow j (edgeFits n (now (between .entry)) (now (outside .entry)) j) ⌝ }
 {
     for i in 0..j {
-        let at = i * terms::MAX_VERTICES + j;
+        let at = edge_index(i, j);
         if !edge_fits(n, i, j, between[at], outside[at]) {
             return false;
         }

@@ -15,14 +15,18 @@ element-copy-out-table : tie.Need-element-copy-out-table
 element-copy-out-table c = search needs
 
 add-table : tie.Need-add-table
-add-table c = let s = c .before .before in omega (arith, s .pre .2, ap (λ (p : ℕ). getD (s .args .table .now) p 0) (c .before .edge-index .ensures .0))
+add-table c =
+    let s = c .before .before in
+    omega (arith, s .pre .2, ap (λ (p : ℕ). getD (s .args .table .now) p 0) (c .before .edge-index .ensures .0))
 
 element-write-table : tie.Need-element-write-table
 element-write-table c = search needs
 
 returns : tie.Need-returns
 unfolding added
-returns c = let s = c .before .before in ap (λ (p : ℕ). set (s .args .table .now) p (getD (s .args .table .now) p 0 + 1)) (c .before .edge-index .ensures .0)
+returns c =
+    let s = c .before .before in
+    ap (λ (p : ℕ). set (s .args .table .now) p (getD (s .args .table .now) p 0 + 1)) (c .before .edge-index .ensures .0)
 
 pub add-spec : {M : Type 1} → statement M
 add-spec =

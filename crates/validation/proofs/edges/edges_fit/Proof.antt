@@ -23,7 +23,9 @@ edges-to-fit-requires : tie.Need-edges-to-fit-requires Inv-loop μ-loop
 edges-to-fit-requires c κs = (omega arith, omega arith)
 
 returns : tie.Need-returns Inv-loop μ-loop
-returns c = let s = c .before .before .before .before .args in sym (below-stop (s .n) (λ k. allBelow k (edgeFits (s .n) (s .between .now) (s .outside .now) k)) (c .before .before .before .loop .j) (c .before .before .loop-test .taken) (sym (c .before .edges-to-fit .ensures) ∙ not-true _ (c .if1 .taken)))
+returns c =
+    let s = c .before .before .before .before .args in
+    sym (below-stop (s .n) (λ k. allBelow k (edgeFits (s .n) (s .between .now) (s .outside .now) k)) (c .before .before .before .loop .j) (c .before .before .loop-test .taken) (sym (c .before .edges-to-fit .ensures) ∙ not-true _ (c .if1 .taken)))
 
 add-j : tie.Need-add-j Inv-loop μ-loop
 add-j c = omega arith
@@ -32,10 +34,16 @@ loop-less : tie.Need-loop-less Inv-loop μ-loop
 loop-less c = omega arith
 
 loop-again : tie.Need-loop-again Inv-loop μ-loop
-loop-again c = let s = c .before .before .before .before .args in (omega arith, below-next (c .before .before .before .loop .j) (λ k. allBelow k (edgeFits (s .n) (s .between .now) (s .outside .now) k)) (c .before .before .before .loop .inv .1) (sym (c .before .edges-to-fit .ensures) ∙ not-false _ (c .if1 .left)))
+loop-again c =
+    let s = c .before .before .before .before .args in
+    (omega arith, below-next (c .before .before .before .loop .j) (λ k. allBelow k (edgeFits (s .n) (s .between .now) (s .outside .now) k)) (c .before .before .before .loop .inv .1) (sym (c .before .edges-to-fit .ensures) ∙ not-false _ (c .if1 .left)))
 
 returns-2 : tie.Need-returns-2 Inv-loop μ-loop
-returns-2 c = let s = c .before .before .args in let l = c .before .loop in let e : l .j ≡ s .n = omega arith in sym (ap (λ m. allBelow m (λ k. allBelow k (edgeFits (s .n) (s .between .now) (s .outside .now) k))) (sym e) ∙ l .inv .1)
+returns-2 c =
+    let s = c .before .before .args in
+    let l = c .before .loop in
+    let e : l .j ≡ s .n = omega arith in
+    sym (ap (λ m. allBelow m (λ k. allBelow k (edgeFits (s .n) (s .between .now) (s .outside .now) k))) (sym e) ∙ l .inv .1)
 
 pub edges-fit-spec : {M : Type 1} → statement M
 edges-fit-spec =

@@ -1,11 +1,12 @@
 -- `validation::edges::edges_to_fit` meets its contract. Assumes nothing.
-use Prim.Native.Nat.{_≤_, _-_}
+use Prim.Native.Nat.{ℕ, _≤_, _-_}
 use mathlib.Core.Path.{_≡_, refl, sym, ap, _∙_}
 use mathlib.Core.Bool.{true}
 use native.Mathlib.Omega.{arith}
+use lib.ListN.{getD}
 use borrow.Author.Tests.{not-true, not-false}
-use Rattle.triangulation.specs.Triangulations.{allBelow}
-use Rattle.validation.specs.Edges.{edgeFits}
+use Rattle.triangulation.specs.Triangulations.{allBelow, isBoundary, edgeOk}
+use Rattle.validation.specs.Edges.{bare, edgeFits}
 use Rattle.validation.proofs.Fronts.{below-next, below-stop}
 use Rattle.validation.proofs.edges.edges_to_fit.Statement.{statement}
 use Rattle.validation.proofs.edges.edges_to_fit.Tie as tie
@@ -19,23 +20,37 @@ abbrev μ-loop : tie.MeasureT-loop
 loop-holds : tie.Need-loop-holds Inv-loop μ-loop
 loop-holds c = (omega arith, refl)
 
-mul-at : tie.Need-mul-at Inv-loop μ-loop
-mul-at c = omega arith
-
-add-at : tie.Need-add-at Inv-loop μ-loop
-add-at c = omega arith
+edge-index-requires : tie.Need-edge-index-requires Inv-loop μ-loop
+edge-index-requires c κs = (omega arith, omega arith)
 
 element-copy-out-edge-fits : tie.Need-element-copy-out-edge-fits Inv-loop μ-loop
-element-copy-out-edge-fits c = omega arith
+element-copy-out-edge-fits c = omega (arith, c .edge-index .ensures .1)
 
 element-copy-out-edge-fits-2 : tie.Need-element-copy-out-edge-fits-2 Inv-loop μ-loop
-element-copy-out-edge-fits-2 c = omega arith
+element-copy-out-edge-fits-2 c = omega (arith, c .before .edge-index .ensures .1)
 
 edge-fits-requires : tie.Need-edge-fits-requires Inv-loop μ-loop
 edge-fits-requires c κs = (omega arith, omega arith)
 
+-- in a turn: the call, and the test of its edge
+module _ (g : tie.After-edge-fits Inv-loop μ-loop) where
+  abbrev call : tie.Start Inv-loop μ-loop
+  call = g .before .before .before .before .before .before
+
+  abbrev vertex : ℕ
+  vertex = g .before .before .before .before .before .loop .i
+
+  fits : g .edge-fits .result ≡ edgeFits (call .args .n) (call .args .between .now) (call .args .outside .now) (call .args .j) vertex
+  fits =
+      let a = call .args in
+      g .edge-fits .ensures
+      ∙ ap (λ (p : ℕ). edgeOk (bare (a .n)) (isBoundary (bare (a .n)) vertex (a .j)) (getD (a .between .now) p 0) (getD (a .outside .now) p 0)) (g .before .before .before .edge-index .ensures .0)
+
 returns : tie.Need-returns Inv-loop μ-loop
-returns c = let s = c .before .before .before .before .before .before .args in sym (below-stop (s .j) (edgeFits (s .n) (s .between .now) (s .outside .now) (s .j)) (c .before .before .before .before .before .loop .i) (c .before .before .before .before .loop-test .taken) (sym (c .before .edge-fits .ensures) ∙ not-true _ (c .if1 .taken)))
+returns c =
+    let g = c .before in
+    let a = call g .args in
+    sym (below-stop (a .j) (edgeFits (a .n) (a .between .now) (a .outside .now) (a .j)) (vertex g) (g .before .before .before .before .loop-test .taken) (sym (fits g) ∙ not-true _ (c .if1 .taken)))
 
 add-i : tie.Need-add-i Inv-loop μ-loop
 add-i c = omega arith
@@ -44,10 +59,17 @@ loop-less : tie.Need-loop-less Inv-loop μ-loop
 loop-less c = omega arith
 
 loop-again : tie.Need-loop-again Inv-loop μ-loop
-loop-again c = let s = c .before .before .before .before .before .before .args in (omega arith, below-next (c .before .before .before .before .before .loop .i) (edgeFits (s .n) (s .between .now) (s .outside .now) (s .j)) (c .before .before .before .before .before .loop .inv .1) (sym (c .before .edge-fits .ensures) ∙ not-false _ (c .if1 .left)))
+loop-again c =
+    let g = c .before in
+    let a = call g .args in
+    (omega arith, below-next (vertex g) (edgeFits (a .n) (a .between .now) (a .outside .now) (a .j)) (g .before .before .before .before .before .loop .inv .1) (sym (fits g) ∙ not-false _ (c .if1 .left)))
 
 returns-2 : tie.Need-returns-2 Inv-loop μ-loop
-returns-2 c = let s = c .before .before .args in let l = c .before .loop in let e : l .i ≡ s .j = omega arith in sym (ap (λ k. allBelow k (edgeFits (s .n) (s .between .now) (s .outside .now) (s .j))) (sym e) ∙ l .inv .1)
+returns-2 c =
+    let a = c .before .before .args in
+    let l = c .before .loop in
+    let e : l .i ≡ a .j = omega arith in
+    sym (ap (λ k. allBelow k (edgeFits (a .n) (a .between .now) (a .outside .now) (a .j))) (sym e) ∙ l .inv .1)
 
 pub edges-to-fit-spec : {M : Type 1} → statement M
 edges-to-fit-spec =
@@ -56,8 +78,7 @@ edges-to-fit-spec =
     Inv-loop
     μ-loop
     loop-holds
-    mul-at
-    add-at
+    edge-index-requires
     element-copy-out-edge-fits
     element-copy-out-edge-fits-2
     edge-fits-requires

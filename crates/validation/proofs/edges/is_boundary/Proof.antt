@@ -16,13 +16,17 @@ returns : tie.Need-returns
 returns c = let a = c .before .args in sym (ap (λ (b : Bool). b || eqb (a .i) 0 && eqb (a .j) (a .n - 1)) (eq-eqb _ _ (c .if1 .taken)))
 
 returns-2 : tie.Need-returns-2
-returns-2 c = let a = c .before .before .args in sym (ap₂ (λ (b d : Bool). b || d && eqb (a .j) (a .n - 1)) (ne-eqb _ _ (c .before .if1 .left)) (ne-eqb _ _ (c .if2 .taken)))
+returns-2 c =
+    let a = c .before .before .args in
+    sym (ap₂ (λ (b d : Bool). b || d && eqb (a .j) (a .n - 1)) (ne-eqb _ _ (c .before .if1 .left)) (ne-eqb _ _ (c .if2 .taken)))
 
 sub-result : tie.Need-sub-result
 sub-result c = search needs
 
 returns-3 : tie.Need-returns-3
-returns-3 c = let a = c .before .before .args in sym (ap₂ (λ (b d : Bool). b || d && eqb (a .j) (a .n - 1)) (ne-eqb _ _ (c .before .if1 .left)) (eq-eqb _ _ (c .if2 .left)))
+returns-3 c =
+    let a = c .before .before .args in
+    sym (ap₂ (λ (b d : Bool). b || d && eqb (a .j) (a .n - 1)) (ne-eqb _ _ (c .before .if1 .left)) (eq-eqb _ _ (c .if2 .left)))
 
 pub is-boundary-spec : {M : Type 1} → statement M
 is-boundary-spec = tie.close (tie.spec add-if1 returns returns-2 sub-result returns-3)
