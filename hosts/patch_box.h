@@ -161,7 +161,7 @@ patch_box_patch_answer patch_box_job(size_t n,
 /* The judge of a patch that another program made for a direct job: `list` has the numbers of its candidates, in any order, and `stated` is the total that
  * it is said to have. A number of 13 to 17, 21 or 22, or the excess of that total over the least one, 0 where no patch of the job costs less. A job whose
  * candidates hold no triangulation has no list but those refused with 21. Places for weights and work are as in patch_box_job, and so is what is left in
- * the work table; the list may have any length. */
+ * the work table. The list may have any length, and is lent as a table is: its pointer is not null, and it overlaps no table. */
 patch_box_judge_answer patch_box_judge(size_t n,
                                        const patch_box_candidate *candidates, size_t candidates_len,
                                        const uint32_t *weights, size_t weights_len,

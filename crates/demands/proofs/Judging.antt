@@ -16,14 +16,14 @@ use Rattle.jobs.proofs.Acceptance.{fitting-accepted}
 use Rattle.triangulator.specs.declared.Outcome.{Outcome}
 use Rattle.triangulator.specs.declared.Outcome.the-variants.{Patch}
 use Rattle.triangulator.specs.Call.{partOf}
-use Rattle.triangulator.specs.Demands.{Handed}
+use Rattle.triangulator.specs.Demands.{Taken, a-patch, Handed}
 use Rattle.judge.specs.declared.Judgement.the-variants as judgement
 use Rattle.judge.specs.Call.{result, judged}
 use Rattle.judge.proofs.Demands.{patch-handed, handed-accepted}
 use Rattle.pipeline.specs.Patching.{Tables, Patching, weightsIn, rowsIn, jobIn, patchFile}
 use Rattle.pipeline.proofs.Accepted.{weight-count, lists-accepted}
 use Rattle.demands.specs.Demand1.{polygonIn, CallDue}
-use Rattle.demands.proofs.Demand1.{accepted}
+use Rattle.demands.proofs.Demand1.{taken-only-when, accepted}
 use Rattle.demands.proofs.Demands.{file-handed}
 
 -- none of 13 to 17 is due on the lists of a rim beside a work table that is long enough (rule 4.36)
@@ -32,22 +32,25 @@ rim-job-accepted p v workPlaces h =
     fitting-accepted (p .n) (candidatesOf p) (weightsIn p) (rowsIn p) (p .n - 2) workPlaces
     (record { at-least = v .least; at-most = v .most; triangle-room = omega arith; work-room = h; lists = lists-accepted p v })
 
-module _ (limit : ℕ) (file : List ℕ) (bytes : Bytes file) (t : Tables) (none : NoneDue (CallDue limit file t)) where
+module _ (limit : ℕ) (file : List ℕ) (bytes : Bytes file) (t : Tables) where
   abbrev p : Polygon
   p = polygonIn limit file
+
+  abbrev None : Type 0
+  None = NoneDue (CallDue limit file t)
 
   -- what the one call left in the first places of its tables
   abbrev left : Tables
   left = patchFile limit file t .left
 
-  first-candidates : take (length (candidatesOf p)) (left .candidates) ≡ candidatesOf p
-  first-candidates = ap (λ (x : Patching). take (length (candidatesOf p)) (x .left .candidates)) (accepted limit file bytes t none .call-is) ∙ filled-take (candidatesOf p) (t .candidates) (length (candidatesOf p)) refl
+  first-candidates : None → take (length (candidatesOf p)) (left .candidates) ≡ candidatesOf p
+  first-candidates none = ap (λ (x : Patching). take (length (candidatesOf p)) (x .left .candidates)) (accepted limit file bytes t none .call-is) ∙ filled-take (candidatesOf p) (t .candidates) (length (candidatesOf p)) refl
 
-  first-weights : take (length (candidatesOf p)) (left .weights) ≡ weightsIn p
-  first-weights = ap (λ (x : Patching). take (length (candidatesOf p)) (x .left .weights)) (accepted limit file bytes t none .call-is) ∙ filled-take (weightsIn p) (t .weights) (length (candidatesOf p)) (sym (weight-count p))
+  first-weights : None → take (length (candidatesOf p)) (left .weights) ≡ weightsIn p
+  first-weights none = ap (λ (x : Patching). take (length (candidatesOf p)) (x .left .weights)) (accepted limit file bytes t none .call-is) ∙ filled-take (weightsIn p) (t .weights) (length (candidatesOf p)) (sym (weight-count p))
 
-  first-rows : take (length (rowsIn p)) (left .rows) ≡ rowsIn p
-  first-rows = ap (λ (x : Patching). take (length (rowsIn p)) (x .left .rows)) (accepted limit file bytes t none .call-is) ∙ filled-take (rowsIn p) (t .rows) (length (rowsIn p)) refl
+  first-rows : None → take (length (rowsIn p)) (left .rows) ≡ rowsIn p
+  first-rows none = ap (λ (x : Patching). take (length (rowsIn p)) (x .left .rows)) (accepted limit file bytes t none .call-is) ∙ filled-take (rowsIn p) (t .rows) (length (rowsIn p)) refl
 
   -- the patch of a rim file, with the lists that the call left, is accepted with excess 0 (rules 3.13, 3.14)
   pub file-patch-accepted : (count total : ℕ) (work : List ℕ) → length (candidatesOf (polygonIn limit file)) ≤ length work → patchFile limit file t .outcome ≡ Patch count total
@@ -55,7 +58,8 @@ module _ (limit : ℕ) (file : List ℕ) (bytes : Bytes file) (t : Tables) (none
       (take (length (rowsIn (polygonIn limit file))) (patchFile limit file t .left .rows)) (partOf (Patch count total) (patchFile limit file t .left .triangles)) total work
       ≡ result (judgement.Accepted 0) (filled (replicate (length (candidatesOf (polygonIn limit file))) 0) work)
   file-patch-accepted count total work room e =
-      (λ i. judged (p .n) (first-candidates i) (first-weights i) (first-rows i) (partOf (Patch count total) (left .triangles)) total work)
+      let none : None = taken-only-when limit file bytes t (subst Taken (sym e) a-patch) in
+      (λ i. judged (p .n) (first-candidates none i) (first-weights none i) (first-rows none i) (partOf (Patch count total) (left .triangles)) total work)
       ∙ handed-accepted (p .n) (candidatesOf p) (weightsIn p) (rowsIn p) total (partOf (Patch count total) (left .triangles)) work
       (rim-job-accepted p (accepted limit file bytes t none .polygon-valid) (length work) room)
       (patch-handed (subst (λ (o : Outcome). Handed (jobIn p) (partOf o (left .triangles)) o) e (file-handed limit file bytes t none)))

@@ -8,14 +8,7 @@ use Rattle.triangulation.specs.Recursion.{costOf}
 use Rattle.triangulation.specs.Demand3.{Triangulates}
 use Rattle.triangulation.proofs.Demand3.{demand3}
 use Rattle.judge.specs.Call.{excessOver}
-use Rattle.judge.specs.Demands.{Cheapest, Excess}
-
--- a tiling of least total
-pub record Least (job : Job) (total : ℕ) : Type 0 where
-  pub set : List ℕ
-  pub tiles : Triangulates job set
-  pub weight : total ≡ totalWeight job set
-  pub lowest : Cheapest job total
+use Rattle.judge.specs.Demands.{Least, Excess}
 
 module _ (job : Job) (good : Valid job) (s : List ℕ) (tiles : Triangulates job s) where
   -- where there is a tiling, the answer has the least total, and what the dynamic programme returns is it
@@ -35,7 +28,9 @@ module _ (job : Job) (good : Valid job) (s : List ℕ) (tiles : Triangulates job
     where
       go : {a : Answer} → Known a → Excess job stated (excessOver a stated)
       go (known least triangles l) = let b = l .lowest s tiles in record {
-        over-least = λ t h m. omega (arith, l .lowest t h, m (l .set) (l .tiles), l .weight);
+        least = least;
+        least-is = l;
+        over = omega arith;
         zero-cheapest = λ z t h. omega (arith, l .lowest t h);
         cheapest-zero = λ m. omega (arith, m (l .set) (l .tiles), l .weight);
       }

@@ -25,8 +25,17 @@ SameNumbers list list′ = (k : ℕ) → times k list ≡ times k list′
 abbrev pub Cheapest : Job → ℕ → Type 0
 Cheapest job total = (s : List ℕ) → Triangulates job s → total ≤ totalWeight job s
 
+-- this is the least total: that of a tiling, and no tiling costs less (rule 3.14)
+pub record Least (job : Job) (total : ℕ) : Type 0 where
+  pub set : List ℕ
+  pub tiles : Triangulates job set
+  pub weight : total ≡ totalWeight job set
+  pub lowest : Cheapest job total
+
 -- the excess over the least total, which is 0 exactly when no tiling costs less (rule 3.14)
 pub record Excess (job : Job) (stated excess : ℕ) : Type 0 where
-  pub over-least : (s : List ℕ) → Triangulates job s → Cheapest job (totalWeight job s) → stated ≡ totalWeight job s + excess
+  pub least : ℕ
+  pub least-is : Least job least
+  pub over : stated ≡ least + excess
   pub zero-cheapest : excess ≡ 0 → Cheapest job stated
   pub cheapest-zero : Cheapest job stated → excess ≡ 0

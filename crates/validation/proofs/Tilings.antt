@@ -8,12 +8,13 @@ use lib.ListN.{length}
 use lib.Dec.{eqb}
 use borrow.Author.Tests.{eqb-true}
 use Rattle.lists.proofs.Choice.{Truth, truth, holds, fails, true-not-false, not-true-false}
-use Rattle.triangulation.specs.Triangulations.{Job, Valid, only, sum, longEdge, shortEdge, countBetween, countOutside, isBoundary, edgeOk, isTriangulation, totalWeight}
+use Rattle.triangulation.specs.Triangulations.{Job, Valid, only, longEdge, shortEdge, countBetween, countOutside, isBoundary, edgeOk, isTriangulation, totalWeight}
 use Rattle.triangulation.proofs.Sums.{Mem, sum-ext, count-mono}
 use Rattle.triangulation.proofs.SetParts.{longEdge-is}
 use Rattle.triangulation.proofs.SetsToParts.{triangulation-set}
 use Rattle.triangulation.proofs.Demand3.{sum-ones, triangle-count}
 use Rattle.validation.specs.Validation.{named, isTiling, listTotal}
+use Rattle.validation.specs.Totals.{share}
 use Rattle.validation.proofs.Fronts.{below-same}
 use Rattle.validation.proofs.Naming.{Names, named-sum, tiling-names, tiling-tiles, names-tiling}
 
@@ -24,16 +25,12 @@ module _ (job : Job) (list : List ℕ) where
   named-triangulation h = below-same (job .n) _ _ (λ j _. below-same j _ _ (λ i _.
       ap₂ (λ x y. edgeOk job (isBoundary job i j) x y) (named-sum job list h (λ k. only (longEdge job i j k) 1)) (named-sum job list h (λ k. only (shortEdge job i j k) 1))))
 
-  -- what triangle o adds to the total of a set
-  abbrev share : List ℕ → ℕ → ℕ
-  share s o = job .weight o + sum (λ i. only (shortEdge job (job .a i) (job .c i) o) (job .row o i)) s
-
   pub total-is : isTiling job list ≡ true → listTotal job list ≡ totalWeight job list
   unfolding listTotal totalWeight
   total-is e =
       let h = tiling-names job list e in
-      sum-ext (share (named job list)) (share list) (named job list) (λ o m. ap (λ x. job .weight o + x) (named-sum job list h (λ i. only (shortEdge job (job .a i) (job .c i) o) (job .row o i))))
-      ∙ named-sum job list h (share list)
+      sum-ext (share job (named job list)) (share job list) (named job list) (λ o m. ap (λ x. job .weight o + x) (named-sum job list h (λ i. only (shortEdge job (job .a i) (job .c i) o) (job .row o i))))
+      ∙ named-sum job list h (share job list)
 
   module _ (good : Valid job) where
     -- a list of another length is no tiling

@@ -1,9 +1,8 @@
 -- The total of a list of triangles, row by row. What functions say to each other; nobody has to believe it.
 use Prim.Native.Nat.{ℕ, _+_}
 use mathlib.Core.List.{List, []}
-use lib.ListN.{getD}
 use Rattle.terms.specs.Entries.{entryAt, vertexA, vertexC}
-use Rattle.triangulation.specs.Triangulations.{only, sum, shortEdge}
+use Rattle.triangulation.specs.Triangulations.{Job, only, sum, shortEdge}
 use Rattle.triangulation.specs.Jobs.{jobOf, pairWeight}
 
 -- the weight of the row from candidate o to candidate i, where i hangs on o
@@ -15,5 +14,5 @@ abbrev pub hangingRows : List (List ℕ) → List (List ℕ) → List ℕ → �
 hangingRows candidates rows list o = sum (hangingRow candidates rows o) list
 
 -- what triangle o adds to the total of a list
-abbrev pub share : List (List ℕ) → List ℕ → List (List ℕ) → List ℕ → ℕ → ℕ
-share candidates weights rows list o = getD weights o 0 + hangingRows candidates rows list o
+abbrev pub share : Job → List ℕ → ℕ → ℕ
+share job list o = job .weight o + sum (λ i. only (shortEdge job (job .a i) (job .c i) o) (job .row o i)) list

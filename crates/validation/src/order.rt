@@ -1,4 +1,4 @@
-// Which of the two numbers of a list comes first.
+// Which of the two numbers of a list comes first, once both tests are made.
 ghost use mathlib.Core.Path.{_≡_};
 ghost use Rattle.jobs.specs.Job.{unless};
 
