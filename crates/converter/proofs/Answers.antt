@@ -6,7 +6,7 @@ use Prim.Native.Nat.{ℕ, zero, suc}
 use native.Mathlib.Omega.{arith}
 use lib.ListN.{length}
 use Rattle.lists.specs.Lists.{filled}
-use Rattle.polygon.specs.Polygon.{firstDue}
+use Rattle.terms.specs.Numbers.{firstDue}
 use Rattle.terms.specs.Limits.{maxVertices}
 use Rattle.reader.specs.File.{lengthWrong}
 use Rattle.reader.specs.Reading.{polygonOf, answer, readingOf, statusNumber}

@@ -9,8 +9,8 @@ use borrow.Author.Tests.{le-ltb}
 use lib.Dec.{ltb}
 use lib.ListN.{length}
 use Rattle.lists.proofs.Writing.{filled-first}
-use Rattle.polygon.specs.Polygon.{firstDue}
-use Rattle.polygon.proofs.Codes.{due-neither}
+use Rattle.terms.specs.Numbers.{firstDue}
+use Rattle.terms.proofs.Numbers.{due-neither}
 use Rattle.terms.specs.Limits.{maxVertices}
 use Rattle.reader.specs.File.{Bytes, isEdition2}
 use Rattle.reader.specs.Editions.{SameRim}

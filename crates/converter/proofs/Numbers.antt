@@ -13,7 +13,7 @@ use Rattle.lists.specs.Lists.{filled}
 use Rattle.lists.proofs.Choice.{Truth, holds, fails, truth, yes, no, true-not-false, not-true-false, not-false-true}
 use Rattle.lists.proofs.Ranges.{some-here, Found, some-found}
 use Rattle.polygon.specs.Normal.{noNormal, isNone}
-use Rattle.polygon.specs.Polygon.{firstDue}
+use Rattle.terms.specs.Numbers.{firstDue}
 use Rattle.polygon.specs.declared.normal.Normal.{Normal}
 use Rattle.polygon.proofs.Normals.{none-is}
 use Rattle.terms.specs.Limits.{maxVertices}

@@ -6,7 +6,7 @@ use lib.Dec.{ltb}
 use lib.ListN.{length}
 use Rattle.lists.specs.Lists.{filled, firstPlaces}
 use Rattle.terms.specs.Limits.{maxVertices}
-use Rattle.polygon.specs.Polygon.{firstDue}
+use Rattle.terms.specs.Numbers.{firstDue}
 use Rattle.reader.specs.Reading as reader
 use Rattle.converter.specs.Converted.{converted, otherEdition, normalLost}
 use Rattle.converter.specs.declared.Conversion.{Conversion}

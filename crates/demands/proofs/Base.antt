@@ -11,7 +11,7 @@ use Rattle.lists.specs.Lists.{both, either}
 use Rattle.lists.proofs.Choice.{both-true}
 use Rattle.polygon.specs.declared.Polygon.{Polygon}
 use Rattle.polygon.specs.declared.normal.Normal.{Normal}
-use Rattle.polygon.proofs.Codes.{due-neither}
+use Rattle.terms.proofs.Numbers.{due-neither}
 use Rattle.polygon.specs.Normal.{noNormal, isNone}
 use Rattle.terms.specs.Entries.{vertexA, vertexB, vertexC}
 use Rattle.reader.specs.declared.Status.the-variants.{Complete}

@@ -4,7 +4,7 @@ use mathlib.Core.Path.{_≡_, ap}
 use mathlib.Core.Bool.{false}
 use mathlib.Core.List.{List}
 use Prim.Native.Nat.{ℕ}
-use Rattle.polygon.specs.Polygon.{firstDue}
+use Rattle.terms.specs.Numbers.{firstDue}
 use Rattle.reader.specs.Editions.{SameRim}
 use Rattle.reader.specs.declared.Reading.{Reading}
 use Rattle.reader.proofs.Editions.{number-same, polygon-same, reading-same}

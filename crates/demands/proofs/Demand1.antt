@@ -12,7 +12,8 @@ use lib.ListN.{length}
 use Rattle.lists.specs.Lists.{upFrom}
 use Rattle.lists.proofs.Choice.{Truth, holds, fails, truth, yes, no, true-not-false, either-left, either-right}
 use Rattle.polygon.specs.declared.Polygon.{Polygon}
-use Rattle.polygon.specs.Polygon.{codeOf, Valid, emptyPolygon, firstDue}
+use Rattle.polygon.specs.Polygon.{codeOf, Valid, emptyPolygon}
+use Rattle.terms.specs.Numbers.{firstDue}
 use Rattle.polygon.proofs.Validity.{valid-code}
 use Rattle.reader.specs.declared.Status.the-variants.{Complete}
 use Rattle.reader.specs.File.{Bytes}

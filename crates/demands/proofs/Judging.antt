@@ -19,7 +19,8 @@ use Rattle.triangulator.specs.Call.{partOf}
 use Rattle.triangulator.specs.Demands.{Taken, a-patch, Handed}
 use Rattle.judge.specs.declared.Judgement.the-variants as judgement
 use Rattle.judge.specs.Call.{result, judged}
-use Rattle.judge.proofs.Demands.{patch-handed, handed-accepted}
+use Rattle.triangulator.proofs.Demands.{patch-handed}
+use Rattle.judge.proofs.Demands.{handed-accepted}
 use Rattle.pipeline.specs.Patching.{Tables, Patching, weightsIn, rowsIn, jobIn, patchFile}
 use Rattle.pipeline.proofs.Accepted.{weight-count, lists-accepted}
 use Rattle.demands.specs.Demand1.{polygonIn, CallDue}

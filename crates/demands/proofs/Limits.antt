@@ -7,7 +7,7 @@ use mathlib.Core.List.{List}
 use Prim.Native.Nat.{ℕ, suc, _≤_, _<_}
 use native.Mathlib.Omega.{arith}
 use Rattle.terms.specs.Limits.{minVertices, maxVertices, trimVertices, countFits}
-use Rattle.polygon.specs.Polygon.{firstDue}
+use Rattle.terms.specs.Numbers.{firstDue}
 use Rattle.reader.specs.File.{Bytes}
 use Rattle.reader.specs.Order.{Place, request, Precedes, by-number}
 use Rattle.reader.specs.Due.{HasRecords, AtMost, limit-wrong}

@@ -6,7 +6,7 @@ use Prim.Native.Nat.{ℕ, zero, suc}
 use native.Mathlib.Omega.{arith}
 use lib.ListN.{length}
 use Rattle.lists.proofs.Choice.{Truth, holds, fails, truth, true-not-false}
-use Rattle.polygon.specs.Polygon.{firstDue}
+use Rattle.terms.specs.Numbers.{firstDue}
 use Rattle.reader.specs.Reading.{polygonOf}
 use Rattle.reader.specs.Reading as reader
 use Rattle.delaunay.specs.Candidates.{candidatesOf}

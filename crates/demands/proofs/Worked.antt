@@ -14,7 +14,8 @@ use Rattle.lists.proofs.Choice.{yes, no}
 use Rattle.grid.specs.Point.{point}
 use Rattle.grid.specs.Number.{finite, numerator, denominator, negative, inRange, roundEighths, gridNumberOf}
 use Rattle.polygon.specs.declared.Polygon.{Polygon}
-use Rattle.polygon.specs.Polygon.{origin, codeOf, repeatedVertex, firstDue, verticesCodeFrom}
+use Rattle.polygon.specs.Polygon.{origin, codeOf, repeatedVertex, verticesCodeFrom}
+use Rattle.terms.specs.Numbers.{firstDue}
 use Rattle.polygon.specs.declared.normal.Normal.{Normal}
 use Rattle.polygon.specs.Normal.{normal, noNormal}
 use Rattle.reader.specs.File.{layoutOf, lengthWrong}

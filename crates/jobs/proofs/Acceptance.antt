@@ -124,3 +124,10 @@ module _ (n : ℕ) (candidates : List (List ℕ)) (weights : List ℕ) (rows : L
   fitting-accepted f k (row-not-after i h e) = true-not-false (true-row-before _ _ (f .lists .rows-are .ascending i (i + 1) (omega arith) h)) e
   fitting-accepted f k (heavy i h e) = omega (arith, f .lists .weights-are .own i h)
   fitting-accepted f k (heavy-row i h e) = omega (arith, f .lists .weights-are .of-row i h)
+
+-- a job that is accepted beside some tables is accepted beside any work table that is long enough, where no triangle table is lent
+pub accepted-beside : (n : ℕ) (candidates : List (List ℕ)) (weights : List ℕ) (rows : List (List ℕ)) (tp wp wp′ : ℕ) → Accepted n candidates weights rows tp wp → length candidates ≤ wp′
+    → Accepted n candidates weights rows (n - 2) wp′
+accepted-beside n candidates weights rows tp wp wp′ a h =
+    let f = fitting n candidates weights rows tp wp (accepted-zero n candidates weights rows tp wp a) in
+    fitting-accepted n candidates weights rows (n - 2) wp′ (record { at-least = f .at-least; at-most = f .at-most; triangle-room = omega arith; work-room = h; lists = f .lists })

@@ -5,20 +5,21 @@ use mathlib.Core.List.{List}
 use native.Mathlib.Omega.{arith}
 use lib.ListN.{length, replicate}
 use Rattle.lists.specs.Lists.{filled}
+use Rattle.terms.specs.Numbers.{firstDue}
 use Rattle.triangulation.specs.Triangulations.{Job, Valid, best}
 use Rattle.triangulation.specs.Jobs.{jobOf}
 use Rattle.triangulation.specs.Demand3.{Triangulates, HandedBack}
 use Rattle.jobs.specs.Job.{codeWithoutTriangles}
 use Rattle.jobs.specs.Due.{Accepted}
-use Rattle.jobs.proofs.Acceptance.{accepted-zero, fitting, fitting-accepted}
+use Rattle.jobs.proofs.Acceptance.{accepted-zero, accepted-beside}
 use Rattle.triangulator.specs.declared.Outcome.{Outcome}
 use Rattle.triangulator.specs.declared.Outcome.the-variants as outcome
 use Rattle.triangulator.specs.Call.{triangulated, partOf}
-use Rattle.triangulator.specs.Demands.{Taken, a-patch, Handed, with-patch}
+use Rattle.triangulator.specs.Demands.{Taken, a-patch, Handed}
 use Rattle.triangulator.proofs.Accepting.{accepted-well-formed}
-use Rattle.triangulator.proofs.Demands.{job-taken-only, job-handed}
+use Rattle.triangulator.proofs.Demands.{patch-handed, job-taken-only, job-handed}
 use Rattle.judge.specs.declared.Judgement.the-variants as judgement
-use Rattle.judge.specs.Call.{numberOf, excessOf, excessOver, orElse, judgeCode, Result, result, settled, judged}
+use Rattle.judge.specs.Call.{numberOf, excessOf, excessOver, judgeCode, Result, result, settled, judged}
 use Rattle.judge.specs.Demands.{Acceptable, SameNumbers, Excess}
 use Rattle.judge.specs.Due.{FirstDue}
 use Rattle.judge.proofs.Tilings.{same-code}
@@ -28,10 +29,6 @@ use Rattle.judge.proofs.Least.{excess-is}
 -- an acceptance is no refusal
 not-both : {excess number : ℕ} → judgement.Accepted excess ≡ judgement.Refused number → ⊥
 not-both e = let z : _≡_ {A = ℕ} 0 1 = cc in omega arith
-
--- the patch that is handed back with a patch
-pub patch-handed : {job : Job} {part : List ℕ} {count total : ℕ} → Handed job part (outcome.Patch count total) → HandedBack job total part
-patch-handed (with-patch c h) = h
 
 module _ (n : ℕ) (candidates : List (List ℕ)) (weights : List ℕ) (rows : List (List ℕ)) where
   abbrev job : Job
@@ -44,21 +41,12 @@ module _ (n : ℕ) (candidates : List (List ℕ)) (weights : List ℕ) (rows : L
   valid : {workPlaces : ℕ} → JobAccepted workPlaces → Valid job
   valid {workPlaces} a = accepted-well-formed n candidates weights rows (n - 2) workPlaces (accepted-zero n candidates weights rows (n - 2) workPlaces a) .0 .valid
 
-  -- a job that is accepted beside some tables is, beside any work table that is long enough
-  pub accepted-beside : (trianglePlaces workPlaces workPlaces′ : ℕ) → Accepted n candidates weights rows trianglePlaces workPlaces → length candidates ≤ workPlaces′ → JobAccepted workPlaces′
-  accepted-beside trianglePlaces workPlaces workPlaces′ a h =
-      let f = fitting n candidates weights rows trianglePlaces workPlaces (accepted-zero n candidates weights rows trianglePlaces workPlaces a) in
-      fitting-accepted n candidates weights rows (n - 2) workPlaces′ (record { at-least = f .at-least; at-most = f .at-most; triangle-room = omega arith; work-room = h; lists = f .lists })
-
   module _ (list : List ℕ) (stated : ℕ) (work : List ℕ) where
     abbrev code : ℕ
     code = judgeCode n candidates weights rows list stated (length work)
 
     abbrev call : Result
     call = judged n candidates weights rows list stated work
-
-    abbrev cleared : List ℕ
-    cleared = filled (replicate (length candidates) 0) work
 
     by-code : {k : ℕ} → code ≡ k → call ≡ settled k (excessOver (best job) stated) (length candidates) work
     unfolding judged
@@ -117,7 +105,7 @@ module _ (n : ℕ) (candidates : List (List ℕ)) (weights : List ℕ) (rows : L
   pub order-never-matters : (list list′ : List ℕ) (stated : ℕ) (work : List ℕ) → SameNumbers list list′ → judged n candidates weights rows list stated work ≡ judged n candidates weights rows list′ stated work
   unfolding judged judgeCode
   order-never-matters list list′ stated work h =
-      ap (λ (k : ℕ). settled (orElse (codeWithoutTriangles n candidates weights rows (length work)) k) (excessOver (best job) stated) (length candidates) work) (same-code job list list′ stated h)
+      ap (λ (k : ℕ). settled (firstDue (codeWithoutTriangles n candidates weights rows (length work)) k) (excessOver (best job) stated) (length candidates) work) (same-code job list list′ stated h)
 
   -- a patch as the caller is handed it is accepted with excess 0 (rules 3.8, 3.14)
   pub handed-accepted : (total : ℕ) (part work : List ℕ) → JobAccepted (length work) → HandedBack job total part
@@ -135,6 +123,6 @@ module _ (n : ℕ) (candidates : List (List ℕ)) (weights : List ℕ) (rows : L
       → judged n candidates weights rows (partOf (outcome.Patch count total) (triangulated n candidates weights rows triangles work .triangles)) total work′
       ≡ result (judgement.Accepted 0) (filled (replicate (length candidates) 0) work′)
   tiler-accepted triangles work work′ count total room e =
-      let a = accepted-beside (length triangles) (length work) (length work′) (job-taken-only n candidates weights rows triangles work (subst Taken (sym e) a-patch)) room in
+      let a = accepted-beside n candidates weights rows (length triangles) (length work) (length work′) (job-taken-only n candidates weights rows triangles work (subst Taken (sym e) a-patch)) room in
       handed-accepted total (partOf (outcome.Patch count total) (triangulated n candidates weights rows triangles work .triangles)) work′ a
       (patch-handed (subst (λ (o : Outcome). Handed job (partOf o (triangulated n candidates weights rows triangles work .triangles)) o) e (job-handed n candidates weights rows triangles work)))

@@ -1,5 +1,5 @@
 -- The number that the judge gives is exactly the first that is due. Assumes nothing.
-use Prim.Native.Nat.{ℕ, zero, suc, _-_}
+use Prim.Native.Nat.{ℕ, suc, _-_}
 use mathlib.Core.Path.{_≡_, refl, sym, ap, _∙_, subst}
 use mathlib.Core.Bool.{Bool, true, false, cond}
 use mathlib.Core.List.{List, List·Memᴰ, List·Memᴰ·head, List·Memᴰ·tail, List·Memᴰ·not-nil, List·Memᴰ·cases-cons}
@@ -8,6 +8,8 @@ use native.Mathlib.Omega.{arith}
 use lib.Dec.{eqb}
 use borrow.Author.Tests.{eqb-false, ne-eqb}
 use Rattle.lists.proofs.Choice.{no, true-not-false, not-true-false, not-false-true}
+use Rattle.terms.specs.Numbers.{firstDue}
+use Rattle.terms.proofs.Numbers.{due-on, due-neither}
 use Rattle.triangulation.specs.Triangulations.{Job}
 use Rattle.triangulation.specs.Jobs.{jobOf}
 use Rattle.triangulation.specs.Demand3.{Triangulates}
@@ -18,19 +20,15 @@ use Rattle.jobs.proofs.First.{up-listed, firstOf, first-fails, fails-first}
 use Rattle.jobs.proofs.Failing.{test, due-fails, due-listed, fails-due}
 use Rattle.jobs.proofs.Acceptance.{above-zero, code-first, accepted-zero, zero-accepted}
 use Rattle.validation.specs.Validation.{named, isTiling, listTotal, listCode}
-use Rattle.judge.specs.Call.{orElse, judgeCode}
+use Rattle.judge.specs.Call.{judgeCode}
 use Rattle.judge.specs.Demands.{Acceptable}
 use Rattle.judge.specs.Due.{order, JudgeDue, of-job, no-tiling, other-total, FirstDue}
 use Rattle.judge.proofs.Tilings.{tiling-is, is-tiling, zero-acceptable, acceptable-zero}
 
-or-zero : (a b : ℕ) → orElse a b ≡ 0 → (a ≡ 0) × (b ≡ 0)
-or-zero zero b e = (refl, e)
-or-zero (suc a) b e = absurd (omega arith)
-
 -- the next number comes after the last test
-or-unless : (t : Bool) (k rest next : ℕ) → orElse (unless t (suc k) rest) next ≡ unless t (suc k) (orElse rest next)
-or-unless true k rest next = refl
-or-unless false k rest next = refl
+first-unless : (t : Bool) (k rest next : ℕ) → firstDue (unless t (suc k) rest) next ≡ unless t (suc k) (firstDue rest next)
+first-unless true k rest next = refl
+first-unless false k rest next = refl
 
 module _ (n : ℕ) (candidates : List (List ℕ)) (weights : List ℕ) (rows : List (List ℕ)) (list : List ℕ) (stated workPlaces : ℕ) where
   abbrev job : Job
@@ -53,12 +51,12 @@ module _ (n : ℕ) (candidates : List (List ℕ)) (weights : List ℕ) (rows : L
   judge-first : code ≡ firstOf judgeTest order
   unfolding judgeCode listCode
   judge-first =
-      ap (λ k. orElse k (listCode job list stated)) (code-first n candidates weights rows (n - 2) workPlaces)
-      ∙ or-unless (jobTest 14) 13 _ _
-      ∙ ap (unless (jobTest 14) 14) (or-unless (jobTest 13) 12 _ _
-      ∙ ap (unless (jobTest 13) 13) (or-unless (jobTest 15) 14 _ _
-      ∙ ap (unless (jobTest 15) 15) (or-unless (jobTest 16) 15 _ _
-      ∙ ap (unless (jobTest 16) 16) (or-unless (jobTest 17) 16 _ _))))
+      ap (λ k. firstDue k (listCode job list stated)) (code-first n candidates weights rows (n - 2) workPlaces)
+      ∙ first-unless (jobTest 14) 13 _ _
+      ∙ ap (unless (jobTest 14) 14) (first-unless (jobTest 13) 12 _ _
+      ∙ ap (unless (jobTest 13) 13) (first-unless (jobTest 15) 14 _ _
+      ∙ ap (unless (jobTest 15) 15) (first-unless (jobTest 16) 15 _ _
+      ∙ ap (unless (jobTest 16) 16) (first-unless (jobTest 17) 16 _ _))))
 
   -- a number of the job keeps its place and its test
   of-the-job : (k : ℕ) → List·Memᴰ k job-due.order → List·Memᴰ k order × (judgeTest k ≡ jobTest k)
@@ -120,19 +118,19 @@ module _ (n : ℕ) (candidates : List (List ℕ)) (weights : List ℕ) (rows : L
   pub zero-accepts : code ≡ 0 → Accepted n candidates weights rows (n - 2) workPlaces × Acceptable job list stated
   unfolding judgeCode
   zero-accepts e =
-      let z = or-zero (jobCode n candidates weights rows (n - 2) workPlaces) (listCode job list stated) e in
+      let z = due-neither (jobCode n candidates weights rows (n - 2) workPlaces) (listCode job list stated) e in
       (zero-accepted n candidates weights rows (n - 2) workPlaces (z .0), zero-acceptable job list stated (z .1))
 
   pub accepts-zero : Accepted n candidates weights rows (n - 2) workPlaces → Acceptable job list stated → code ≡ 0
   unfolding judgeCode
   accepts-zero a l =
-      ap (λ k. orElse k (listCode job list stated)) (accepted-zero n candidates weights rows (n - 2) workPlaces a) ∙ acceptable-zero job list stated l
+      due-on (listCode job list stated) (accepted-zero n candidates weights rows (n - 2) workPlaces a) ∙ acceptable-zero job list stated l
 
   -- where there is no tiling every list gets 21
   pub no-tiling-code : Accepted n candidates weights rows (n - 2) workPlaces → ((set : List ℕ) → Triangulates job set → ⊥) → code ≡ 21
   unfolding judgeCode listCode
   no-tiling-code a h =
-      ap (λ k. orElse k (listCode job list stated)) (accepted-zero n candidates weights rows (n - 2) workPlaces a) ∙ no _ _ (not-true-false _ (λ t. h (named job list) (tiling-is job list t .tiles)))
+      due-on (listCode job list stated) (accepted-zero n candidates weights rows (n - 2) workPlaces a) ∙ no _ _ (not-true-false _ (λ t. h (named job list) (tiling-is job list t .tiles)))
 
   -- a number that is due is not 0
   pub due-above : {k : ℕ} → D k → k ≡ 0 → ⊥

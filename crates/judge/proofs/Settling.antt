@@ -6,7 +6,7 @@ use mathlib.Core.List.{List}
 use lib.ListN.{replicate}
 use Rattle.lists.specs.Lists.{filled}
 use Rattle.judge.specs.declared.Judgement.the-variants.{Accepted, Refused}
-use Rattle.judge.specs.Call.{values, valuesOf, dueValues, orElse, result, settled}
+use Rattle.judge.specs.Call.{values, valuesOf, dueValues, result, settled}
 
 pub settle-refused : (k number excess count : ℕ) (work : List ℕ) → k ≡ number → k ≢ 0
     → (result (Refused k) work ≡ settled number excess count work) × (valuesOf (Refused k) ≡ dueValues number excess)
@@ -19,11 +19,3 @@ settle-accepted number excess count work z e f = (
   ap₂ (λ (x : ℕ) (w : List ℕ). result (Accepted x) w) e f ∙ ap (λ (k : ℕ). settled k excess count work) (sym z),
   ap (λ (x : ℕ). values 0 x) e ∙ ap (λ (k : ℕ). dueValues k excess) (sym z),
 )
-
--- the first number, where it is one, and the next where it is none
-pub or-first : {k : ℕ} (first next : ℕ) → k ≡ first → k ≢ 0 → k ≡ orElse first next
-or-first zero next e d = absurd (d e)
-or-first (suc first) next e d = e
-
-pub or-next : {k : ℕ} (first next : ℕ) → first ≡ 0 → k ≡ next → k ≡ orElse first next
-or-next first next z e = e ∙ ap (λ (j : ℕ). orElse j next) (sym z)

@@ -3,6 +3,7 @@ use Prim.Native.Nat.{ℕ, zero, suc, _-_}
 use mathlib.Core.List.{List}
 use lib.ListN.{length, replicate}
 use Rattle.lists.specs.Lists.{filled}
+use Rattle.terms.specs.Numbers.{firstDue}
 use Rattle.triangulation.specs.Triangulations.{Answer, none, patch, best}
 use Rattle.triangulation.specs.Jobs.{jobOf}
 use Rattle.jobs.specs.Job.{codeWithoutTriangles}
@@ -40,15 +41,10 @@ abbrev pub excessOver : Answer → ℕ → ℕ
 excessOver none stated = 0
 excessOver (patch least triangles) stated = stated - least
 
--- the first number, or where there is none the next (rule 4.36)
-abbrev pub orElse : ℕ → ℕ → ℕ
-orElse zero next = next
-orElse (suc k) next = suc k
-
 -- the number of the job, with no triangle table, and then that of the list (rule 4.36)
 unfoldable pub judgeCode : ℕ → List (List ℕ) → List ℕ → List (List ℕ) → List ℕ → ℕ → ℕ → ℕ
 judgeCode n candidates weights rows list stated workPlaces =
-    orElse (codeWithoutTriangles n candidates weights rows workPlaces)
+    firstDue (codeWithoutTriangles n candidates weights rows workPlaces)
     (listCode (jobOf n candidates weights rows) list stated)
 
 -- a judgement, and what the work table holds after the call (rule 5.10)

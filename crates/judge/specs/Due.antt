@@ -12,7 +12,7 @@ abbrev pub order : List ℕ
 order = 14 ∷ 13 ∷ 15 ∷ 16 ∷ 17 ∷ 21 ∷ 22 ∷ []
 
 module _ (n : ℕ) (candidates : List (List ℕ)) (weights : List ℕ) (rows : List (List ℕ)) (list : List ℕ) (stated workPlaces : ℕ) where
-  -- number k is due
+  -- number k is due (rules 4.13 to 4.17, 4.21, 4.22)
   pub data JudgeDue : ℕ → Type 0 where
     -- one of the job's, beside a triangle table that has its n - 2 places (rules 4.13 to 4.17, 4.36)
     of-job : {k : ℕ} → Due n candidates weights rows (n - 2) workPlaces k → JudgeDue k

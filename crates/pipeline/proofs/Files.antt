@@ -7,7 +7,7 @@ use native.Mathlib.Omega.{arith}
 use Rattle.polygon.specs.declared.Polygon.{Polygon}
 use Rattle.reader.specs.declared.Status.the-variants as status
 use Rattle.reader.specs.declared.Reading.{Reading}
-use Rattle.polygon.specs.Polygon.{firstDue}
+use Rattle.terms.specs.Numbers.{firstDue}
 use Rattle.reader.specs.Reading.{polygonOf, answer, readingOf}
 use Rattle.reader.specs.Reading as reader
 use Rattle.finder.specs.Finding.{numberDue}

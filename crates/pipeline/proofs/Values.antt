@@ -5,7 +5,8 @@ use Prim.Native.Nat.{ℕ, zero, suc}
 use native.Mathlib.Omega.{arith}
 use lib.ListN.{length}
 use Rattle.polygon.specs.declared.Polygon.{Polygon}
-use Rattle.polygon.specs.Polygon.{Valid, firstDue}
+use Rattle.polygon.specs.Polygon.{Valid}
+use Rattle.terms.specs.Numbers.{firstDue}
 use Rattle.polygon.proofs.Validity.{code-valid}
 use Rattle.reader.specs.Reading.{polygonOf}
 use Rattle.reader.specs.Reading as reader

@@ -2,7 +2,7 @@
 use mathlib.Core.Bool.{false}
 use mathlib.Core.List.{List}
 use Prim.Native.Nat.{ℕ}
-use Rattle.polygon.specs.Polygon.{firstDue}
+use Rattle.terms.specs.Numbers.{firstDue}
 use Rattle.reader.specs.Reading.{polygonOf}
 use Rattle.reader.specs.Reading as reader
 use Rattle.finder.specs.declared.Sizes.{Sizes}

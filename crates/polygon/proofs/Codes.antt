@@ -11,23 +11,10 @@ use Rattle.grid.proofs.Points.{point-on-grid, point-on-grid-test}
 use Rattle.lists.proofs.Choice.{below-or-same}
 use Rattle.polygon.specs.declared.normal.Normal.{Normal}
 use Rattle.polygon.specs.Normal.{normalAt, normalInRange, normalCode, NormalInRange}
-use Rattle.polygon.specs.Polygon.{vertexAt, vertexCode, firstDue, verticesCodeFrom, verticesCode}
+use Rattle.polygon.specs.Polygon.{vertexAt, vertexCode, verticesCodeFrom, verticesCode}
+use Rattle.terms.specs.Numbers.{firstDue}
+use Rattle.terms.proofs.Numbers.{due-on}
 use Rattle.polygon.proofs.Normals.{normal-in-range, normal-in-range-test}
-
--- ---- the first of two numbers
-pub due-here : {c j : ℕ} (k : ℕ) → c ≡ j → (c ≡ 0 → ⊥) → firstDue j k ≡ c
-due-here {c} {j} k e d = go j e
-  where
-    go : (j : ℕ) → c ≡ j → firstDue j k ≡ c
-    go zero e = absurd (d e)
-    go (suc j) e = sym e
-
-pub due-on : {j : ℕ} (k : ℕ) → j ≡ 0 → firstDue j k ≡ k
-due-on k e = ap (λ (j : ℕ). firstDue j k) e
-
-pub due-neither : (j k : ℕ) → firstDue j k ≡ 0 → (j ≡ 0) × (k ≡ 0)
-due-neither zero k e = (refl, e)
-due-neither (suc j) k e = absurd (omega arith)
 
 module _ (vertices : List GridPoint) (normals : List Normal) where
   -- ---- as a loop finds it

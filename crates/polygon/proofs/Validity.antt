@@ -12,9 +12,11 @@ use Rattle.lists.proofs.Choice.{no}
 use Rattle.lists.proofs.Ranges.{some-none, some-here, some-nowhere, some-found}
 use Rattle.polygon.specs.declared.Polygon.{Polygon}
 use Rattle.terms.specs.Limits.{minVertices, maxVertices, maxAreaFactor, maxBendFactor}
-use Rattle.polygon.specs.Polygon.{vertexAt, samePoint, repeatedVertex, firstDue, verticesCode, codeOf, Valid}
+use Rattle.polygon.specs.Polygon.{vertexAt, samePoint, repeatedVertex, verticesCode, codeOf, Valid}
+use Rattle.terms.specs.Numbers.{firstDue}
 use Rattle.polygon.proofs.Points.{point-equal, point-same}
-use Rattle.polygon.proofs.Codes.{due-on, on-grid-at, in-range-at, all-clear}
+use Rattle.polygon.proofs.Codes.{on-grid-at, in-range-at, all-clear}
+use Rattle.terms.proofs.Numbers.{due-on}
 
 module _ (vertices : List GridPoint) (n : ℕ) where
   pub repeated-none : repeatedVertex vertices n ≡ false → (i j : ℕ) → i < j → j < n → vertexAt vertices i ≡ vertexAt vertices j → ⊥

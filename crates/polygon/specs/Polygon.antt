@@ -6,6 +6,7 @@ use Prim.Native.Nat.{ℕ, zero, suc, _≤_, _<_}
 use lib.ListN.{getD, replicate}
 use lib.IntN.{pos}
 use lib.Dec.{ltb}
+use Rattle.terms.specs.Numbers.{firstDue}
 use Rattle.terms.specs.Limits.{minVertices, maxVertices, maxAreaFactor, maxBendFactor}
 use Rattle.integers.specs.Order.{equal}
 use Rattle.grid.specs.declared.GridPoint.{GridPoint}
@@ -38,11 +39,6 @@ repeatedVertex vertices n = some 0 n (λ j. some 0 j (λ i. samePoint (vertexAt 
 -- the first number due on vertex i and its normal, 0 for none (rule 4.34): 9, then 18
 abbrev pub vertexCode : List GridPoint → List Normal → ℕ → ℕ
 vertexCode vertices normals i = cond (pointOnGrid (vertexAt vertices i)) (normalCode (normalAt normals i)) 9
-
--- the first of two numbers that is due (rule 4.31)
-abbrev pub firstDue : ℕ → ℕ → ℕ
-firstDue zero k = k
-firstDue (suc j) k = suc j
 
 -- the first number due on vertices i, i + 1 and so on, k of them (rule 4.34)
 unfoldable pub verticesCodeFrom : List GridPoint → List Normal → ℕ → ℕ → ℕ

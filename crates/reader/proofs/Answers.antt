@@ -9,8 +9,9 @@ use lib.Dec.{ltb, leb, eqb}
 use Rattle.lists.proofs.Choice.{yes, no, both-right}
 use Rattle.grid.specs.declared.GridPoint.{GridPoint}
 use Rattle.terms.specs.Limits.{maxVertices, countFits}
-use Rattle.polygon.specs.Polygon.{firstDue, repeatedVertex}
-use Rattle.polygon.proofs.Codes.{due-neither}
+use Rattle.polygon.specs.Polygon.{repeatedVertex}
+use Rattle.terms.specs.Numbers.{firstDue}
+use Rattle.terms.proofs.Numbers.{due-neither}
 use Rattle.polygon.specs.declared.Polygon.{Polygon}
 use Rattle.polygon.specs.declared.normal.Normal.{Normal}
 use Rattle.reader.specs.File.{areaFactor, bendFactor, recordCount, lengthWrong}

@@ -13,7 +13,8 @@ use Rattle.lists.specs.Lists.{either, over, filled}
 use Rattle.grid.specs.Number.{roundEighths}
 use Rattle.terms.specs.Limits.{minVertices, maxVertices, maxAreaFactor, countFits}
 use Rattle.polygon.specs.Normal.{normal, noNormal, normalCode}
-use Rattle.polygon.specs.Polygon.{origin, firstDue, repeatedVertex}
+use Rattle.polygon.specs.Polygon.{origin, repeatedVertex}
+use Rattle.terms.specs.Numbers.{firstDue}
 use Rattle.reader.specs.File.{u16At, u32At, signed16, i16At, isEdition2, recordSize1, recordSize, recordCount, offset, nextRecord, kind, thirdNumber}
 use Rattle.reader.specs.Record.{known, heightOf, recordAt, vertexOf, normalIn}
 use Rattle.reader.specs.Chain.{link, metBefore, heightBefore, vertexAt, numberOf, pointOf, normalAt, overLimit, linkCode, positionCode, codeFrom, endFrom, vertexCount, verticesOf, normalsOf}

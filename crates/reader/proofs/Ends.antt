@@ -10,7 +10,7 @@ use lib.Dec.{ltb, eqb}
 use Rattle.lists.proofs.Choice.{yes, no, below-or-same}
 use Rattle.terms.specs.Limits.{maxVertices}
 use Rattle.polygon.specs.Normal.{normalInRange}
-use Rattle.polygon.specs.Polygon.{firstDue}
+use Rattle.terms.specs.Numbers.{firstDue}
 use Rattle.reader.specs.Chain.{vertexAt, numberOf, normalAt, linkCode, recordCode, positionCode, codeFrom, endFrom, chainCode, vertexCount}
 use Rattle.reader.specs.Chain as chain
 use Rattle.reader.specs.Order.{link-to, record-at}

@@ -10,7 +10,8 @@ use mathlib.Core.Logic.{_⊎_, inl, inr}
 use Rattle.lists.proofs.Choice.{true-not-false, below-or-same}
 use Rattle.grid.specs.declared.GridPoint.{GridPoint}
 use Rattle.terms.specs.Limits.{maxVertices, countFits}
-use Rattle.polygon.specs.Polygon.{firstDue, repeatedVertex}
+use Rattle.polygon.specs.Polygon.{repeatedVertex}
+use Rattle.terms.specs.Numbers.{firstDue}
 use Rattle.reader.specs.File.{areaFactor, lengthWrong}
 use Rattle.reader.specs.Chain.{link, vertexAt, pointOf, linkCode, recordCode, positionCode, chainCode, vertexCount, verticesOf}
 use Rattle.reader.specs.Order.{Place, request, header, link-to, record-at, rim, request-header, request-link, request-record, request-rim, header-link, header-record, header-rim, link-link, link-record, record-link, record-record, link-rim, record-rim, Precedes, by-place, by-number, First, NoneDue}

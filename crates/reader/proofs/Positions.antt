@@ -10,8 +10,8 @@ use lib.Dec.{ltb, leb, eqb}
 use Rattle.lists.proofs.Choice.{yes, no, true-not-false, either-left, either-right, either-cases, below-or-same}
 use Rattle.terms.specs.Limits.{maxVertices}
 use Rattle.polygon.specs.Normal.{normalInRange, normalCode}
-use Rattle.polygon.specs.Polygon.{firstDue}
-use Rattle.polygon.proofs.Codes.{due-here, due-on, due-neither}
+use Rattle.terms.specs.Numbers.{firstDue}
+use Rattle.terms.proofs.Numbers.{due-here, due-on, due-neither}
 use Rattle.reader.specs.File.{recordCount}
 use Rattle.reader.specs.Chain.{metBefore, vertexAt, numberOf, normalAt, overLimit, linkCode, recordCode, positionCode}
 use Rattle.reader.specs.Chain as chain

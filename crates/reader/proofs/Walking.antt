@@ -17,9 +17,10 @@ use mathlib.Core.Logic.{⊎-elim}
 use Rattle.lists.specs.Lists.{either}
 use Rattle.lists.proofs.Choice.{yes, no, below-or-same}
 use Rattle.polygon.specs.Normal.{noNormal, normalInRange, normalCode}
-use Rattle.polygon.specs.Polygon.{origin, firstDue}
+use Rattle.polygon.specs.Polygon.{origin}
+use Rattle.terms.specs.Numbers.{firstDue}
 use Rattle.polygon.specs.declared.normal.Normal.{Normal}
-use Rattle.polygon.proofs.Codes.{due-here, due-on}
+use Rattle.terms.proofs.Numbers.{due-here, due-on}
 use Rattle.grid.specs.declared.GridPoint.{GridPoint}
 use Rattle.grid.specs.Point.{OnGrid}
 use Rattle.grid.specs.Number.{roundEighths}

@@ -8,7 +8,8 @@ use Rattle.lists.specs.Lists.{either, over, filled}
 use Rattle.grid.specs.Number.{roundEighths}
 use Rattle.terms.specs.Limits.{maxVertices}
 use Rattle.polygon.specs.Normal.{noNormal, normalCode}
-use Rattle.polygon.specs.Polygon.{origin, firstDue}
+use Rattle.polygon.specs.Polygon.{origin}
+use Rattle.terms.specs.Numbers.{firstDue}
 use Rattle.polygon.specs.declared.normal.Normal.{Normal}
 use Rattle.grid.specs.declared.GridPoint.{GridPoint}
 use Rattle.reader.specs.File.{firstRecord, recordCount, offset, nextRecord, kind, thirdNumber}

@@ -4,7 +4,8 @@ use mathlib.Core.Bool.{cond}
 use mathlib.Core.List.{List}
 use lib.Dec.{ltb}
 use Rattle.terms.specs.Limits.{minVertices, maxAreaFactor, countFits}
-use Rattle.polygon.specs.Polygon.{emptyPolygon, firstDue, repeatedVertex}
+use Rattle.polygon.specs.Polygon.{emptyPolygon, repeatedVertex}
+use Rattle.terms.specs.Numbers.{firstDue}
 use Rattle.polygon.specs.declared.Polygon.{Polygon}
 use Rattle.reader.specs.File.{areaFactor, bendFactor, lengthWrong}
 use Rattle.reader.specs.Chain.{chainCode, vertexCount, verticesOf, normalsOf}

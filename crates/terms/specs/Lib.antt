@@ -1,2 +1,3 @@
 pub mod Limits
 pub mod Entries
+pub mod Numbers

@@ -9,13 +9,13 @@ use Rattle.lists.proofs.Choice.{yes, no}
 use Rattle.lists.proofs.Writing.{filled-take}
 use Rattle.triangulation.specs.Triangulations.{Job, Valid, Answer, none, patch, best}
 use Rattle.triangulation.specs.Jobs.{jobOf}
-use Rattle.triangulation.specs.Demand3.{Optimal, Demand3}
+use Rattle.triangulation.specs.Demand3.{Optimal, Demand3, HandedBack}
 use Rattle.triangulation.proofs.Demand3.{demand3, handed-back}
 use Rattle.jobs.specs.Job.{jobCode}
 use Rattle.jobs.specs.Due.{Due, FirstDue, Accepted}
 use Rattle.jobs.proofs.Acceptance.{accepted-zero, zero-accepted, code-due, due-code}
 use Rattle.triangulator.specs.declared.Outcome.{Outcome}
-use Rattle.triangulator.specs.declared.Outcome.the-variants.{None, Refused}
+use Rattle.triangulator.specs.declared.Outcome.the-variants.{Patch, None, Refused}
 use Rattle.triangulator.specs.Call.{Result, result, settled, triangulated, numberOf, partOf}
 use Rattle.triangulator.specs.Demands.{stated, Taken, a-patch, a-none, Handed, with-patch, with-none, with-refusal}
 use Rattle.triangulator.proofs.Accepting.{accepted-well-formed, accepted-demand3}
@@ -47,6 +47,10 @@ settled-handed job good count triangles work = go (best job) (demand3 job good .
 
 pub refused-handed : (job : Job) (number : ℕ) (triangles : List ℕ) → Handed job (partOf (Refused number) triangles) (Refused number)
 refused-handed job number triangles = with-refusal (part-empty (Refused number) triangles refl)
+
+-- what is handed back with a patch
+pub patch-handed : {job : Job} {part : List ℕ} {count total : ℕ} → Handed job part (Patch count total) → HandedBack job total part
+patch-handed (with-patch c h) = h
 
 module _ (n : ℕ) (candidates : List (List ℕ)) (weights : List ℕ) (rows : List (List ℕ)) (triangles work : List ℕ) where
   call : Result

@@ -3,6 +3,7 @@ use Prim.Native.Nat.{_+_, _-_, _≤_}
 use mathlib.Core.Path.{_≡_, sym, _∙_}
 use native.Mathlib.Omega.{arith}
 use lib.ListN.{length}
+use Rattle.terms.proofs.Numbers.{due-here, due-on}
 use Rattle.triangulation.specs.Triangulations.{Job}
 use Rattle.triangulation.specs.Jobs.{jobOf}
 use Rattle.minimum_weight.specs.Tables.{WellFormed}
@@ -13,7 +14,7 @@ use Rattle.judge.specs.Call.{judgeCode, judged}
 use Rattle.judge.specs.Demands.{Acceptable}
 use Rattle.judge.proofs.Tilings.{zero-acceptable}
 use Rattle.judge.proofs.Least.{excess-by-cost}
-use Rattle.judge.proofs.Settling.{settle-refused, settle-accepted, or-first, or-next}
+use Rattle.judge.proofs.Settling.{settle-refused, settle-accepted}
 use borrow.Author.Needs.{needs}
 use Rattle.judge.proofs.judge.Statement.{statement}
 use Rattle.judge.proofs.judge.Tie as tie
@@ -26,7 +27,7 @@ code-without-triangles-requires c κs = search needs
 
 returns : tie.Need-returns
 unfolding judged judgeCode
-returns c = settle-refused _ _ _ _ _ (or-first _ _ (c .before .code-without-triangles .ensures) (c .if1 .taken)) (c .if1 .taken)
+returns c = settle-refused _ _ _ _ _ (sym (due-here _ (c .before .code-without-triangles .ensures) (c .if1 .taken))) (c .if1 .taken)
 
 -- the job is accepted: the call, and what the dynamic programme needs
 module _ (g : tie.Else1) where
@@ -54,7 +55,7 @@ returns-2 : tie.Need-returns-2
 unfolding judged judgeCode
 returns-2 c =
     let g = c .before .before in
-    settle-refused _ _ _ _ _ (or-next _ _ (sym (g .before .code-without-triangles .ensures) ∙ g .if1 .left) (c .before .list-code .ensures)) (c .if2 .taken)
+    settle-refused _ _ _ _ _ (c .before .list-code .ensures ∙ sym (due-on _ (sym (g .before .code-without-triangles .ensures) ∙ g .if1 .left))) (c .if2 .taken)
 
 block-starts-requires : tie.Need-block-starts-requires
 block-starts-requires c κs = formed (of-job c) .0 .ascending .by-first
@@ -84,7 +85,7 @@ returns-3 c =
     let t = c .before .before .before .before .before .before .least-total .ensures in
     let x = excess-by-cost (job s) (formed (of-job g) .0 .valid) (a .set) (a .tiling .tiles) (s .args .stated) (a .total) in
     settle-accepted _ _ _ _
-    (sym (or-next _ _ (sym (of-job g .before .code-without-triangles .ensures) ∙ of-job g .if1 .left) (sym (listed g))))
+    (due-on _ (sym (of-job g .before .code-without-triangles .ensures) ∙ of-job g .if1 .left) ∙ listed g)
     (omega (arith, t .0, x .1))
     (cleared (job s) (t .1) (c .before .before .clear .ensures))
 

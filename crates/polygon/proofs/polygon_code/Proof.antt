@@ -7,7 +7,7 @@ use borrow.Author.Tests.{lt-ltb, le-ltb}
 use Rattle.terms.specs.Limits.{maxAreaFactor}
 use Rattle.lists.proofs.Choice.{yes, no}
 use Rattle.polygon.specs.Polygon.{codeOf}
-use Rattle.polygon.proofs.Codes.{due-here, due-on}
+use Rattle.terms.proofs.Numbers.{due-here, due-on}
 use Rattle.polygon.proofs.polygon_code.Statement.{statement}
 use Rattle.polygon.proofs.polygon_code.Tie as tie
 
