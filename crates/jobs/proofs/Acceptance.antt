@@ -12,7 +12,7 @@ use Rattle.lists.proofs.Choice.{true-not-false, both-left, both-right, not-fals
 use Rattle.terms.specs.Limits.{minVertices, maxVertices, countFits}
 use Rattle.jobs.specs.Job.{enough, unless, listsCode, jobCode}
 use Rattle.jobs.specs.Due.{order, few-vertices, many-vertices, few-triangles, little-work, few-weights, no-triangle, candidate-not-after, no-pair, row-not-after, heavy, heavy-row, FirstDue, Accepted}
-use Rattle.jobs.proofs.First.{unless-both, up-listed, firstOf, first-none, none-first, first-fails, fails-first}
+use Rattle.jobs.proofs.First.{unless-both, firstOf, first-none, none-first, first-due, due-first}
 use Rattle.jobs.proofs.Order.{true-before, true-row-before}
 use Rattle.jobs.proofs.Lists.{Candidates, Rows, Weights, true-ascends, true-names, candidates-true, rows-true, weights-true}
 use Rattle.jobs.proofs.Failing.{in-14, in-13, in-15, in-16, in-17, test, due-fails, due-listed, fails-due}
@@ -64,21 +64,10 @@ module _ (n : ℕ) (candidates : List (List ℕ)) (weights : List ℕ) (rows : L
 
   -- a number is given exactly when it is the first due
   pub code-due : (k : ℕ) → jobCode n candidates weights rows tp wp ≡ suc k → FirstDue n candidates weights rows tp wp (suc k)
-  code-due k e =
-      let f = first-fails T order k (sym code-first ∙ e) in
-      record {
-        due = fails-due n candidates weights rows tp wp (suc k) (f .listed) (f .fails-it);
-        none-before = λ j m d. true-not-false (f .before-it j m) (due-fails n candidates weights rows tp wp d);
-      }
+  code-due k e = first-due T order (λ k d. due-fails n candidates weights rows tp wp d) (λ k d. due-listed n candidates weights rows tp wp d) (fails-due n candidates weights rows tp wp) k (sym code-first ∙ e)
 
   pub due-code : (k : ℕ) → FirstDue n candidates weights rows tp wp k → jobCode n candidates weights rows tp wp ≡ k
-  due-code k f =
-      code-first ∙ fails-first T order k
-      (record {
-        listed = due-listed n candidates weights rows tp wp (f .due);
-        fails-it = due-fails n candidates weights rows tp wp (f .due);
-        before-it = λ j m. not-false-true (T j) (λ e. f .none-before j m (fails-due n candidates weights rows tp wp j (up-listed k order j m) e));
-      })
+  due-code k f = code-first ∙ due-first T order (λ k d. due-fails n candidates weights rows tp wp d) (λ k d. due-listed n candidates weights rows tp wp d) (fails-due n candidates weights rows tp wp) k f
 
   -- a job is accepted or has a first number due, and one at most
   pub accepted-or-first : Accepted n candidates weights rows tp wp ⊎ FirstDue n candidates weights rows tp wp (jobCode n candidates weights rows tp wp)

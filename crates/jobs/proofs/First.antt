@@ -8,10 +8,10 @@ use native.Mathlib.Omega.{arith}
 use lib.Dec.{eqb}
 use borrow.Author.Tests.{eqb-true, eqb-false, eq-eqb, le-leb}
 use Rattle.lists.specs.Lists.{both}
-use Rattle.lists.proofs.Choice.{Truth, truth, holds, fails, yes, no, true-not-false}
+use Rattle.lists.proofs.Choice.{Truth, truth, holds, fails, yes, no, true-not-false, not-false-true}
 use Rattle.terms.specs.Limits.{countFits}
 use Rattle.jobs.specs.Job.{unless, jobCode}
-use Rattle.jobs.specs.Due.{upTo}
+use Rattle.jobs.specs.Due.{upTo, First}
 
 -- no number: the test holds, and so do all after it
 pub unless-zero : (test : Bool) (number next : ℕ) → 0 < number → unless test number next ≡ 0 → (test ≡ true) × (next ≡ 0)
@@ -96,3 +96,18 @@ module _ (test : ℕ → Bool) where
             fails-it = f .fails-it;
             before-it = λ j m. h j (List·Memᴰ·tail m);
           })
+
+  -- where a number of the list is due exactly when its test fails, the first whose test fails is the first due
+  module _ {D : ℕ → Type 0} (ks : List ℕ) (due-fails : (k : ℕ) → D k → test k ≡ false) (due-listed : (k : ℕ) → D k → List·Memᴰ k ks) (fails-due : (k : ℕ) → List·Memᴰ k ks → test k ≡ false → D k) where
+    pub first-due : (k : ℕ) → firstOf ks ≡ suc k → First D ks (suc k)
+    first-due k e =
+        let f = first-fails ks k e in
+        record { due = fails-due (suc k) (f .listed) (f .fails-it); none-before = λ j m d. true-not-false (f .before-it j m) (due-fails j d) }
+
+    pub due-first : (k : ℕ) → First D ks k → firstOf ks ≡ k
+    due-first k f = fails-first ks k
+        (record {
+          listed = due-listed k (f .due);
+          fails-it = due-fails k (f .due);
+          before-it = λ j m. not-false-true (test j) (λ e. f .none-before j m (fails-due j (up-listed k ks j m) e));
+        })

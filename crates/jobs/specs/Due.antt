@@ -18,6 +18,11 @@ abbrev pub upTo : ℕ → List ℕ → List ℕ
 upTo k [] = []
 upTo k (x ∷ xs) = cond (eqb x k) [] (x ∷ upTo k xs)
 
+-- k is the first number due: it is due, and none that stands before it in the order is (rules 4.32, 4.36)
+pub record First (D : ℕ → Type 0) (order : List ℕ) (k : ℕ) : Type 0 where
+  pub due : D k
+  pub none-before : (j : ℕ) → List·Memᴰ j (upTo k order) → D j → ⊥
+
 -- of a job's n and lists, and the places of its triangle and work tables
 module _ (n : ℕ) (candidates : List (List ℕ)) (weights : List ℕ) (rows : List (List ℕ)) (trianglePlaces workPlaces : ℕ) where
   -- number k is due (rules 4.13 to 4.17)
@@ -39,10 +44,9 @@ module _ (n : ℕ) (candidates : List (List ℕ)) (weights : List ℕ) (rows : L
     heavy : (i : ℕ) → i < length candidates → maxWeight < getD weights i 0 → Due 17
     heavy-row : (i : ℕ) → i < length rows → maxWeight < rowWeight (entryAt rows i) → Due 17
 
-  -- k is the first number due: it is due, and none that stands before it in the order is (rule 4.32)
-  pub record FirstDue (k : ℕ) : Type 0 where
-    pub due : Due k
-    pub none-before : (j : ℕ) → List·Memᴰ j (upTo k order) → Due j → ⊥
+  -- the first number due on a job (rule 4.32)
+  abbrev pub FirstDue : ℕ → Type 0
+  FirstDue k = First Due order k
 
   -- the job is accepted: no number is due (rule 4.33)
   abbrev pub Accepted : Type 0

@@ -7,7 +7,7 @@ use mathlib.Core.Logic.{⊎-elim}
 use native.Mathlib.Omega.{arith}
 use lib.Dec.{eqb}
 use borrow.Author.Tests.{eqb-false, ne-eqb}
-use Rattle.lists.proofs.Choice.{no, true-not-false, not-true-false, not-false-true}
+use Rattle.lists.proofs.Choice.{no, true-not-false, not-true-false}
 use Rattle.terms.specs.Numbers.{firstDue}
 use Rattle.terms.proofs.Numbers.{due-on, due-neither}
 use Rattle.triangulation.specs.Triangulations.{Job}
@@ -16,7 +16,7 @@ use Rattle.triangulation.specs.Demand3.{Triangulates}
 use Rattle.jobs.specs.Job.{unless, jobCode}
 use Rattle.jobs.specs.Due.{Accepted}
 use Rattle.jobs.specs.Due as job-due
-use Rattle.jobs.proofs.First.{up-listed, firstOf, first-fails, fails-first}
+use Rattle.jobs.proofs.First.{firstOf, first-due, due-first}
 use Rattle.jobs.proofs.Failing.{test, due-fails, due-listed, fails-due}
 use Rattle.jobs.proofs.Acceptance.{above-zero, code-first, accepted-zero, zero-accepted}
 use Rattle.validation.specs.Validation.{named, isTiling, listTotal, listCode}
@@ -101,18 +101,10 @@ module _ (n : ℕ) (candidates : List (List ℕ)) (weights : List ℕ) (rows : L
 
   -- ---- a number is given exactly when it is the first due
   pub code-due : (k : ℕ) → code ≡ suc k → FirstDue n candidates weights rows list stated workPlaces (suc k)
-  code-due k e =
-      let f = first-fails judgeTest order k (sym judge-first ∙ e) in
-      record { due = fails-judge (suc k) (f .listed) (f .fails-it); none-before = λ j m d. true-not-false (f .before-it j m) (judge-fails d) }
+  code-due k e = first-due judgeTest order (λ k d. judge-fails d) (λ k d. judge-listed d) fails-judge k (sym judge-first ∙ e)
 
   pub due-code : (k : ℕ) → FirstDue n candidates weights rows list stated workPlaces k → code ≡ k
-  due-code k f =
-      judge-first ∙ fails-first judgeTest order k
-      (record {
-        listed = judge-listed (f .due);
-        fails-it = judge-fails (f .due);
-        before-it = λ j m. not-false-true (judgeTest j) (λ e. f .none-before j m (fails-judge j (up-listed k order j m) e));
-      })
+  due-code k f = judge-first ∙ due-first judgeTest order (λ k d. judge-fails d) (λ k d. judge-listed d) fails-judge k f
 
   -- ---- and none exactly when the job is accepted and the list acceptable
   pub zero-accepts : code ≡ 0 → Accepted n candidates weights rows (n - 2) workPlaces × Acceptable job list stated

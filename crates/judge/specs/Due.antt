@@ -1,9 +1,9 @@
 -- The numbers due on a call of the judge: each by itself, and their order. Definitions only.
 use Prim.Native.Nat.{ℕ, _-_}
-use mathlib.Core.List.{List, [], _∷_, List·Memᴰ}
+use mathlib.Core.List.{List, [], _∷_}
 use mathlib.Core.Logic.{_≢_}
 use Rattle.triangulation.specs.Jobs.{jobOf}
-use Rattle.jobs.specs.Due.{Due, upTo}
+use Rattle.jobs.specs.Due.{Due, First}
 use Rattle.validation.specs.Validation.{listTotal}
 use Rattle.judge.specs.Demands.{IsTiling}
 
@@ -21,7 +21,6 @@ module _ (n : ℕ) (candidates : List (List ℕ)) (weights : List ℕ) (rows : L
     -- the stated total is not the list's (rule 4.22)
     other-total : stated ≢ listTotal (jobOf n candidates weights rows) list → JudgeDue 22
 
-  -- k is the first number due: it is due, and none that stands before it in the order is (rule 4.36)
-  pub record FirstDue (k : ℕ) : Type 0 where
-    pub due : JudgeDue k
-    pub none-before : (j : ℕ) → List·Memᴰ j (upTo k order) → JudgeDue j → ⊥
+  -- the first number due on a call (rule 4.36)
+  abbrev pub FirstDue : ℕ → Type 0
+  FirstDue k = First JudgeDue order k
