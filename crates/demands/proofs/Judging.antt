@@ -11,7 +11,6 @@ use Rattle.polygon.specs.Polygon.{Valid}
 use Rattle.reader.specs.Order.{NoneDue}
 use Rattle.reader.specs.File.{Bytes}
 use Rattle.delaunay.specs.Candidates.{candidatesOf}
-use Rattle.jobs.specs.Due.{Accepted}
 use Rattle.jobs.proofs.Acceptance.{fitting-accepted}
 use Rattle.triangulator.specs.declared.Outcome.{Outcome}
 use Rattle.triangulator.specs.declared.Outcome.the-variants.{Patch}
@@ -19,6 +18,7 @@ use Rattle.triangulator.specs.Call.{partOf}
 use Rattle.triangulator.specs.Demands.{Taken, a-patch, Handed}
 use Rattle.judge.specs.declared.Judgement.the-variants as judgement
 use Rattle.judge.specs.Call.{result, judged}
+use Rattle.judge.specs.Demands.{JobAccepted}
 use Rattle.triangulator.proofs.Demands.{patch-handed}
 use Rattle.judge.proofs.Demands.{handed-accepted}
 use Rattle.pipeline.specs.Patching.{Tables, Patching, weightsIn, rowsIn, jobIn, patchFile}
@@ -28,7 +28,7 @@ use Rattle.demands.proofs.Demand1.{taken-only-when, accepted}
 use Rattle.demands.proofs.Demands.{file-handed}
 
 -- none of 13 to 17 is due on the lists of a rim beside a work table that is long enough (rule 4.36)
-pub rim-job-accepted : (p : Polygon) → Valid p → (workPlaces : ℕ) → length (candidatesOf p) ≤ workPlaces → Accepted (p .n) (candidatesOf p) (weightsIn p) (rowsIn p) (p .n - 2) workPlaces
+pub rim-job-accepted : (p : Polygon) → Valid p → (workPlaces : ℕ) → length (candidatesOf p) ≤ workPlaces → JobAccepted (p .n) (candidatesOf p) (weightsIn p) (rowsIn p) workPlaces
 rim-job-accepted p v workPlaces h =
     fitting-accepted (p .n) (candidatesOf p) (weightsIn p) (rowsIn p) (p .n - 2) workPlaces
     (record { at-least = v .least; at-most = v .most; triangle-room = omega arith; work-room = h; lists = lists-accepted p v })

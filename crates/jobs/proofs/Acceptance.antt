@@ -32,14 +32,18 @@ pub record Fitting (n : ℕ) (candidates : List (List ℕ)) (weights : List ℕ)
   pub work-room : length candidates ≤ work-places
   pub lists : ListsAccepted n candidates weights rows
 
-pub above-zero : (k : ℕ) → List·Memᴰ k order → 0 < k
-above-zero k m =
-    ⊎-elim (λ q. omega arith)
-    (λ m. ⊎-elim (λ q. omega arith)
-    (λ m. ⊎-elim (λ q. omega arith)
-    (λ m. ⊎-elim (λ q. omega arith)
-    (λ m. ⊎-elim (λ q. omega arith) (λ m. absurd (List·Memᴰ·not-nil m))
+-- the numbers of a job are from 13 to 17
+pub in-range : (k : ℕ) → List·Memᴰ k order → (13 ≤ k) × (k ≤ 17)
+in-range k m =
+    ⊎-elim (λ q. (omega arith, omega arith))
+    (λ m. ⊎-elim (λ q. (omega arith, omega arith))
+    (λ m. ⊎-elim (λ q. (omega arith, omega arith))
+    (λ m. ⊎-elim (λ q. (omega arith, omega arith))
+    (λ m. ⊎-elim (λ q. (omega arith, omega arith)) (λ m. absurd (List·Memᴰ·not-nil m))
     (List·Memᴰ·cases-cons m)) (List·Memᴰ·cases-cons m)) (List·Memᴰ·cases-cons m)) (List·Memᴰ·cases-cons m)) (List·Memᴰ·cases-cons m)
+
+above-zero : (k : ℕ) → List·Memᴰ k order → 0 < k
+above-zero k m = omega (arith, in-range k m .0)
 
 module _ (n : ℕ) (candidates : List (List ℕ)) (weights : List ℕ) (rows : List (List ℕ)) (tp wp : ℕ) where
   abbrev T : ℕ → Bool

@@ -8,9 +8,8 @@ use Rattle.lists.specs.Lists.{filled}
 use Rattle.terms.specs.Numbers.{firstDue}
 use Rattle.triangulation.specs.Triangulations.{Job, Valid, best}
 use Rattle.triangulation.specs.Jobs.{jobOf}
-use Rattle.triangulation.specs.Demand3.{Triangulates, HandedBack}
+use Rattle.triangulation.specs.Demand3.{HandedBack}
 use Rattle.jobs.specs.Job.{codeWithoutTriangles}
-use Rattle.jobs.specs.Due.{Accepted}
 use Rattle.jobs.proofs.Acceptance.{accepted-zero, accepted-beside}
 use Rattle.triangulator.specs.declared.Outcome.{Outcome}
 use Rattle.triangulator.specs.declared.Outcome.the-variants as outcome
@@ -20,10 +19,10 @@ use Rattle.triangulator.proofs.Accepting.{accepted-well-formed}
 use Rattle.triangulator.proofs.Demands.{patch-handed, job-taken-only, job-handed}
 use Rattle.judge.specs.declared.Judgement.the-variants as judgement
 use Rattle.judge.specs.Call.{numberOf, excessOf, excessOver, judgeCode, Result, result, settled, judged}
-use Rattle.judge.specs.Demands.{Acceptable, SameNumbers, Excess}
+use Rattle.judge.specs.Demands.{JobAccepted, Acceptable, SameNumbers, Excess}
 use Rattle.judge.specs.Due.{FirstDue}
 use Rattle.judge.proofs.Tilings.{same-code}
-use Rattle.judge.proofs.Numbers.{code-due, due-code, zero-accepts, accepts-zero, no-tiling-code, due-above}
+use Rattle.judge.proofs.Numbers.{code-due, due-code, zero-accepts, accepts-zero, due-above}
 use Rattle.judge.proofs.Least.{excess-is}
 
 -- an acceptance is no refusal
@@ -34,11 +33,7 @@ module _ (n : ℕ) (candidates : List (List ℕ)) (weights : List ℕ) (rows : L
   abbrev job : Job
   job = jobOf n candidates weights rows
 
-  -- a job is accepted beside a work table of so many places
-  abbrev JobAccepted : ℕ → Type 0
-  JobAccepted workPlaces = Accepted n candidates weights rows (n - 2) workPlaces
-
-  valid : {workPlaces : ℕ} → JobAccepted workPlaces → Valid job
+  pub valid : {workPlaces : ℕ} → JobAccepted n candidates weights rows workPlaces → Valid (jobOf n candidates weights rows)
   valid {workPlaces} a = accepted-well-formed n candidates weights rows (n - 2) workPlaces (accepted-zero n candidates weights rows (n - 2) workPlaces a) .0 .valid
 
   module _ (list : List ℕ) (stated : ℕ) (work : List ℕ) where
@@ -48,7 +43,8 @@ module _ (n : ℕ) (candidates : List (List ℕ)) (weights : List ℕ) (rows : L
     abbrev call : Result
     call = judged n candidates weights rows list stated work
 
-    by-code : {k : ℕ} → code ≡ k → call ≡ settled k (excessOver (best job) stated) (length candidates) work
+    -- the call, by its number
+    pub by-code : {k : ℕ} → judgeCode n candidates weights rows list stated (length work) ≡ k → judged n candidates weights rows list stated work ≡ settled k (excessOver (best (jobOf n candidates weights rows)) stated) (length candidates) work
     unfolding judged
     by-code e = ap (λ (k : ℕ). settled k (excessOver (best job) stated) (length candidates) work) e
 
@@ -63,10 +59,10 @@ module _ (n : ℕ) (candidates : List (List ℕ)) (weights : List ℕ) (rows : L
         by (suc k) f = absurd (not-both (sym e ∙ number-is f))
 
     -- the judge accepts exactly when the list is a tiling without repeats and the total is its total, of a job that is accepted (rules 3.13, 4.36)
-    pub accepts-when : JobAccepted (length work) → Acceptable job list stated → (excess : ℕ) × (judged n candidates weights rows list stated work .judgement ≡ judgement.Accepted excess)
+    pub accepts-when : JobAccepted n candidates weights rows (length work) → Acceptable job list stated → (excess : ℕ) × (judged n candidates weights rows list stated work .judgement ≡ judgement.Accepted excess)
     accepts-when a l = (excessOver (best job) stated, ap (λ (r : Result). r .judgement) (by-code (accepts-zero n candidates weights rows list stated (length work) a l)))
 
-    pub accepts-only-when : (excess : ℕ) → judged n candidates weights rows list stated work .judgement ≡ judgement.Accepted excess → JobAccepted (length work) × Acceptable job list stated
+    pub accepts-only-when : (excess : ℕ) → judged n candidates weights rows list stated work .judgement ≡ judgement.Accepted excess → JobAccepted n candidates weights rows (length work) × Acceptable job list stated
     accepts-only-when excess e = zero-accepts n candidates weights rows list stated (length work) (accepted-code excess e)
 
     -- with acceptance it states the excess over the least total, 0 exactly when no tiling costs less (rule 3.14), and leaves zeros (rule 3.9)
@@ -97,10 +93,6 @@ module _ (n : ℕ) (candidates : List (List ℕ)) (weights : List ℕ) (rows : L
             let q : suc j ≡ k = ap numberOf (sym (number-is e) ∙ r) in
             subst (λ (i : ℕ). FirstDue n candidates weights rows list stated (length work) i) q (code-due n candidates weights rows list stated (length work) j e)
 
-    -- an accepted job without a tiling gives 21 for every list: 'none' is no outcome of the judge (rule 4.21)
-    pub no-tiling-21 : JobAccepted (length work) → ((set : List ℕ) → Triangulates job set → ⊥) → judged n candidates weights rows list stated work ≡ result (judgement.Refused 21) work
-    no-tiling-21 a h = by-code (no-tiling-code n candidates weights rows list stated (length work) a h)
-
   -- the order of the list never matters (rule 3.13)
   pub order-never-matters : (list list′ : List ℕ) (stated : ℕ) (work : List ℕ) → SameNumbers list list′ → judged n candidates weights rows list stated work ≡ judged n candidates weights rows list′ stated work
   unfolding judged judgeCode
@@ -108,7 +100,7 @@ module _ (n : ℕ) (candidates : List (List ℕ)) (weights : List ℕ) (rows : L
       ap (λ (k : ℕ). settled (firstDue (codeWithoutTriangles n candidates weights rows (length work)) k) (excessOver (best job) stated) (length candidates) work) (same-code job list list′ stated h)
 
   -- a patch as the caller is handed it is accepted with excess 0 (rules 3.8, 3.14)
-  pub handed-accepted : (total : ℕ) (part work : List ℕ) → JobAccepted (length work) → HandedBack job total part
+  pub handed-accepted : (total : ℕ) (part work : List ℕ) → JobAccepted n candidates weights rows (length work) → HandedBack job total part
       → judged n candidates weights rows part total work ≡ result (judgement.Accepted 0) (filled (replicate (length candidates) 0) work)
   handed-accepted total part work a h =
       let o = h .right in

@@ -3,4 +3,5 @@ pub mod Numbers
 pub mod Least
 pub mod Settling
 pub mod Demands
+pub mod Refusals
 pub mod WrongCalls

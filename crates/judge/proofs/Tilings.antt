@@ -49,7 +49,7 @@ module _ (job : Job) (list : List ℕ) where
     candidate : (k : ℕ) → Mem k set → k < job .size
     candidate k m = omega (arith, upFrom-mem 0 (job .size) k (subset-mem (upFrom 0 (job .size)) set (t .tiles .0) k m))
 
-    names : Names (job .size) list
+    pub names : Names (job .size) list
     names = record { candidate = λ k m. candidate k (t .once .only k m); once = apart-once list (t .once .apart) }
 
     pub named-is : named job list ≡ set

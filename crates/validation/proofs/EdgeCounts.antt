@@ -15,6 +15,7 @@ use Rattle.terms.specs.Limits.{maxVertices}
 use Rattle.terms.specs.Entries.{entryAt, vertexA, vertexB, vertexC}
 use Rattle.triangulation.specs.Triangulations.{only, longEdge, shortEdge, countBetween, countOutside, isBoundary, edgeOk, isTriangulation}
 use Rattle.triangulation.specs.Jobs.{jobOf}
+use Rattle.triangulation.proofs.SetParts.{either-split}
 use Rattle.triangulation.proofs.PartsToSets.{only-le}
 use Rattle.validation.specs.Edges.{edgeAt, edgePlaces, countAt, added, Room, Triangle, Triangles, bareJob, between, outside, Sums, Counted, bare, edgesFit}
 use Rattle.validation.proofs.Fronts.{below-same, sum-next, sum-le}
@@ -43,18 +44,6 @@ added-at t i j hi hj len p q hp hq = go (eqb i p) (eqb j q) refl refl
 pub room-kept : (t : List ℕ) (a b c : ℕ) → a < b → b < maxVertices → c < maxVertices → Room t b c → Room (added t a b) b c
 unfolding added
 room-kept t a b c h hb hc r = omega (arith, r, getD-set-other t (edgeAt a b) (edgeAt b c) (countAt t a b + 1) 0 (λ (z : edgeAt b c ≡ edgeAt a b). omega arith))
-
--- a triangle has an edge once
-either-split : (a b c p q : ℕ) → a < b → only (eqb a p && eqb b q || eqb b p && eqb c q) 1 ≡ only (eqb a p && eqb b q) 1 + only (eqb b p && eqb c q) 1
-either-split a b c p q h = go (eqb a p) (eqb b p) (eqb b q) (eqb c q) refl refl
-  where
-    go : (x y z w : Bool) → eqb a p ≡ x → eqb b p ≡ y → only (x && z || y && w) 1 ≡ only (x && z) 1 + only (y && w) 1
-    go true true z w e f = absurd (omega (arith, eqb-true a p e, eqb-true b p f))
-    go true false true w e f = omega arith
-    go true false false w e f = omega arith
-    go false true z true e f = omega arith
-    go false true z false e f = omega arith
-    go false false z w e f = omega arith
 
 module _ (candidates : List (List ℕ)) (list : List ℕ) (ok : Triangles candidates list) where
   pub triangle-at : (i : ℕ) → i < length list → Triangle candidates (getD list i 0)
@@ -99,7 +88,7 @@ module _ (candidates : List (List ℕ)) (list : List ℕ) (ok : Triangles candid
               ap (λ (l : List ℕ). countAt l p q) e
               ∙ added-at (added table (vertexA (triangle i)) (vertexB (triangle i))) (vertexB (triangle i)) (vertexC (triangle i)) hb (o .few) l p q hp hq
               ∙ ap (λ x. x + only (eqb (vertexB (triangle i)) p && eqb (vertexC (triangle i)) q) 1) (added-at table (vertexA (triangle i)) (vertexB (triangle i)) ha hb (s .long-enough) p q hp hq)
-              ∙ omega (arith, s .at p q hp hq, either-split (vertexA (triangle i)) (vertexB (triangle i)) (vertexC (triangle i)) p q (o .ab), sum-next (outside candidates p q) list i h);
+              ∙ omega (arith, s .at p q hp hq, either-split (vertexA (triangle i)) (vertexB (triangle i)) (vertexC (triangle i)) p q 1 (o .ab), sum-next (outside candidates p q) list i h);
         }
 
 -- ---- an edge inside: in no triangle, in others, and in one between
