@@ -58,14 +58,14 @@ module _ (n : ℕ) (candidates : List (List ℕ)) (weights : List ℕ) (rows : L
         by zero f = f
         by (suc k) f = absurd (not-both (sym e ∙ number-is f))
 
-    -- the judge accepts exactly when the list is a tiling without repeats and the total is its total, of a job that is accepted (rules 3.13, 4.36)
+    -- of an accepted job the judge accepts exactly those lists that are a tiling without repeats and have the stated total (rules 3.13, 4.36)
     pub accepts-when : JobAccepted n candidates weights rows (length work) → Acceptable job list stated → (excess : ℕ) × (judged n candidates weights rows list stated work .judgement ≡ judgement.Accepted excess)
     accepts-when a l = (excessOver (best job) stated, ap (λ (r : Result). r .judgement) (by-code (accepts-zero n candidates weights rows list stated (length work) a l)))
 
     pub accepts-only-when : (excess : ℕ) → judged n candidates weights rows list stated work .judgement ≡ judgement.Accepted excess → JobAccepted n candidates weights rows (length work) × Acceptable job list stated
     accepts-only-when excess e = zero-accepts n candidates weights rows list stated (length work) (accepted-code excess e)
 
-    -- with acceptance it states the excess over the least total, 0 exactly when no tiling costs less (rule 3.14), and leaves zeros (rule 3.9)
+    -- then its answer is how far the total is above the least, 0 exactly when no tiling costs less (rule 3.14), and it leaves zeros (rule 3.9)
     pub accepted-excess : (excess : ℕ) → judged n candidates weights rows list stated work .judgement ≡ judgement.Accepted excess → Excess job stated excess
     accepted-excess excess e =
         let o = accepts-only-when excess e in
