@@ -1,7 +1,7 @@
-//! A patch brought from elsewhere, judged by the library. It decides; this only says where to look.
+//! A patch from elsewhere, judged by the library. It decides; this only says where to look.
 
-use crate::brought::{brought, Brought, Named};
 use crate::geometry::rim_edges;
+use crate::patch_text::{parse, StatedPatch, StatedTriangle};
 use patch_box::{Number, OwnedTables};
 
 /// What the library says of a rim and a patch.
@@ -20,9 +20,9 @@ pub fn judge(file: &[u8], text: &[u8]) -> Result<Judgement, String> {
         Ok(job) => job,
         Err(number) => return Ok(Judgement::RimRefused(number)),
     };
-    let patch = brought(text)?;
+    let patch = parse(text)?;
     if patch.vertices != job.n as u64 {
-        let Brought { line, vertices, .. } = patch;
+        let StatedPatch { line, vertices, .. } = patch;
         return Err(format!("line {line}: it says {vertices} vertices, the rim has {}", job.n));
     }
     let list = job.numbers(&patch.triangles);
@@ -50,10 +50,10 @@ impl Job {
     }
 
     /// The candidate numbers of triangles. Candidates stand in rising order.
-    fn numbers(&self, triangles: &[Named]) -> Vec<u16> {
+    fn numbers(&self, triangles: &[StatedTriangle]) -> Vec<u16> {
         let candidates: Vec<[u64; 3]> =
             self.tables.candidates.iter().map(|candidate| candidate.map(u64::from)).collect();
-        let number = |triangle: &Named| candidates.binary_search(&triangle.vertices);
+        let number = |triangle: &StatedTriangle| candidates.binary_search(&triangle.vertices);
         triangles.iter().map(|t| number(t).map_or(NO_CANDIDATE, |k| k as u16)).collect()
     }
 
@@ -63,7 +63,7 @@ impl Job {
     }
 
     /// A refusal in one line, with its place where that is known.
-    fn refusal(&self, number: Number, patch: &Brought, list: &[u16]) -> String {
+    fn refusal(&self, number: Number, patch: &StatedPatch, list: &[u16]) -> String {
         let place = match number {
             Number::NotATriangulation => wrong_triangle(&patch.triangles, list)
                 .or_else(|| wrong_edge(&patch.triangles, self.n)),
@@ -86,9 +86,9 @@ impl Job {
 }
 
 /// The first triangle that is no candidate, or that an earlier line has too.
-fn wrong_triangle(triangles: &[Named], list: &[u16]) -> Option<String> {
+fn wrong_triangle(triangles: &[StatedTriangle], list: &[u16]) -> Option<String> {
     (0..list.len()).find_map(|k| {
-        let Named { line, vertices: [a, b, c] } = triangles[k];
+        let StatedTriangle { line, vertices: [a, b, c] } = triangles[k];
         if list[k] == NO_CANDIDATE {
             return Some(format!("line {line}: {a} {b} {c} is no candidate of the rim"));
         }
@@ -98,18 +98,18 @@ fn wrong_triangle(triangles: &[Named], list: &[u16]) -> Option<String> {
 }
 
 /// The first edge that is not in the triangles that rule 3.3 asks for, rim edges before others.
-fn wrong_edge(triangles: &[Named], n: usize) -> Option<String> {
+fn wrong_edge(triangles: &[StatedTriangle], n: usize) -> Option<String> {
     wrong_rim_edge(triangles, n).or_else(|| wrong_inner_edge(triangles, n))
 }
 
-fn wrong_rim_edge(triangles: &[Named], n: usize) -> Option<String> {
+fn wrong_rim_edge(triangles: &[StatedTriangle], n: usize) -> Option<String> {
     rim_edges(n).find_map(|[i, j]| match sides(triangles, [i, j]).iter().sum::<usize>() {
         1 => None,
         count => Some(format!("the rim edge from {i} to {j} is in {count} triangles, not in one")),
     })
 }
 
-fn wrong_inner_edge(triangles: &[Named], n: usize) -> Option<String> {
+fn wrong_inner_edge(triangles: &[StatedTriangle], n: usize) -> Option<String> {
     let each = "does not have one triangle on each side, but";
     let pairs = (0..n).flat_map(|i| (i + 2..n).map(move |j| [i, j]));
     let mut edges = pairs.filter(|&pair| pair != [0, n - 1]);
@@ -120,10 +120,10 @@ fn wrong_inner_edge(triangles: &[Named], n: usize) -> Option<String> {
 }
 
 /// How many triangles with this edge have their third vertex between its ends, and how many do not.
-fn sides(triangles: &[Named], edge: [usize; 2]) -> [usize; 2] {
+fn sides(triangles: &[StatedTriangle], edge: [usize; 2]) -> [usize; 2] {
     let edge = edge.map(|end| end as u64);
     let with = triangles.iter().filter(|t| edge.iter().all(|end| t.vertices.contains(end)));
-    let (between, beside): (Vec<&Named>, Vec<&Named>) =
+    let (between, beside): (Vec<&StatedTriangle>, Vec<&StatedTriangle>) =
         with.partition(|t| !edge.contains(&t.vertices[1]));
     [between.len(), beside.len()]
 }

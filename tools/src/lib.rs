@@ -4,7 +4,6 @@
 #![forbid(unsafe_code)]
 
 pub mod arguments;
-pub mod brought;
 pub mod diagnosis;
 pub mod geometry;
 pub mod judge;
@@ -12,6 +11,7 @@ pub mod list;
 pub mod mesh;
 pub mod output;
 pub mod patch;
+pub mod patch_text;
 pub mod picture;
 pub mod points;
 pub mod rim_file;

@@ -4,9 +4,9 @@ mod common;
 
 use common::{bytes_of, example, run, run_in, Folder, Numbers, Run, RIMS};
 use patch_box::{Candidate, Number, Outcome, OwnedTables};
-use rim::brought::brought;
 use rim::judge::{judge, Judgement};
 use rim::patch::{close, Patch};
+use rim::patch_text::parse;
 use std::collections::{BTreeSet, HashMap};
 use std::fs;
 
@@ -79,7 +79,7 @@ fn the_example_from_elsewhere() {
     file[4] = 0;
     let best = vertices(&close(&file).expect("accepted"));
     let best: BTreeSet<[u64; 3]> = best.iter().map(|triangle| triangle.map(u64::from)).collect();
-    let patch = brought(&example).expect("a patch");
+    let patch = parse(&example).expect("a patch");
     assert_eq!(patch.triangles.iter().map(|t| t.vertices).collect::<BTreeSet<_>>(), best);
     accepted("gap.rim", example, 34);
     let readme = String::from_utf8(bytes_of("README.md")).expect("text");

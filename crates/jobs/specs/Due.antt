@@ -13,7 +13,7 @@ use Rattle.jobs.specs.Job.{ascends, before, namesPair, rowBefore}
 abbrev pub order : List ℕ
 order = 14 ∷ 13 ∷ 15 ∷ 16 ∷ 17 ∷ []
 
--- the numbers of a list that stand before k (rule 4.32)
+-- the numbers of a list that stand before k (rules 4.32, 4.36)
 abbrev pub upTo : ℕ → List ℕ → List ℕ
 upTo k [] = []
 upTo k (x ∷ xs) = cond (eqb x k) [] (x ∷ upTo k xs)

@@ -1,6 +1,7 @@
 // The tests of a direct job: 14, 13, 15, 16, 17, each over the whole job before the next (rule 4.32).
 mod candidates;
-pub mod rows;
+pub mod pairs;
+mod rows;
 mod weights;
 
 ghost use mathlib.Core.Path.{_≡_};
@@ -73,6 +74,6 @@ pub fn code_without_triangles(
 ) -> u32
     ensures { λ r. ⌜ r ≡ codeWithoutTriangles n (now (candidates .entry)) (now (weights .entry)) (now (rows .entry)) «work_places» ⌝ }
 {
-    // n places are enough for every triangle table.
+    // n is never below n − 2, so 13 is not due for triangles.
     job_code(n, candidates, weights, rows, n, work_places)
 }

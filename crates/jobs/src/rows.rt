@@ -1,27 +1,9 @@
 // 16: each row names two candidates, its inner hangs on its outer, and it is strictly after the row before it.
+use crate::pairs::hangs_on;
 ghost use mathlib.Core.Path.{_≡_};
 ghost use Prim.Native.Nat.{_<_};
 ghost use lib.ListN.{length};
-ghost use Rattle.jobs.specs.Job.{sameEdge, hangs, namesPair, rowBefore, rowFits, rowsFit};
-
-fn same_edge(i: u8, j: u8, k: u8, l: u8) -> bool
-    ensures { λ r. ⌜ r ≡ sameEdge i j k l ⌝ }
-{
-    if i != k {
-        return false;
-    }
-    j == l
-}
-
-// Candidate t hangs on candidate u: t's edge (a, c) is u's (a, b) or (b, c).
-pub fn hangs_on(t: [u8; 3], u: [u8; 3]) -> bool
-    ensures { λ r. ⌜ r ≡ hangs t u ⌝ }
-{
-    if same_edge(t[0], t[2], u[0], u[1]) {
-        return true;
-    }
-    same_edge(t[0], t[2], u[1], u[2])
-}
+ghost use Rattle.jobs.specs.Job.{namesPair, rowBefore, rowFits, rowsFit};
 
 fn names_pair(candidates: &[[u8; 3]], outer: u32, inner: u32) -> bool
     ensures { λ r. ⌜ r ≡ namesPair (now (candidates .entry)) outer inner ⌝ }

@@ -11,7 +11,7 @@ use Rattle.judge.specs.Call.{excessOver}
 use Rattle.judge.specs.Demands.{Least, Excess}
 
 module _ (job : Job) (good : Valid job) (s : List ℕ) (tiles : Triangulates job s) where
-  -- where there is a tiling, the answer has the least total, and what the dynamic programme returns is it
+  -- where there is a tiling, the answer has the least total
   pub data Known : Answer → Type 0 where
     known : (least : ℕ) (triangles : List ℕ) → Least job least → Known (patch least triangles)
 
@@ -35,7 +35,7 @@ module _ (job : Job) (good : Valid job) (s : List ℕ) (tiles : Triangulates job
         cheapest-zero = λ m. omega (arith, m (l .set) (l .tiles), l .weight);
       }
 
-  -- the code's subtraction is that
+  -- the dynamic programme returns the least total: the code's difference is the excess
   pub excess-by-cost : (stated : ℕ) → stated ≡ totalWeight job s → (costOf (bestKey job) ≤ stated) × (stated - costOf (bestKey job) ≡ excessOver (best job) stated)
   excess-by-cost stated e = go (bestKey job) least-known
     where

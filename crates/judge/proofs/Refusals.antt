@@ -30,13 +30,10 @@ module _ (n : ℕ) (candidates : List (List ℕ)) (weights : List ℕ) (rows : L
       → judged n candidates weights rows list stated work ≡ result (Refused 21) work
   gives-21 a h = by-code n candidates weights rows list stated work (no-tiling-code n candidates weights rows list stated (length work) a h)
 
-  abbrev First : ℕ → Type 0
-  First k = FirstDue n candidates weights rows list stated (length work) k
-
   pub given-21 : judged n candidates weights rows list stated work .judgement ≡ Refused 21
       → JobAccepted n candidates weights rows (length work) × ((set : List ℕ) → IsTiling (jobOf n candidates weights rows) list set → ⊥)
   given-21 e =
-      let f : First 21 = given-first n candidates weights rows list stated work 21 e in
+      let f : FirstDue n candidates weights rows list stated (length work) 21 = given-first n candidates weights rows list stated work 21 e in
       let a : JobAccepted n candidates weights rows (length work) = λ k d. f .none-before k (due-listed n candidates weights rows (n - 2) (length work) d) (of-job d) in
       (a, by (f .due) refl a)
     where
@@ -70,7 +67,7 @@ module _ (n : ℕ) (candidates : List (List ℕ)) (weights : List ℕ) (rows : L
   pub given-22 : judged n candidates weights rows list stated work .judgement ≡ Refused 22
       → JobAccepted n candidates weights rows (length work) × ((set : List ℕ) × IsTiling (jobOf n candidates weights rows) list set × (stated ≢ totalWeight (jobOf n candidates weights rows) set))
   given-22 e =
-      let f : First 22 = given-first n candidates weights rows list stated work 22 e in
+      let f : FirstDue n candidates weights rows list stated (length work) 22 = given-first n candidates weights rows list stated work 22 e in
       let a : JobAccepted n candidates weights rows (length work) = λ k d. f .none-before k (Memᴰ·append-left (21 ∷ []) (due-listed n candidates weights rows (n - 2) (length work) d)) (of-job d) in
       let t = tiling (truth (isTiling job list)) (λ h. f .none-before 21 (Memᴰ·append-right order (List·Memᴰ·head refl)) (no-tiling h)) in
       (a, (named job list, t, λ (q : stated ≡ totalWeight job (named job list)). by (f .due) refl a (q ∙ sym (total-of job list t))))

@@ -16,7 +16,7 @@ use Rattle.triangulation.proofs.Sums.{Mem, once-apart, Any, any, none, some}
 use Rattle.triangulation.proofs.PartsToSets.{upFrom-mem}
 use Rattle.triangulation.proofs.Least.{subset-mem}
 use Rattle.triangulation.proofs.Demand3.{SameMembers, same-subset}
-use Rattle.validation.specs.Validation.{times, namesOnce, named, isTiling, listTotal, listCode}
+use Rattle.validation.specs.Validation.{times, distinctCandidates, named, isTiling, listTotal, listCode}
 use Rattle.validation.proofs.Naming.{Names, times-mem, mem-times, times-turned, names-test, test-names, named-mem, mem-named, named-subset, tiling-names, tiling-tiles, names-tiling}
 use Rattle.judge.specs.Demands.{IsTiling, Acceptable, SameNumbers}
 
@@ -92,10 +92,10 @@ module _ (job : Job) where
     once = λ k. omega (arith, h k, n .once k);
   }
 
-  names-same : (list list′ : List ℕ) → SameNumbers list list′ → namesOnce (job .size) list ≡ namesOnce (job .size) list′
-  names-same list list′ h = go (truth (namesOnce (job .size) list))
+  names-same : (list list′ : List ℕ) → SameNumbers list list′ → distinctCandidates (job .size) list ≡ distinctCandidates (job .size) list′
+  names-same list list′ h = go (truth (distinctCandidates (job .size) list))
     where
-      go : Truth (namesOnce (job .size) list) → namesOnce (job .size) list ≡ namesOnce (job .size) list′
+      go : Truth (distinctCandidates (job .size) list) → distinctCandidates (job .size) list ≡ distinctCandidates (job .size) list′
       go (holds e) = e ∙ sym (names-test (job .size) list′ (same-names list list′ h (test-names (job .size) list e)))
       go (fails e) = e ∙ sym (not-true-false _ (λ t. true-not-false (names-test (job .size) list (same-names list′ list (λ k. sym (h k)) (test-names (job .size) list′ t))) e))
 

@@ -16,7 +16,7 @@ pub record IsTiling (job : Job) (list set : List ℕ) : Type 0 where
   pub tiles : Triangulates job set
   pub once : NamesOnce list set
 
--- the list is a tiling without repeats, of the stated total (rule 3.13)
+-- the list is a tiling without repeats, of the stated total (rules 3.13, 4.22)
 pub record Acceptable (job : Job) (list : List ℕ) (stated : ℕ) : Type 0 where
   pub set : List ℕ
   pub tiling : IsTiling job list set

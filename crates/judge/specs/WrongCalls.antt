@@ -27,8 +27,9 @@ abbrev pub wrongCalls : List Call
 wrongCalls =
     -- edges counted without their sides
     call band (1 ∷ 2 ∷ 3 ∷ 5 ∷ 6 ∷ []) 5 (result (Accepted 2) (0 ∷ 0 ∷ 0 ∷ 0 ∷ 0 ∷ 0 ∷ 0 ∷ 9 ∷ []))
-    -- a repeat let through
+    -- a repeat let through, uncounted and counted
     ∷ call listsP (1 ∷ 3 ∷ 3 ∷ []) 469 (accepted 0)
+    ∷ call listsP (1 ∷ 3 ∷ 3 ∷ []) 874 (accepted 405)
     -- 22 before 21
     ∷ call listsP (1 ∷ 1 ∷ []) 469 (refused 22)
     -- the excess against the stated total

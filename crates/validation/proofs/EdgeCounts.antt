@@ -17,7 +17,7 @@ use Rattle.triangulation.specs.Triangulations.{only, longEdge, shortEdge, count
 use Rattle.triangulation.specs.Jobs.{jobOf}
 use Rattle.triangulation.proofs.SetParts.{either-split}
 use Rattle.triangulation.proofs.PartsToSets.{only-le}
-use Rattle.validation.specs.Edges.{edgeAt, edgePlaces, countAt, added, Room, Triangle, Triangles, bareJob, between, outside, Sums, Counted, bare, edgesFit}
+use Rattle.validation.specs.Edges.{edgeAt, edgePlaces, countAt, added, Room, Triangle, Triangles, candidatesAlone, between, outside, Sums, Counted, verticesAlone, edgesFit}
 use Rattle.validation.proofs.Fronts.{below-same, sum-next, sum-le}
 
 -- ---- one more at one edge
@@ -54,10 +54,10 @@ module _ (candidates : List (List ℕ)) (list : List ℕ) (ok : Triangles candid
   sums-room g b {t} {table} h s i j hi hj = omega (arith, s .at i j hi hj, sum-le (g i j) (take t list) (b i j), length-take-le t list h, ok .short-list)
 
   pub between-room : {t : ℕ} {table : List ℕ} → t ≤ length list → Sums (between candidates) (take t list) table → (i j : ℕ) → i < maxVertices → j < maxVertices → Room table i j
-  between-room h s i j hi hj = sums-room (between candidates) (λ i j k. only-le (longEdge (bareJob candidates) i j k)) h s i j hi hj
+  between-room h s i j hi hj = sums-room (between candidates) (λ i j k. only-le (longEdge (candidatesAlone candidates) i j k)) h s i j hi hj
 
   pub outside-room : {t : ℕ} {table : List ℕ} → t ≤ length list → Sums (outside candidates) (take t list) table → (i j : ℕ) → i < maxVertices → j < maxVertices → Room table i j
-  outside-room h s i j hi hj = sums-room (outside candidates) (λ i j k. only-le (shortEdge (bareJob candidates) i j k)) h s i j hi hj
+  outside-room h s i j hi hj = sums-room (outside candidates) (λ i j k. only-le (shortEdge (candidatesAlone candidates) i j k)) h s i j hi hj
 
   -- ---- one triangle more
   abbrev triangle : ℕ → List ℕ
@@ -93,10 +93,10 @@ module _ (candidates : List (List ℕ)) (list : List ℕ) (ok : Triangles candid
 
 -- ---- an edge inside: in no triangle, in others, and in one between
 module _ (n x y : ℕ) where
-  pub inner-unused : x + y ≡ 0 → edgeOk (bare n) false x y ≡ true
+  pub inner-unused : x + y ≡ 0 → edgeOk (verticesAlone n) false x y ≡ true
   inner-unused e = ap (λ b. b || eqb x 1 && eqb y 1) (eq-eqb (x + y) 0 e)
 
-  pub inner-one-sided : x + y ≢ 0 → (x ≡ 1 → y ≡ 1 → ⊥) → edgeOk (bare n) false x y ≡ false
+  pub inner-one-sided : x + y ≢ 0 → (x ≡ 1 → y ≡ 1 → ⊥) → edgeOk (verticesAlone n) false x y ≡ false
   inner-one-sided d h = ap₂ (λ b t. b || t) (ne-eqb (x + y) 0 d) (go (truth (eqb x 1)) (truth (eqb y 1)))
     where
       go : Truth (eqb x 1) → Truth (eqb y 1) → (eqb x 1 && eqb y 1) ≡ false
@@ -104,7 +104,7 @@ module _ (n x y : ℕ) where
       go (holds p) (fails q) = ap₂ (λ b t. b && t) p q
       go (fails p) q = ap (λ b. b && eqb y 1) p
 
-  pub inner-both : x ≡ 1 → edgeOk (bare n) false x y ≡ eqb y 1
+  pub inner-both : x ≡ 1 → edgeOk (verticesAlone n) false x y ≡ eqb y 1
   inner-both e = ap₂ (λ b t. b || t && eqb y 1) (ne-eqb (x + y) 0 (λ (z : x + y ≡ 0). omega arith)) (eq-eqb x 1 e)
 
 -- ---- from zeros to the whole list
@@ -118,4 +118,4 @@ pub edges-triangulation : (n : ℕ) (candidates : List (List ℕ)) (list between
     → edgesFit n betweens outsides ≡ isTriangulation (jobOf n candidates [] []) list
 unfolding isTriangulation countBetween countOutside
 edges-triangulation n candidates list betweens outsides counted h = below-same n _ _ (λ j hj. below-same j _ _ (λ i hi.
-    ap₂ (λ x y. edgeOk (bare n) (isBoundary (bare n) i j) x y) (counted .on-between .at i j (omega arith) (omega arith)) (counted .on-outside .at i j (omega arith) (omega arith))))
+    ap₂ (λ x y. edgeOk (verticesAlone n) (isBoundary (verticesAlone n) i j) x y) (counted .on-between .at i j (omega arith) (omega arith)) (counted .on-outside .at i j (omega arith) (omega arith))))

@@ -15,7 +15,7 @@ use Rattle.triangulation.proofs.Sums.{Mem, count, sum-ext, sum-same, mem-count,
 use Rattle.triangulation.proofs.SetParts.{and-true, and-left, and-right, eqb-sym}
 use Rattle.triangulation.proofs.PartsToSets.{mem-upFrom, upFrom-mem, upFrom-once, only-le, count-keep}
 use Rattle.triangulation.proofs.Least.{keep-subset}
-use Rattle.validation.specs.Validation.{times, namesOnce, named, isTiling}
+use Rattle.validation.specs.Validation.{times, distinctCandidates, named, isTiling}
 
 -- ---- how often a number stands in a list
 pub times-mem : (k : ℕ) (list : List ℕ) → Mem k list → 1 ≤ times k list
@@ -37,20 +37,12 @@ pub record Names (size : ℕ) (list : List ℕ) : Type 0 where
   pub candidate : (k : ℕ) → Mem k list → k < size
   pub once : (k : ℕ) → times k list ≤ 1
 
-pub names-test : (size : ℕ) (list : List ℕ) → Names size list → namesOnce size list ≡ true
-names-test size [] h = refl
-names-test size (k ∷ list) h =
-    let z : only (eqb k k) 1 ≡ 1 = ap (λ b. only b 1) (eq-eqb k k refl) in
-    and-true _ _ (lt-ltb k size (h .candidate k (List·Memᴰ·head refl)))
-    (and-true _ _ (eq-eqb (times k list) 0 (omega (arith, h .once k)))
-    (names-test size list (record { candidate = λ x m. h .candidate x (List·Memᴰ·tail m); once = λ x. omega (arith, h .once x) })))
-
-pub test-names : (size : ℕ) (list : List ℕ) → namesOnce size list ≡ true → Names size list
+pub test-names : (size : ℕ) (list : List ℕ) → distinctCandidates size list ≡ true → Names size list
 test-names size [] e = record { candidate = λ k m. absurd (List·Memᴰ·not-nil m); once = λ k. omega arith }
 test-names size (k ∷ list) e =
     let r = and-right (ltb k size) _ e in
-    let ih = test-names size list (and-right (eqb (times k list) 0) _ r) in
     let z : times k list ≡ 0 = eqb-true (times k list) 0 (and-left (eqb (times k list) 0) _ r) in
+    let ih = test-names size list (and-right (eqb (times k list) 0) _ r) in
     record {
       candidate = λ x m. ⊎-elim (λ q. rw q (ltb-true k size (and-left (ltb k size) _ e))) (λ n. ih .candidate x n) (List·Memᴰ·cases-cons m);
       once = λ x. go x (truth (eqb k x)) (ih .once x) z;
@@ -59,6 +51,14 @@ test-names size (k ∷ list) e =
     go : (x : ℕ) → Truth (eqb k x) → times x list ≤ 1 → times k list ≡ 0 → only (eqb k x) 1 + times x list ≤ 1
     go x (holds q) h z = omega (arith, ap (λ b. only b 1) q, ap (λ y. times y list) (eqb-true k x q))
     go x (fails q) h z = omega (arith, ap (λ b. only b 1) q)
+
+pub names-test : (size : ℕ) (list : List ℕ) → Names size list → distinctCandidates size list ≡ true
+names-test size [] h = refl
+names-test size (k ∷ list) h =
+    let z : only (eqb k k) 1 ≡ 1 = ap (λ b. only b 1) (eq-eqb k k refl) in
+    and-true _ _ (lt-ltb k size (h .candidate k (List·Memᴰ·head refl)))
+    (and-true _ _ (eq-eqb (times k list) 0 (omega (arith, h .once k)))
+    (names-test size list (record { candidate = λ x m. h .candidate x (List·Memᴰ·tail m); once = λ x. omega (arith, h .once x) })))
 
 -- ---- the set of the candidates that stand there
 module _ (job : Job) (list : List ℕ) where
@@ -89,11 +89,11 @@ module _ (job : Job) (list : List ℕ) where
   -- the definition's test, as facts
   pub tiling-names : isTiling job list ≡ true → Names (job .size) list
   unfolding isTiling
-  tiling-names e = test-names (job .size) list (and-left (namesOnce (job .size) list) _ e)
+  tiling-names e = test-names (job .size) list (and-left (distinctCandidates (job .size) list) _ e)
 
   pub tiling-tiles : isTiling job list ≡ true → Triangulates job (named job list)
   unfolding isTiling
-  tiling-tiles e = (named-subset, and-right (namesOnce (job .size) list) (isTriangulation job (named job list)) e)
+  tiling-tiles e = (named-subset, and-right (distinctCandidates (job .size) list) (isTriangulation job (named job list)) e)
 
   pub names-tiling : Names (job .size) list → isTriangulation job (named job list) ≡ true → isTiling job list ≡ true
   unfolding isTiling

@@ -8,15 +8,18 @@ use lib.ListN.{length}
 use lib.Dec.{eqb}
 use borrow.Author.Tests.{eqb-true}
 use Rattle.lists.proofs.Choice.{Truth, truth, holds, fails, true-not-false, not-true-false}
-use Rattle.triangulation.specs.Triangulations.{Job, Valid, only, longEdge, shortEdge, countBetween, countOutside, isBoundary, edgeOk, isTriangulation, totalWeight}
+use Rattle.triangulation.specs.Triangulations.{Job, Valid, only, sum, longEdge, shortEdge, countBetween, countOutside, isBoundary, edgeOk, isTriangulation, totalWeight}
 use Rattle.triangulation.proofs.Sums.{Mem, sum-ext, count-mono}
 use Rattle.triangulation.proofs.SetParts.{longEdge-is}
 use Rattle.triangulation.proofs.SetsToParts.{triangulation-set}
 use Rattle.triangulation.proofs.Demand3.{sum-ones, triangle-count}
 use Rattle.validation.specs.Validation.{named, isTiling, listTotal}
-use Rattle.validation.specs.Totals.{share}
 use Rattle.validation.proofs.Fronts.{below-same}
 use Rattle.validation.proofs.Naming.{Names, named-sum, tiling-names, tiling-tiles, names-tiling}
+
+-- what triangle o adds to the total of a list
+abbrev pub share : Job → List ℕ → ℕ → ℕ
+share job list o = job .weight o + sum (λ i. only (shortEdge job (job .a i) (job .c i) o) (job .row o i)) list
 
 module _ (job : Job) (list : List ℕ) where
   -- ---- the set and the list have the same counts and the same total

@@ -41,19 +41,20 @@ pub record Triangles (candidates : List (List ℕ)) (list : List ℕ) : Type 0 w
   pub each : (k : ℕ) → List·Memᴰ k list → Triangle candidates k
   pub short-list : length list ≤ maxVertices
 
--- the candidates alone, as a job
-abbrev pub bareJob : List (List ℕ) → Job
-bareJob candidates = jobOf 0 candidates [] []
+-- a job's candidates alone, without its n
+abbrev pub candidatesAlone : List (List ℕ) → Job
+candidatesAlone candidates = jobOf 0 candidates [] []
 
-abbrev pub bare : ℕ → Job
-bare n = jobOf n [] [] []
+-- its n alone
+abbrev pub verticesAlone : ℕ → Job
+verticesAlone n = jobOf n [] [] []
 
 -- 1 where candidate k has the edge (i, j) with its third vertex between, and where it has it with that vertex outside
 abbrev pub between : List (List ℕ) → ℕ → ℕ → ℕ → ℕ
-between candidates i j k = only (longEdge (bareJob candidates) i j k) 1
+between candidates i j k = only (longEdge (candidatesAlone candidates) i j k) 1
 
 abbrev pub outside : List (List ℕ) → ℕ → ℕ → ℕ → ℕ
-outside candidates i j k = only (shortEdge (bareJob candidates) i j k) 1
+outside candidates i j k = only (shortEdge (candidatesAlone candidates) i j k) 1
 
 -- the table has at each edge the sum of g over the list
 pub record Sums (g : ℕ → ℕ → ℕ → ℕ) (list table : List ℕ) : Type 0 where
@@ -67,14 +68,15 @@ pub record Counted (candidates : List (List ℕ)) (list betweens outsides : List
 
 -- the test of the edge (i, j), and of all edges
 abbrev pub edgeFits : ℕ → List ℕ → List ℕ → ℕ → ℕ → Bool
-edgeFits n betweens outsides j i = edgeOk (bare n) (isBoundary (bare n) i j) (countAt betweens i j) (countAt outsides i j)
+edgeFits n betweens outsides j i = edgeOk (verticesAlone n) (isBoundary (verticesAlone n) i j) (countAt betweens i j) (countAt outsides i j)
 
 abbrev pub edgesFit : ℕ → List ℕ → List ℕ → Bool
 edgesFit n betweens outsides = allBelow n (λ j. allBelow j (edgeFits n betweens outsides j))
 
--- the list has n - 2 numbers, each of them a candidate's
+-- each number of the list is below the bound
 abbrev pub allBelowBound : List ℕ → ℕ → Bool
 allBelowBound list bound = every 0 (length list) (λ i. ltb (getD list i 0) bound)
 
+-- the list has n - 2 numbers, each of them a candidate's
 abbrev pub namesTriangles : ℕ → ℕ → List ℕ → Bool
 namesTriangles n count list = both (eqb (length list) (n - 2)) (allBelowBound list count)

@@ -11,9 +11,9 @@ abbrev pub times : ℕ → List ℕ → ℕ
 times k list = sum (λ x. only (eqb x k) 1) list
 
 -- each number of the list is a candidate's, and none stands there twice (rule 3.13)
-abbrev pub namesOnce : ℕ → List ℕ → Bool
-namesOnce size [] = true
-namesOnce size (k ∷ list) = ltb k size && (eqb (times k list) 0 && namesOnce size list)
+abbrev pub distinctCandidates : ℕ → List ℕ → Bool
+distinctCandidates size [] = true
+distinctCandidates size (k ∷ list) = ltb k size && (eqb (times k list) 0 && distinctCandidates size list)
 
 module _ (job : Job) where
   -- the set of the candidates that the list names, in whatever order it does (rule 3.13)
@@ -22,7 +22,7 @@ module _ (job : Job) where
 
   -- the list is a tiling without repeats (rule 3.13)
   unfoldable pub isTiling : List ℕ → Bool
-  isTiling list = namesOnce (job .size) list && isTriangulation job (named list)
+  isTiling list = distinctCandidates (job .size) list && isTriangulation job (named list)
 
   -- the list's total is that of the set (rules 3.4, 3.13)
   unfoldable pub listTotal : List ℕ → ℕ

@@ -7,7 +7,7 @@ ghost use Rattle.terms.specs.Limits.{maxVertices};
 ghost use Rattle.terms.specs.Entries.{vertexA, vertexB, vertexC};
 ghost use Rattle.triangulation.specs.Triangulations.{isBoundary, edgeOk, allBelow, isTriangulation};
 ghost use Rattle.triangulation.specs.Jobs.{jobOf};
-ghost use Rattle.validation.specs.Edges.{edgeAt, edgePlaces, added, Room, Triangles, Counted, bare, edgeFits, edgesFit};
+ghost use Rattle.validation.specs.Edges.{edgeAt, edgePlaces, added, Room, Triangles, Counted, verticesAlone, edgeFits, edgesFit};
 
 const EDGES: usize = terms::MAX_VERTICES * terms::MAX_VERTICES;
 
@@ -65,7 +65,7 @@ fn count_edges(
 // A rim edge: (i, i + 1), or (0, n − 1).
 fn is_boundary(n: usize, i: usize, j: usize) -> bool
     requires { ⌜ (i < j) × (j < n) ⌝ }
-    ensures { λ r. ⌜ r ≡ isBoundary (bare n) i j ⌝ }
+    ensures { λ r. ⌜ r ≡ isBoundary (verticesAlone n) i j ⌝ }
 {
     if j == i + 1 {
         return true;
@@ -79,7 +79,7 @@ fn is_boundary(n: usize, i: usize, j: usize) -> bool
 // A rim edge is in one triangle, any other in none or in one on each side.
 fn edge_fits(n: usize, i: usize, j: usize, between: u8, outside: u8) -> bool
     requires { ⌜ (i < j) × (j < n) ⌝ }
-    ensures { λ r. ⌜ r ≡ edgeOk (bare n) (isBoundary (bare n) i j) between outside ⌝ }
+    ensures { λ r. ⌜ r ≡ edgeOk (verticesAlone n) (isBoundary (verticesAlone n) i j) between outside ⌝ }
 {
     let triangles = between as u32 + outside as u32;
     if is_boundary(n, i, j) {

@@ -1,5 +1,6 @@
 // Whether a list of candidates from elsewhere is a triangulation without repeats, with the total stated for it: 21 and 22.
 mod edges;
+mod names;
 mod order;
 mod totals;
 
@@ -11,23 +12,6 @@ ghost use Rattle.triangulation.specs.Triangulations.{Valid};
 ghost use Rattle.triangulation.specs.Jobs.{jobOf};
 ghost use Rattle.rows.specs.Search.{RowsAscend};
 ghost use Rattle.validation.specs.Validation.{listCode};
-ghost use Rattle.validation.specs.Edges.{namesTriangles};
-
-// As many numbers as a triangulation has triangles, n − 2, each of them a candidate's.
-fn names_triangles(n: usize, count: usize, list: &[u16]) -> bool
-    requires { ⌜ 2 ≤ n ⌝ }
-    ensures { λ r. ⌜ r ≡ namesTriangles n count (now (list .entry)) ⌝ }
-{
-    if list.len() != n - 2 {
-        return false;
-    }
-    for i in 0..list.len() {
-        if count <= list[i] as usize {
-            return false;
-        }
-    }
-    true
-}
 
 // The first of 21 and 22 that is due on a list, or 0. That no candidate stands twice need not be tested: it would have its edges twice.
 pub fn list_code(
@@ -41,7 +25,7 @@ pub fn list_code(
     requires { ⌜ Valid (jobOf n (now candidates) (now weights) (now rows)) × (n ≤ maxVertices) × (length (now candidates) ≤ length (now weights)) × RowsAscend (now rows) ⌝ }
     ensures { λ r. ⌜ r ≡ listCode (jobOf n (now (candidates .entry)) (now (weights .entry)) (now (rows .entry))) (now (list .entry)) stated ⌝ }
 {
-    if !names_triangles(n, candidates.len(), list) {
+    if !names::names_triangles(n, candidates.len(), list) {
         return codes::NOT_A_TRIANGULATION;
     }
     let is_tiling = edges::is_triangulation(n, candidates, list);

@@ -14,7 +14,7 @@ fn hanging_row(candidates: &[[u8; 3]], rows: &[[u32; 3]], list: &[u16], o: usize
     ensures { λ r. ⌜ r ≡ hangingRow (now (candidates .entry)) (now (rows .entry)) o (getD (now (list .entry)) k 0) ⌝ }
 {
     let i = list[k] as usize;
-    if !jobs::rows::hangs_on(candidates[i], candidates[o]) {
+    if !jobs::pairs::hangs_on(candidates[i], candidates[o]) {
         return 0;
     }
     rows::row_weight(rows, o, i)

@@ -232,58 +232,72 @@ fn patches_of_rims(shape: Shape, n: usize, random: &mut Random) {
     }
 }
 
+/// The heads of a table: its title, its first columns, and one for each time with its ratio.
+fn heads(title: &str, first: &str, times: &[&str]) {
+    let times: Vec<String> = times.iter().map(|time| format!("{time:>30}")).collect();
+    println!("\n{title}\n{first} {}", times.join(" "));
+}
+
+/// A part of the table for each shape of rims and each size.
+fn each_rim(mut part: impl FnMut(Shape, usize)) {
+    for shape in Shape::GENERAL {
+        SIZES.iter().for_each(|&n| part(shape, n));
+    }
+}
+
+fn all_rims(random: &mut Random) {
+    let stages = ["reader", "reader and finder", "tiler", "whole call"];
+    heads("rims", &format!("{:<12} {:>2} {:>5} {:>5}", "shape", "n", "cand", "rows"), &stages);
+    each_rim(|shape, n| {
+        rims(&format!("{shape:?}"), n, rim_files(n, || shape.points(n, 1000, random)));
+    });
+    let mut of_planes = Random::new(3);
+    for n in SIZES {
+        rims("Flat", n, rim_files(n, || flat_rim(n, &mut of_planes)));
+    }
+}
+
+fn all_jobs(random: &mut Random) {
+    let first = format!("{:>2} {:>6} {:>8}", "n", "cand", "rows");
+    heads("direct jobs over all triples", &first, &["tiler", "judge"]);
+    for n in SIZES {
+        for rows in [0, 10, 100] {
+            jobs(n, rows, random);
+        }
+    }
+}
+
+fn all_patches() {
+    let first = format!("{:<12} {:>2} {:>8}", "shape", "n", "patches");
+    heads("patches of rims judged", &first, &["tiler", "judge"]);
+    let mut random = Random::new(1);
+    each_rim(|shape, n| patches_of_rims(shape, n, &mut random));
+}
+
+fn all_editions(random: &mut Random) {
+    let title = "whole call by edition, with normals on all edges in edition 2";
+    heads(title, &format!("{:<12} {:>2}", "shape", "n"), &["edition 1", "edition 2"]);
+    let mut of_normals = Random::new(2);
+    each_rim(|shape, n| editions(shape, n, random, &mut of_normals));
+}
+
+fn all_conversions(random: &mut Random) {
+    let first = format!("{:>2} {:>7}", "n", "records");
+    heads("conversion, with spare records", &first, &["to edition 2", "to edition 1"]);
+    for (n, spare) in [(8, 0), (8, 56), (8, 248), (64, 0), (64, 192)] {
+        conversions(n, spare, random);
+    }
+}
+
 fn main() {
     let not_linked = "not linked (build with --features library)";
     let under = library().map_or(not_linked.into(), |own| own.name());
     println!("library: {under}; microseconds per call: library, {}, ratio", FAST.name());
     let mut random = Random::new(1);
-    let stages = ["reader", "reader and finder", "tiler", "whole call"];
-    let heads: Vec<String> = stages.iter().map(|stage| format!("{stage:>30}")).collect();
-    println!("\nrims\n{:<12} {:>2} {:>5} {:>5} {}", "shape", "n", "cand", "rows", heads.join(" "));
-    for shape in Shape::GENERAL {
-        for n in SIZES {
-            let files = rim_files(n, || shape.points(n, 1000, &mut random));
-            rims(&format!("{shape:?}"), n, files);
-        }
-    }
-    let mut of_planes = Random::new(3);
-    for n in SIZES {
-        rims("Flat", n, rim_files(n, || flat_rim(n, &mut of_planes)));
-    }
-    println!(
-        "\ndirect jobs over all triples\n{:>2} {:>6} {:>8} {:>30} {:>30}",
-        "n", "cand", "rows", "tiler", "judge"
-    );
-    for n in SIZES {
-        for rows in [0, 10, 100] {
-            jobs(n, rows, &mut random);
-        }
-    }
-    println!(
-        "\npatches of rims judged\n{:<12} {:>2} {:>8} {:>30} {:>30}",
-        "shape", "n", "patches", "tiler", "judge"
-    );
+    all_rims(&mut random);
+    all_jobs(&mut random);
+    all_patches();
     let mut random = Random::new(1);
-    for shape in Shape::GENERAL {
-        for n in SIZES {
-            patches_of_rims(shape, n, &mut random);
-        }
-    }
-    println!(
-        "\nwhole call by edition, with normals on all edges in edition 2\n{:<12} {:>2} {:>30} {:>30}",
-        "shape", "n", "edition 1", "edition 2"
-    );
-    let [mut random, mut of_normals] = [Random::new(1), Random::new(2)];
-    for shape in Shape::GENERAL {
-        for n in SIZES {
-            editions(shape, n, &mut random, &mut of_normals);
-        }
-    }
-    println!(
-        "\nconversion, with spare records\n{:>2} {:>7} {:>30} {:>30}",
-        "n", "records", "to edition 2", "to edition 1"
-    );
-    for (n, spare) in [(8, 0), (8, 56), (8, 248), (64, 0), (64, 192)] {
-        conversions(n, spare, &mut random);
-    }
+    all_editions(&mut random);
+    all_conversions(&mut random);
 }

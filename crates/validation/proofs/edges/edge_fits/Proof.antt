@@ -3,16 +3,16 @@ use mathlib.Core.Path.{_≡_, sym, ap, _∙_}
 use mathlib.Core.Bool.{Bool, false}
 use native.Mathlib.Omega.{arith}
 use Rattle.triangulation.specs.Triangulations.{isBoundary, edgeOk}
-use Rattle.validation.specs.Edges.{bare}
+use Rattle.validation.specs.Edges.{verticesAlone}
 use Rattle.validation.proofs.EdgeCounts.{inner-unused, inner-one-sided, inner-both}
 use borrow.Author.Needs.{needs}
 use Rattle.validation.proofs.edges.edge_fits.Statement.{statement}
 use Rattle.validation.proofs.edges.edge_fits.Tie as tie
 
 -- by whether the edge is on the rim
-by-rim : (s : tie.Start) {b : Bool} → isBoundary (bare (s .args .n)) (s .args .i) (s .args .j) ≡ b
-    → edgeOk (bare (s .args .n)) (isBoundary (bare (s .args .n)) (s .args .i) (s .args .j)) (s .args .between) (s .args .outside) ≡ edgeOk (bare (s .args .n)) b (s .args .between) (s .args .outside)
-by-rim s e = ap (λ (b : Bool). edgeOk (bare (s .args .n)) b (s .args .between) (s .args .outside)) e
+by-rim : (s : tie.Start) {b : Bool} → isBoundary (verticesAlone (s .args .n)) (s .args .i) (s .args .j) ≡ b
+    → edgeOk (verticesAlone (s .args .n)) (isBoundary (verticesAlone (s .args .n)) (s .args .i) (s .args .j)) (s .args .between) (s .args .outside) ≡ edgeOk (verticesAlone (s .args .n)) b (s .args .between) (s .args .outside)
+by-rim s e = ap (λ (b : Bool). edgeOk (verticesAlone (s .args .n)) b (s .args .between) (s .args .outside)) e
 
 add-triangles : tie.Need-add-triangles
 add-triangles c = search needs
@@ -25,7 +25,7 @@ returns c = sym (by-rim (c .before .before) (sym (c .before .is-boundary .ensure
 
 -- an edge inside
 module _ (g : tie.Else1) where
-  inside : isBoundary (bare (g .before .before .args .n)) (g .before .before .args .i) (g .before .before .args .j) ≡ false
+  inside : isBoundary (verticesAlone (g .before .before .args .n)) (g .before .before .args .i) (g .before .before .args .j) ≡ false
   inside = sym (g .before .is-boundary .ensures) ∙ g .if1 .left
 
 returns-2 : tie.Need-returns-2

@@ -6,7 +6,7 @@ use native.Mathlib.Omega.{arith}
 use lib.ListN.{getD}
 use borrow.Author.Tests.{not-true, not-false}
 use Rattle.triangulation.specs.Triangulations.{allBelow, isBoundary, edgeOk}
-use Rattle.validation.specs.Edges.{bare, edgeFits}
+use Rattle.validation.specs.Edges.{verticesAlone, edgeFits}
 use Rattle.validation.proofs.Fronts.{below-next, below-stop}
 use Rattle.validation.proofs.edges.edges_to_fit.Statement.{statement}
 use Rattle.validation.proofs.edges.edges_to_fit.Tie as tie
@@ -44,7 +44,7 @@ module _ (g : tie.After-edge-fits Inv-loop μ-loop) where
   fits =
       let a = call .args in
       g .edge-fits .ensures
-      ∙ ap (λ (p : ℕ). edgeOk (bare (a .n)) (isBoundary (bare (a .n)) vertex (a .j)) (getD (a .between .now) p 0) (getD (a .outside .now) p 0)) (g .before .before .before .edge-index .ensures .0)
+      ∙ ap (λ (p : ℕ). edgeOk (verticesAlone (a .n)) (isBoundary (verticesAlone (a .n)) vertex (a .j)) (getD (a .between .now) p 0) (getD (a .outside .now) p 0)) (g .before .before .before .edge-index .ensures .0)
 
 returns : tie.Need-returns Inv-loop μ-loop
 returns c =

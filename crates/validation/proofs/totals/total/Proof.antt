@@ -6,7 +6,7 @@ use lib.ListN.{length, getD, take}
 use lib.Seq.{take-length}
 use Rattle.triangulation.specs.Triangulations.{sum, totalWeight}
 use Rattle.triangulation.specs.Jobs.{jobOf}
-use Rattle.validation.specs.Totals.{share}
+use Rattle.validation.proofs.Tilings.{share}
 use Rattle.validation.proofs.Fronts.{sum-next}
 use Rattle.validation.proofs.EdgeCounts.{triangle-at}
 use Rattle.validation.proofs.totals.total.Statement.{statement}

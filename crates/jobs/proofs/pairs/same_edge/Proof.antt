@@ -1,9 +1,9 @@
--- `jobs::rows::same_edge` meets its contract. Assumes nothing.
+-- `jobs::pairs::same_edge` meets its contract. Assumes nothing.
 use mathlib.Core.Path.{sym}
 use borrow.Author.Tests.{eq-eqb, ne-eqb}
 use Rattle.lists.proofs.Choice.{yes, no}
-use Rattle.jobs.proofs.rows.same_edge.Statement.{statement}
-use Rattle.jobs.proofs.rows.same_edge.Tie as tie
+use Rattle.jobs.proofs.pairs.same_edge.Statement.{statement}
+use Rattle.jobs.proofs.pairs.same_edge.Tie as tie
 
 returns : tie.Need-returns
 returns c = sym (no _ _ (ne-eqb _ _ (c .if1 .taken)))

@@ -1,4 +1,4 @@
--- `validation::names_triangles` meets its contract. Assumes nothing.
+-- `validation::names::names_triangles` meets its contract. Assumes nothing.
 use Prim.Native.Nat.{_-_, _≤_, _<_}
 use mathlib.Core.Path.{_≡_, refl, sym, _∙_}
 use mathlib.Core.Bool.{Bool}
@@ -10,8 +10,8 @@ use Rattle.lists.specs.Lists.{every, both}
 use Rattle.lists.proofs.Choice.{yes, no}
 use Rattle.lists.proofs.Ranges.{every-on, every-stop, every-end}
 use Rattle.validation.specs.Edges.{allBelowBound}
-use Rattle.validation.proofs.names_triangles.Statement.{statement}
-use Rattle.validation.proofs.names_triangles.Tie as tie
+use Rattle.validation.proofs.names.names_triangles.Statement.{statement}
+use Rattle.validation.proofs.names.names_triangles.Tie as tie
 
 -- the list has n − 2 numbers, and what is left to test gives what the whole does
 abbrev Inv-loop : tie.InvT-loop

@@ -1,10 +1,10 @@
--- `jobs::rows::hangs_on` meets its contract. Assumes nothing.
+-- `jobs::pairs::hangs_on` meets its contract. Assumes nothing.
 use mathlib.Core.Path.{sym, _∙_}
 use Rattle.lists.proofs.Choice.{yes, no}
 use Rattle.jobs.specs.Job.{hangs}
 use borrow.Author.Needs.{needs}
-use Rattle.jobs.proofs.rows.hangs_on.Statement.{statement}
-use Rattle.jobs.proofs.rows.hangs_on.Tie as tie
+use Rattle.jobs.proofs.pairs.hangs_on.Statement.{statement}
+use Rattle.jobs.proofs.pairs.hangs_on.Tie as tie
 
 array-read-same-edge : tie.Need-array-read-same-edge
 array-read-same-edge c = search needs
