@@ -33,7 +33,7 @@ module _ (n : ℕ) (candidates : List (List ℕ)) (weights : List ℕ) (rows : L
   abbrev job : Job
   job = jobOf n candidates weights rows
 
-  pub valid : {workPlaces : ℕ} → JobAccepted n candidates weights rows workPlaces → Valid (jobOf n candidates weights rows)
+  pub valid : {workPlaces : ℕ} → JobAccepted n candidates weights rows workPlaces → Valid job
   valid {workPlaces} a = accepted-well-formed n candidates weights rows (n - 2) workPlaces (accepted-zero n candidates weights rows (n - 2) workPlaces a) .0 .valid
 
   module _ (list : List ℕ) (stated : ℕ) (work : List ℕ) where
@@ -44,7 +44,7 @@ module _ (n : ℕ) (candidates : List (List ℕ)) (weights : List ℕ) (rows : L
     call = judged n candidates weights rows list stated work
 
     -- the call, by its number
-    pub by-code : {k : ℕ} → judgeCode n candidates weights rows list stated (length work) ≡ k → judged n candidates weights rows list stated work ≡ settled k (excessOver (best (jobOf n candidates weights rows)) stated) (length candidates) work
+    pub by-code : {k : ℕ} → judgeCode n candidates weights rows list stated (length work) ≡ k → judged n candidates weights rows list stated work ≡ settled k (excessOver (best job) stated) (length candidates) work
     unfolding judged
     by-code e = ap (λ (k : ℕ). settled k (excessOver (best job) stated) (length candidates) work) e
 
