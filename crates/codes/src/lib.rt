@@ -1,4 +1,20 @@
-// The numbers of rules 4.1 to 4.22, by who causes them.
+// Refusals: what a call answers where a number is due, and the numbers of rules 4.1 to 4.22, by who causes them.
+ghost use mathlib.Core.Path.{_≡_};
+ghost use Rattle.codes.specs.Refusals.{refusal};
+
+// What a refusing call tells its caller (rule 4.30).
+pub struct Refusal {
+    pub number: u32,
+}
+
+impl Refusal {
+    // The one place where a refusal is made.
+    pub fn new(number: u32) -> Refusal
+        ensures { λ r. ⌜ r ≡ refusal number ⌝ }
+    {
+        Refusal { number }
+    }
+}
 
 // The writer of the file.
 pub const LENGTH: u32 = 1;

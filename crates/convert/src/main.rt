@@ -20,6 +20,6 @@ fn main() {
         } => {
             io::write_all(1, converter::part(&out, conversion));
         }
-        Conversion::Refused(number) => print_refusal(number),
+        Conversion::Refused(refusal) => print_refusal(refusal.number),
     }
 }

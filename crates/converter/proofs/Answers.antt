@@ -5,6 +5,8 @@ use mathlib.Core.List.{List}
 use Prim.Native.Nat.{ℕ, zero, suc}
 use native.Mathlib.Omega.{arith}
 use lib.ListN.{length}
+use Rattle.codes.specs.declared.Refusal.{Refusal}
+use Rattle.codes.specs.Refusals.{refusal}
 use Rattle.lists.specs.Lists.{filled}
 use Rattle.terms.specs.Numbers.{firstDue}
 use Rattle.terms.specs.Limits.{maxVertices}
@@ -31,9 +33,9 @@ not-lost false false e = refl
 
 module _ (file out : List ℕ) where
   -- a number that is due, and none
-  pub refused-by : (k : ℕ) {n : ℕ} → (k ≡ 0 → ⊥) → k ≡ n → converting (Refused k) out ≡ convertBy n file out
-  refused-by zero h e = absurd (h refl)
-  refused-by (suc k) h e = ap (λ (i : ℕ). convertBy i file out) e
+  pub refused-by : {r : Refusal} (k : ℕ) {n : ℕ} → r ≡ refusal k → (k ≡ 0 → ⊥) → k ≡ n → converting (Refused r) out ≡ convertBy n file out
+  refused-by zero m h e = absurd (h refl)
+  refused-by (suc k) m h e = ap (λ (r : Refusal). converting (Refused r) out) m ∙ ap (λ (i : ℕ). convertBy i file out) e
 
   pub taken-by : {edition size n : ℕ} {left : List ℕ} → 0 ≡ n → edition ≡ otherEdition file → size ≡ length (converted file) → left ≡ filled (converted file) out →
       converting (Converted edition size) left ≡ convertBy n file out
@@ -49,15 +51,15 @@ module _ (file out : List ℕ) where
   call-values e = ap (λ (x : Converting). valuesOf (x .answer)) e ∙ by-values (numberDue file out)
 
   -- the call, by the reader's answer
-  pub call-refused : {k : ℕ} → readingOf maxVertices file .status ≡ status.Refused k → converting (Refused k) out ≡ convertCall file out
+  pub call-refused : {k : Refusal} → readingOf maxVertices file .status ≡ status.Refused k → converting (Refused k) out ≡ convertCall file out
   unfolding convertCall
   call-refused {k} e = by (reader.numberDue maxVertices file) refl e
     where
       by : (n : ℕ) → reader.numberDue maxVertices file ≡ n → answer n (polygonOf file) .status ≡ status.Refused k → converting (Refused k) out ≡ convertCall file out
       by zero d f = absurd (let z : _≡_ {A = ℕ} 0 1 = cc in omega arith)
       by (suc j) d f =
-          let g : k ≡ suc j = cc in
-          ap (λ (i : ℕ). converting (Refused i) out) g
+          let g : k ≡ refusal (suc j) = cc in
+          ap (λ (r : Refusal). converting (Refused r) out) g
           ∙ sym (ap (λ (i : ℕ). convertBy (firstDue i (conversionNumber file out)) file out) d)
 
   pub call-read : reader.numberDue maxVertices file ≡ 0 → convertBy (conversionNumber file out) file out ≡ convertCall file out

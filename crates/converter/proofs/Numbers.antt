@@ -9,6 +9,7 @@ use native.Mathlib.Omega.{arith}
 use borrow.Author.Tests.{ltb-true, ltb-false}
 use lib.Dec.{ltb}
 use lib.ListN.{length}
+use Rattle.codes.specs.Refusals.{refusal}
 use Rattle.lists.specs.Lists.{filled}
 use Rattle.lists.proofs.Choice.{Truth, holds, fails, truth, yes, no, true-not-false, not-true-false, not-false-true}
 use Rattle.lists.proofs.Ranges.{some-here, Found, some-found}
@@ -142,7 +143,7 @@ module _ (file out : List ℕ) where
   first-or-none = verdict-either verdict
 
   -- the first number due is given, and the output table holds what it held
-  pub refused-first : (k : ℕ) → First (ConvertDue file out) k → convertCall file out ≡ converting (Refused k) out
+  pub refused-first : (k : ℕ) → First (ConvertDue file out) k → convertCall file out ≡ converting (Refused (refusal k)) out
   refused-first zero f = absurd (none-first (verdict-none verdict (verdict-first verdict f)) f)
   refused-first (suc k) f = call-by (suc k) (verdict-first verdict f)
 

@@ -7,6 +7,7 @@ use borrow.Author.Tests.{eq-eqb}
 use lib.Dec.{eqb}
 use lib.Ieee.{ofBits}
 use lib.ListN.{replicate}
+use Rattle.codes.specs.Refusals.{refusal}
 use Rattle.lists.specs.Lists.{upFrom, someFrom}
 use Rattle.lists.proofs.Comparing.{sameList, same-list, anyOf, any-of}
 use Rattle.grid.specs.Number.{finite, numerator, denominator, negative, inRange, roundEighths}
@@ -66,9 +67,9 @@ tries =
     -- a NaN of a spare record made quiet
     ∷ try (second 2 no-surface) (places 72) (converting (Converted 1 72) (first 128)) (converting (Converted 1 72) (first 192))
     -- 19 for the normals of the chain only
-    ∷ try (second 2 up) (places 73) (converting (Refused 19) (places 73)) (converting (Converted 1 72) (first 128 ++ places 1))
+    ∷ try (second 2 up) (places 73) (converting (Refused (refusal 19)) (places 73)) (converting (Converted 1 72) (first 128 ++ places 1))
     -- 19 before 13
-    ∷ try (second 2 up) (places 71) (converting (Refused 13) (places 71)) (converting (Refused 19) (places 71))
+    ∷ try (second 2 up) (places 71) (converting (Refused (refusal 13)) (places 71)) (converting (Refused (refusal 19)) (places 71))
     -- the marker left out
     ∷ try (first 128) (places 99) (converting (Converted 2 98) (second 2 no-surface ++ places 1)) (converting (Converted 2 96) (second 0 no-surface ++ places 3))
     ∷ []

@@ -4,6 +4,7 @@ use mathlib.Core.List.{List}
 use Prim.Native.Nat.{ℕ, zero, suc}
 use lib.Dec.{ltb}
 use lib.ListN.{length}
+use Rattle.codes.specs.Refusals.{refusal}
 use Rattle.lists.specs.Lists.{filled, firstPlaces}
 use Rattle.terms.specs.Limits.{maxVertices}
 use Rattle.terms.specs.Numbers.{firstDue}
@@ -15,15 +16,15 @@ use Rattle.converter.specs.declared.Conversion.the-variants.{Converted, 
 -- the number, the edition of the converted file and its length, in each case of an answer (rule 5.2)
 abbrev pub numberOf : Conversion → ℕ
 numberOf (Converted edition size) = 0
-numberOf (Refused number) = number
+numberOf (Refused r) = r .number
 
 abbrev pub editionOf : Conversion → ℕ
 editionOf (Converted edition size) = edition
-editionOf (Refused number) = 0
+editionOf (Refused r) = 0
 
 abbrev pub lengthOf : Conversion → ℕ
 lengthOf (Converted edition size) = size
-lengthOf (Refused number) = 0
+lengthOf (Refused r) = 0
 
 -- the three together (rule 5.2)
 pub record Values : Type 0 where
@@ -64,7 +65,7 @@ converting r left = record { answer = r; left = left }
 -- the converted file in the first places, every further place as it was (rule 3.9); a number changes no place (rule 4.30)
 abbrev pub convertBy : ℕ → List ℕ → List ℕ → Converting
 convertBy zero file out = converting (Converted (otherEdition file) (length (converted file))) (filled (converted file) out)
-convertBy (suc k) file out = converting (Refused (suc k)) out
+convertBy (suc k) file out = converting (Refused (refusal (suc k))) out
 
 -- the call, by the first number due (rule 5.7)
 unfoldable pub convertCall : List ℕ → List ℕ → Converting

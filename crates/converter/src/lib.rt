@@ -7,14 +7,15 @@ ghost use mathlib.Core.Bool.{false};
 ghost use Rattle.reader.specs.File.{lengthWrong};
 ghost use Rattle.converter.specs.Call.{numberOf, editionOf, lengthOf, valuesOf, conversionCode, conversionNumber, numberDue, dueValues, converting, convertBy, convertCall, partOf};
 ghost use Rattle.converter.specs.Steps.{targetOf};
+use codes::Refusal;
 use reader::Layout;
 use reader::Status;
 use reader::edition;
 
-// The converted file's edition and length, or the number of a refusal.
+// The converted file's edition and length, or a refusal.
 pub enum Conversion {
     Converted { edition: u32, length: usize },
-    Refused(u32),
+    Refused(Refusal),
 }
 
 impl Conversion {
@@ -27,7 +28,7 @@ impl Conversion {
                 edition: _,
                 length: _,
             } => 0,
-            Conversion::Refused(number) => number,
+            Conversion::Refused(refusal) => refusal.number,
         }
     }
 
@@ -95,7 +96,7 @@ fn carry(file: &[u8], out: &mut [u8]) -> Conversion
     let lost = normals::has_normal(file, source, count);
     let code = conversion_code(out.len() < length, lost);
     if code != 0 {
-        return Conversion::Refused(code);
+        return Conversion::Refused(Refusal::new(code));
     }
     writing::write_file(file, source, layout, count, out);
     Conversion::Converted {
@@ -112,7 +113,7 @@ pub fn convert(file: &[u8], out: &mut [u8]) -> Conversion
     let reading = reader::read_polygon(terms::MAX_VERTICES, file);
     let status = reading.status;
     match status {
-        Status::Refused(number) => Conversion::Refused(number),
+        Status::Refused(refusal) => Conversion::Refused(refusal),
         Status::Complete => carry(file, out),
     }
 }

@@ -63,9 +63,9 @@ fn print_answer(answer: Found) {
             print_number(candidates as u64);
             print_number(rows as u64);
         }
-        Found::Refused(number) => {
+        Found::Refused(refusal) => {
             io::write_all(STANDARD_OUTPUT, b"refused");
-            print_number(number as u64);
+            print_number(refusal.number as u64);
         }
     }
 }

@@ -5,6 +5,7 @@ use Prim.Native.Nat.{ℕ}
 use native.Mathlib.Omega.{arith}
 use lib.IntN.{pos}
 use lib.ListN.{getD, replicate}
+use Rattle.codes.specs.Refusals.{refusal}
 use Rattle.grid.specs.Point.{point}
 use Rattle.polygon.specs.declared.Polygon.{Polygon}
 use Rattle.polygon.specs.Polygon.{codeOf, repeatedVertex, verticesCodeFrom}
@@ -52,7 +53,7 @@ unfolding numberDue codeOf repeatedVertex verticesCodeFrom upFrom everyFrom some
 rows-of-weight-0 = refl
 
 -- a row table one place short: 13, and nothing is changed
-pub short-rows : findCall (rim 1) (nines 5) (replicate 5 9) (nines 1) ≡ finding (Refused 13) (nines 5) (replicate 5 9) (nines 1)
+pub short-rows : findCall (rim 1) (nines 5) (replicate 5 9) (nines 1) ≡ finding (Refused (refusal 13)) (nines 5) (replicate 5 9) (nines 1)
 unfolding numberDue codeOf repeatedVertex verticesCodeFrom upFrom everyFrom someFrom isFace counts isFaceOfFour isFlat isCandidate cospherical degenerate orientOf centreOf distanceOf hangs
 short-rows = refl
 
@@ -66,7 +67,7 @@ cubeCorners = record {
   normals = [];
 }
 
-pub twelve-cube : findCall cubeCorners [] [] [] ≡ finding (Refused 12) [] [] []
+pub twelve-cube : findCall cubeCorners [] [] [] ≡ finding (Refused (refusal 12)) [] [] []
 unfolding numberDue codeOf repeatedVertex verticesCodeFrom upFrom everyFrom someFrom isFace counts isFaceOfFour isFlat isCandidate cospherical degenerate orientOf centreOf distanceOf hangs
 twelve-cube = refl
 

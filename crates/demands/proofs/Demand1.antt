@@ -9,6 +9,7 @@ use native.Mathlib.Omega.{arith}
 use borrow.Author.Tests.{ltb-true, lt-ltb, eq-eqb}
 use lib.Dec.{ltb}
 use lib.ListN.{length}
+use Rattle.codes.specs.Refusals.{refusal}
 use Rattle.lists.specs.Lists.{upFrom}
 use Rattle.lists.proofs.Choice.{Truth, holds, fails, truth, yes, no, true-not-false, either-left, either-right}
 use Rattle.polygon.specs.declared.Polygon.{Polygon}
@@ -154,7 +155,7 @@ module _ (limit : ℕ) (file : List ℕ) (bytes : Bytes file) (t : Tables) where
   unfolding patchFile
   accepted-by e = ap (λ (n : ℕ). patchBy n (polygonOf file) t) e
 
-  never-refused : {o : Outcome} {k : ℕ} → o ≡ Refused k → Taken o → ⊥
+  never-refused : {o : Outcome} {k : ℕ} → o ≡ Refused (refusal k) → Taken o → ⊥
   never-refused e a-patch = let z : _≡_ {A = ℕ} 0 1 = cc in omega arith
   never-refused e a-none = let z : _≡_ {A = ℕ} 0 1 = cc in omega arith
 

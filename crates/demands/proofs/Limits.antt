@@ -6,6 +6,7 @@ use mathlib.Core.Bool.{false}
 use mathlib.Core.List.{List}
 use Prim.Native.Nat.{ℕ, suc, _≤_, _<_}
 use native.Mathlib.Omega.{arith}
+use Rattle.codes.specs.Refusals.{refusal}
 use Rattle.terms.specs.Limits.{minVertices, maxVertices, trimVertices, countFits}
 use Rattle.terms.specs.Numbers.{firstDue}
 use Rattle.reader.specs.File.{Bytes}
@@ -54,7 +55,7 @@ module _ {small large : ℕ} (least : minVertices ≤ small) (below : small ≤ 
           let n = number-over least below most file complete more in
           ap (λ (k : ℕ). patchBy (firstDue k (polygonNumber (polygonOf file) lent)) (polygonOf file) lent) n
 
-      pub no-sizes : sizesFile small file ≡ Refused 20
+      pub no-sizes : sizesFile small file ≡ Refused (refusal 20)
       unfolding sizesFile
       no-sizes =
           let n = number-over least below most file complete more in

@@ -5,6 +5,7 @@ use mathlib.Core.List.{List, [], List·Memᴰ, List·Memᴰ·not-nil}
 use mathlib.Core.Logic.{_⊎_, inl, inr}
 use Prim.Native.Nat.{ℕ, _<_}
 use lib.ListN.{length, getD, length-map}
+use Rattle.codes.specs.Refusals.{refusal}
 use Rattle.lists.specs.Lists.{filled}
 use Rattle.lists.proofs.Writing.{filled-at}
 use Rattle.polygon.specs.declared.Polygon.{Polygon}
@@ -91,7 +92,7 @@ module _ (limit : ℕ) (file : List ℕ) where
   file-fixes-patch bytes s t h g = by (first-or-none limit file bytes s)
     where
       by : ((k : ℕ) × First (CallDue limit file s) k) ⊎ NoneDue (CallDue limit file s) → SamePatch (patchFile limit file s) (patchFile limit file t)
-      by (inl (k, f)) = rw (refused-first limit file bytes s k f, refused-first limit file bytes t k (first-again h g f)) (same-empty (Refused k) refl s t)
+      by (inl (k, f)) = rw (refused-first limit file bytes s k f, refused-first limit file bytes t k (first-again h g f)) (same-empty (Refused (refusal k)) refl s t)
       by (inr n) =
           let a = accepted limit file bytes s n in
           let b = accepted limit file bytes t (none-again g n) in

@@ -5,6 +5,7 @@ use mathlib.Core.List.{List}
 use Prim.Native.Nat.{ℕ, zero, suc}
 use native.Mathlib.Omega.{arith}
 use lib.ListN.{length}
+use Rattle.codes.specs.Refusals.{refusal}
 use Rattle.lists.proofs.Choice.{Truth, holds, fails, truth, true-not-false}
 use Rattle.terms.specs.Numbers.{firstDue}
 use Rattle.reader.specs.Reading.{polygonOf}
@@ -14,6 +15,7 @@ use Rattle.finder.specs.declared.Places.{Places}
 use Rattle.finder.specs.declared.Sizes.the-variants.{Known, Refused}
 use Rattle.finder.specs.Finding.{numberDue}
 use Rattle.finder.specs.Sizes.{placesOf, sizesBy}
+use Rattle.finder.specs.Sizes as sizes
 use Rattle.finder.proofs.Answers.{due-13, due-first}
 use Rattle.triangulation.specs.Triangulations.{best}
 use Rattle.triangulator.specs.Call.{numberOf}
@@ -50,13 +52,13 @@ module _ (limit : ℕ) (file : List ℕ) (t : Tables) where
   call-is e = ap (λ (n : ℕ). patchBy n (polygonOf file) t) e
 
   -- a number from the sizing call is that of the one call, whatever the tables
-  pub sizes-refused : (k : ℕ) → sizesFile limit file ≡ Refused k → patchFile limit file t ≡ refused k t
+  pub sizes-refused : (k : ℕ) → sizesFile limit file ≡ Refused (refusal k) → patchFile limit file t ≡ refused k t
   unfolding sizesFile
   sizes-refused k e = by own refl e
     where
-      by : (n : ℕ) → own ≡ n → sizesBy n (polygonOf file) ≡ Refused k → patchFile limit file t ≡ refused k t
+      by : (n : ℕ) → own ≡ n → sizesBy n (polygonOf file) ≡ Refused (refusal k) → patchFile limit file t ≡ refused k t
       by zero m d = absurd (let z : _≡_ {A = ℕ} 0 1 = cc in omega arith)
-      by (suc n) m d = let q : suc n ≡ k = cc in call-is (own-first n m) ∙ ap (λ (j : ℕ). refused j t) q
+      by (suc n) m d = let q : suc n ≡ k = ap sizes.numberOf d in call-is (own-first n m) ∙ ap (λ (j : ℕ). refused j t) q
 
   module _ {needed : Places} (e : sizesFile limit file ≡ Known needed) where
     record Sized : Type 0 where

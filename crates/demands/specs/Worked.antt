@@ -4,6 +4,7 @@ use Prim.Native.Nat.{ℕ}
 use lib.IntN.{ℤ, pos, negsuc}
 use lib.Ieee.{binary32, ofBits}
 use lib.ListN.{length, replicate}
+use Rattle.codes.specs.Refusals.{refusal}
 use Rattle.terms.specs.Limits.{maxVertices}
 use Rattle.terms.specs.Entries.{triple}
 use Rattle.grid.specs.declared.GridPoint.{GridPoint}
@@ -146,7 +147,7 @@ worked =
     (24941 ∷ 8978 ∷ 24941 ∷ 8978 ∷ 8978 ∷ 24941 ∷ 8978 ∷ [])
     (triple 1 4 0 ∷ triple 4 3 0 ∷ triple 4 6 0 ∷ [])
     (replicate 7 0))))
-    ∷ case (of-rim (patchPolygon (rimOf square []) (lent 2 4 2))) (of-rim (patching (Refused 12) (lent 2 4 2)))
+    ∷ case (of-rim (patchPolygon (rimOf square []) (lent 2 4 2))) (of-rim (patching (Refused (refusal 12)) (lent 2 4 2)))
     ∷ case (of-rim (patchPolygon (rimOf line []) (lent 2 0 0))) (of-rim (patching None (lent 2 0 0)))
     -- rule 6.2: a candidate of weight 5; no candidate
     ∷ case (of-job (answered single)) (of-job (result (Patch 1 5) (0 ∷ 9 ∷ []) (0 ∷ 9 ∷ [])))
@@ -154,7 +155,7 @@ worked =
     -- rule 6.3: four candidates of weight 1 without rows, with a row, with the row of a pair that does not hang
     ∷ case (of-job (answered (ties []))) (of-job (result (Patch 2 2) (1 ∷ 3 ∷ 9 ∷ []) (0 ∷ 0 ∷ 0 ∷ 0 ∷ 9 ∷ [])))
     ∷ case (of-job (answered (ties (triple 1 3 1 ∷ [])))) (of-job (result (Patch 2 2) (2 ∷ 0 ∷ 9 ∷ []) (0 ∷ 0 ∷ 0 ∷ 0 ∷ 9 ∷ [])))
-    ∷ case (of-job (answered (ties (triple 1 0 1 ∷ [])))) (of-job (result (Refused 16) (9 ∷ 9 ∷ 9 ∷ []) (9 ∷ 9 ∷ 9 ∷ 9 ∷ 9 ∷ [])))
+    ∷ case (of-job (answered (ties (triple 1 0 1 ∷ [])))) (of-job (result (Refused (refusal 16)) (9 ∷ 9 ∷ 9 ∷ []) (9 ∷ 9 ∷ 9 ∷ 9 ∷ 9 ∷ [])))
     -- rule 6.4: two candidates that leave a hole
     ∷ case (of-job (answered (lists 5 (triple 0 1 2 ∷ triple 0 2 4 ∷ []) (1 ∷ 1 ∷ []) []))) (of-job (result None (9 ∷ 9 ∷ 9 ∷ 9 ∷ []) (0 ∷ 0 ∷ 9 ∷ [])))
     -- rule 6.9: the lists of P judged, both tilings in any order, with another total, and what is no tiling; other jobs
@@ -168,7 +169,7 @@ worked =
     ∷ judges listsP (1 ∷ 4 ∷ []) 469 (refused 21)
     ∷ judges (ties (triple 1 0 1 ∷ [])) (1 ∷ 1 ∷ []) 0 (refused 16)
     ∷ judges single (0 ∷ []) 5 (judge.result (judgement.Accepted 0) (0 ∷ 9 ∷ []))
-    ∷ judges (lists 3 [] [] []) [] 0 (judge.result (judgement.Refused 21) (9 ∷ []))
+    ∷ judges (lists 3 [] [] []) [] 0 (judge.result (judgement.Refused (refusal 21)) (9 ∷ []))
     -- rule 6.5: equal, perpendicular and opposite normals; a dot product of -1
     ∷ case (of-bend (bendBetween upward upward)) (of-bend 0)
     ∷ case (of-bend (bendBetween upward sideward)) (of-bend 1000)

@@ -2,6 +2,7 @@
 use mathlib.Core.Path.{_≡_, sym, ap, _∙_}
 use mathlib.Core.List.{List}
 use Prim.Native.Nat.{ℕ}
+use Rattle.codes.specs.declared.Refusal.{Refusal}
 use Rattle.reader.specs.declared.Status.{Status}
 use Rattle.reader.specs.declared.Status.the-variants as status
 use Rattle.reader.specs.declared.Reading.{Reading}
@@ -18,7 +19,7 @@ module _ (limit : ℕ) (s : List ℕ) (candidates : List (List ℕ)) (weights : 
       ∙ ap (λ (x : Reading). findAfter (x .status) (x .polygon) candidates weights rows) e
 
   pub file-refused :
-      {k : ℕ} → r .status ≡ status.Refused k → r ≡ readingOf limit s → finding (Refused k) candidates weights rows ≡ findFile limit s candidates weights rows
+      {k : Refusal} → r .status ≡ status.Refused k → r ≡ readingOf limit s → finding (Refused k) candidates weights rows ≡ findFile limit s candidates weights rows
   file-refused d e = after d e
 
   pub file-read :

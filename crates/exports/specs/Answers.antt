@@ -75,7 +75,7 @@ readAnswerOf r = record { number = statusNumber (r .status); vertices = r .polyg
 
 -- the reader, then the finder (rule 5.1): a number of the reader changes no table (rule 4.30)
 abbrev pub findAfter : Status → Polygon → List (List ℕ) → List ℕ → List (List ℕ) → Finding
-findAfter (status.Refused number) p candidates weights rows = finding (found.Refused number) candidates weights rows
+findAfter (status.Refused r) p candidates weights rows = finding (found.Refused r) candidates weights rows
 findAfter status.Complete p candidates weights rows = findCall p candidates weights rows
 
 -- the lists of a rim file read with a limit (rule 5.1)

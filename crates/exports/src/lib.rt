@@ -192,7 +192,7 @@ fn find_in_file(
     let status = reading.status;
     let polygon = reading.polygon;
     match status {
-        Status::Refused(number) => Found::Refused(number),
+        Status::Refused(refusal) => Found::Refused(refusal),
         Status::Complete => finder::find(polygon, candidates, weights, rows),
     }
 }
@@ -246,8 +246,8 @@ fn sizes_answer(sizes: Sizes) -> SizesAnswer
                 work: candidates,
             }
         }
-        Sizes::Refused(number) => SizesAnswer {
-            number,
+        Sizes::Refused(refusal) => SizesAnswer {
+            number: refusal.number,
             triangles: 0,
             candidates: 0,
             weights: 0,

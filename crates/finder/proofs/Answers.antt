@@ -7,6 +7,8 @@ use native.Mathlib.Omega.{arith}
 use borrow.Author.Tests.{eq-eqb, le-ltb, eqb-true}
 use lib.Dec.{eqb}
 use lib.ListN.{length}
+use Rattle.codes.specs.declared.Refusal.{Refusal}
+use Rattle.codes.specs.Refusals.{refusal}
 use Rattle.terms.specs.Limits.{maxTriples}
 use Rattle.polygon.specs.declared.Polygon.{Polygon}
 use Rattle.polygon.specs.Polygon.{codeOf}
@@ -84,9 +86,9 @@ module _ (p : Polygon) where
   due-13 tooShort e = thirteen-last tooShort ∙ ap (λ (k : ℕ). then13 k tooShort) e
 
   -- ---- the places
-  pub sizes-refused : (k : ℕ) → k ≡ numberDue false p → (k ≡ 0 → ⊥) → variants.Refused k ≡ sizesOf p
-  sizes-refused zero e h = absurd (h refl)
-  sizes-refused (suc k) e h = ap (λ (k : ℕ). sizesBy k p) e
+  pub sizes-refused : {r : Refusal} (k : ℕ) → r ≡ refusal k → k ≡ numberDue false p → (k ≡ 0 → ⊥) → variants.Refused r ≡ sizesOf p
+  sizes-refused zero m e h = absurd (h refl)
+  sizes-refused (suc k) m e h = ap (λ (r : Refusal). variants.Refused r) m ∙ ap (λ (k : ℕ). sizesBy k p) e
 
   pub sizes-known : {places : Places} {found : List (List ℕ)} → numberDue false p ≡ 0 → found ≡ candidatesOf p → places ≡ placesFor (p .n) found → Known places ≡ sizesOf p
   sizes-known {places} {found} e f g =
@@ -116,22 +118,24 @@ pub values-found : (p : Polygon) (k : ℕ) (candidates : List (List ℕ)) (weigh
 values-found p k candidates weights rows e = (e, ap (λ (f : Finding). valuesOf (f .answer)) e ∙ found-values p k candidates weights rows)
 
 module _ (p : Polygon) (trianglePlaces workPlaces : ℕ) (candidates : List (List ℕ)) (weights : List ℕ) (rows : List (List ℕ)) where
-  pub find-refused : (k : ℕ) → k ≡ numberDue false p → (k ≡ 0 → ⊥) → finding (Refused k) candidates weights rows ≡ findBesideCall p trianglePlaces workPlaces candidates weights rows
-  find-refused zero e h = absurd (h refl)
-  find-refused (suc k) e h =
-      ap (λ (k : ℕ). findBy k p candidates weights rows) (due-first p (suc k) (either (shortBeside p trianglePlaces workPlaces) (shortTables p candidates weights rows)) e h)
+  pub find-refused : {r : Refusal} (k : ℕ) → r ≡ refusal k → k ≡ numberDue false p → (k ≡ 0 → ⊥) →
+      finding (Refused r) candidates weights rows ≡ findBesideCall p trianglePlaces workPlaces candidates weights rows
+  find-refused zero m e h = absurd (h refl)
+  find-refused (suc k) m e h =
+      ap (λ (r : Refusal). finding (Refused r) candidates weights rows) m
+      ∙ ap (λ (k : ℕ). findBy k p candidates weights rows) (due-first p (suc k) (either (shortBeside p trianglePlaces workPlaces) (shortTables p candidates weights rows)) e h)
 
   pub filled-is : numberDue false p ≡ 0 → fillOr13 p (candidatesOf p) trianglePlaces workPlaces candidates weights rows ≡ findBesideCall p trianglePlaces workPlaces candidates weights rows
   unfolding fillOr13
   filled-is e =
-      one-test (short trianglePlaces (p .n - 2)) (short workPlaces (length (candidatesOf p))) (short (length candidates) (length (candidatesOf p))) (short (length weights) (length (candidatesOf p))) (short (length rows) (length (rowsOf p (candidatesOf p)))) (finding (Refused 13) candidates weights rows) _
+      one-test (short trianglePlaces (p .n - 2)) (short workPlaces (length (candidatesOf p))) (short (length candidates) (length (candidatesOf p))) (short (length weights) (length (candidatesOf p))) (short (length rows) (length (rowsOf p (candidatesOf p)))) (finding (Refused (refusal 13)) candidates weights rows) _
       ∙ by tooShort
       ∙ ap (λ (k : ℕ). findBy k p candidates weights rows) (sym (due-13 p tooShort e))
     where
       tooShort : Bool
       tooShort = either (shortBeside p trianglePlaces workPlaces) (shortTables p candidates weights rows)
 
-      by : (b : Bool) → cond b (finding (Refused 13) candidates weights rows) (findBy 0 p candidates weights rows) ≡ findBy (cond b 13 0) p candidates weights rows
+      by : (b : Bool) → cond b (finding (Refused (refusal 13)) candidates weights rows) (findBy 0 p candidates weights rows) ≡ findBy (cond b 13 0) p candidates weights rows
       by true = refl
       by false = refl
 

@@ -4,6 +4,7 @@ use mathlib.Core.Bool.{cond, false}
 use mathlib.Core.List.{List}
 use Prim.Native.Nat.{ℕ, _-_, _≤_}
 use lib.ListN.{length}
+use Rattle.codes.specs.Refusals.{refusal}
 use Rattle.polygon.specs.declared.Polygon.{Polygon}
 use Rattle.faces.specs.Faces.{triplesOf}
 use Rattle.faces.specs.Masks.{has}
@@ -44,9 +45,9 @@ pub record Written (p : Polygon) (found candidates : List (List ℕ)) (weights :
 -- the tables in the order in which they are tested
 unfoldable pub fillOr13 : Polygon → List (List ℕ) → ℕ → ℕ → List (List ℕ) → List ℕ → List (List ℕ) → Finding
 fillOr13 p found trianglePlaces workPlaces candidates weights rows =
-    cond (short trianglePlaces (p .n - 2)) (finding (Refused 13) candidates weights rows)
-    (cond (short workPlaces (length found)) (finding (Refused 13) candidates weights rows)
-    (cond (short (length candidates) (length found)) (finding (Refused 13) candidates weights rows)
-    (cond (short (length weights) (length found)) (finding (Refused 13) candidates weights rows)
-    (cond (short (length rows) (length (rowsOf p found))) (finding (Refused 13) candidates weights rows)
+    cond (short trianglePlaces (p .n - 2)) (finding (Refused (refusal 13)) candidates weights rows)
+    (cond (short workPlaces (length found)) (finding (Refused (refusal 13)) candidates weights rows)
+    (cond (short (length candidates) (length found)) (finding (Refused (refusal 13)) candidates weights rows)
+    (cond (short (length weights) (length found)) (finding (Refused (refusal 13)) candidates weights rows)
+    (cond (short (length rows) (length (rowsOf p found))) (finding (Refused (refusal 13)) candidates weights rows)
     (finding (Lists (length found) (length (rowsOf p found))) (filled found candidates) (filled (weightsOf p found) weights) (filled (rowsOf p found) rows))))))

@@ -4,6 +4,7 @@ use mathlib.Core.List.{List}
 use Prim.Native.Nat.{ℕ, zero, suc, _-_}
 use lib.Dec.{eqb, ltb}
 use lib.ListN.{length}
+use Rattle.codes.specs.Refusals.{refusal}
 use Rattle.polygon.specs.declared.Polygon.{Polygon}
 use Rattle.polygon.specs.Polygon.{codeOf}
 use Rattle.delaunay.specs.Candidates.{candidatesOf, degenerate}
@@ -16,15 +17,15 @@ use Rattle.finder.specs.declared.Found.the-variants.{Lists, Refused}
 -- the number and the two counts of each case of an answer (rule 5.2)
 abbrev pub numberOf : Found → ℕ
 numberOf (Lists candidates rows) = 0
-numberOf (Refused number) = number
+numberOf (Refused r) = r .number
 
 abbrev pub candidateCountOf : Found → ℕ
 candidateCountOf (Lists candidates rows) = candidates
-candidateCountOf (Refused number) = 0
+candidateCountOf (Refused r) = 0
 
 abbrev pub rowCountOf : Found → ℕ
 rowCountOf (Lists candidates rows) = rows
-rowCountOf (Refused number) = 0
+rowCountOf (Refused r) = 0
 
 -- the three together (rule 5.2)
 pub record Values : Type 0 where
@@ -79,7 +80,7 @@ findBy zero p candidates weights rows =
     (filled (candidatesOf p) candidates)
     (filled (weightsOf p (candidatesOf p)) weights)
     (filled (rowsOf p (candidatesOf p)) rows)
-findBy (suc k) p candidates weights rows = finding (Refused (suc k)) candidates weights rows
+findBy (suc k) p candidates weights rows = finding (Refused (refusal (suc k))) candidates weights rows
 
 -- the finder's call, by its first number due (rule 5.1)
 abbrev pub findNumber : Polygon → List (List ℕ) → List ℕ → List (List ℕ) → ℕ

@@ -2,6 +2,7 @@
 use mathlib.Core.Bool.{false}
 use Prim.Native.Nat.{ℕ, zero, suc, _-_}
 use lib.ListN.{length}
+use Rattle.codes.specs.Refusals.{refusal}
 use Rattle.polygon.specs.declared.Polygon.{Polygon}
 use Rattle.delaunay.specs.Candidates.{candidatesOf}
 use Rattle.dihedrals.specs.Dihedrals.{rowsOf}
@@ -20,11 +21,11 @@ noPlaces = record { triangles = 0; candidates = 0; rows = 0 }
 
 abbrev pub numberOf : Sizes → ℕ
 numberOf (Known places) = 0
-numberOf (Refused number) = number
+numberOf (Refused r) = r .number
 
 abbrev pub placesIn : Sizes → Places
 placesIn (Known places) = places
-placesIn (Refused number) = noPlaces
+placesIn (Refused r) = noPlaces
 
 -- what the places are by the first number due (rule 5.5)
 abbrev pub duePlaces : ℕ → Polygon → Places
@@ -34,7 +35,7 @@ duePlaces (suc k) p = noPlaces
 -- the places, or the first number due on the polygon itself, before any table is looked at (rule 5.5)
 abbrev pub sizesBy : ℕ → Polygon → Sizes
 sizesBy zero p = Known (placesOf p)
-sizesBy (suc k) p = Refused (suc k)
+sizesBy (suc k) p = Refused (refusal (suc k))
 
 abbrev pub sizesOf : Polygon → Sizes
 sizesOf p = sizesBy (numberDue false p) p

@@ -1,4 +1,5 @@
 // The candidate finder: from a polygon to its candidates, their weights and the rows of hanging pairs.
+use codes::Refusal;
 use polygon::Polygon;
 ghost use mathlib.Core.Path.{_≡_};
 ghost use mathlib.Core.Bool.{false};
@@ -15,7 +16,7 @@ ghost use Rattle.finder.specs.Filling.{facesOf, placesFor, Searched, Roo
 // What the finder answers.
 pub enum Found {
     Lists { candidates: usize, rows: usize },
-    Refused(u32),
+    Refused(Refusal),
 }
 
 impl Found {
@@ -28,7 +29,7 @@ impl Found {
                 candidates: _,
                 rows: _,
             } => 0,
-            Found::Refused(number) => number,
+            Found::Refused(refusal) => refusal.number,
         }
     }
 
@@ -64,10 +65,10 @@ pub struct Places {
     pub rows: usize,
 }
 
-// The places that a polygon needs, or the number due on it.
+// The places that a polygon needs, or a refusal.
 pub enum Sizes {
     Known(Places),
-    Refused(u32),
+    Refused(Refusal),
 }
 
 // The number due on the polygon, then 12, else 0: then the candidates are in the set.
@@ -106,7 +107,7 @@ pub fn table_sizes(p: Polygon) -> Sizes
     let mut masks = [0u64; faces::PAIRS];
     let number = search(p, &mut masks);
     if number != 0 {
-        return Sizes::Refused(number);
+        return Sizes::Refused(Refusal::new(number));
     }
     let n = p.n;
     let places = count_places(n, &masks);
@@ -152,19 +153,19 @@ fn fill(
     let count = needed.candidates;
     let row_count = needed.rows;
     if triangle_places < triangles {
-        return Found::Refused(codes::TABLE_TOO_SHORT);
+        return Found::Refused(Refusal::new(codes::TABLE_TOO_SHORT));
     }
     if work_places < count {
-        return Found::Refused(codes::TABLE_TOO_SHORT);
+        return Found::Refused(Refusal::new(codes::TABLE_TOO_SHORT));
     }
     if candidates.len() < count {
-        return Found::Refused(codes::TABLE_TOO_SHORT);
+        return Found::Refused(Refusal::new(codes::TABLE_TOO_SHORT));
     }
     if weights.len() < count {
-        return Found::Refused(codes::TABLE_TOO_SHORT);
+        return Found::Refused(Refusal::new(codes::TABLE_TOO_SHORT));
     }
     if rows.len() < row_count {
-        return Found::Refused(codes::TABLE_TOO_SHORT);
+        return Found::Refused(Refusal::new(codes::TABLE_TOO_SHORT));
     }
     write_lists(p, masks, candidates, weights, rows);
     Found::Lists {
@@ -189,7 +190,7 @@ pub fn find_beside(
     let mut masks = [0u64; faces::PAIRS];
     let number = search(p, &mut masks);
     if number != 0 {
-        return Found::Refused(number);
+        return Found::Refused(Refusal::new(number));
     }
     fill(
         p,

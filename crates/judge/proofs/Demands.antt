@@ -4,6 +4,7 @@ use mathlib.Core.Path.{_≡_, refl, sym, ap, _∙_, subst}
 use mathlib.Core.List.{List}
 use native.Mathlib.Omega.{arith}
 use lib.ListN.{length, replicate}
+use Rattle.codes.specs.Refusals.{refusal}
 use Rattle.lists.specs.Lists.{filled}
 use Rattle.terms.specs.Numbers.{firstDue}
 use Rattle.triangulation.specs.Triangulations.{Job, Valid, best}
@@ -26,7 +27,7 @@ use Rattle.judge.proofs.Numbers.{code-due, due-code, zero-accepts, acce
 use Rattle.judge.proofs.Least.{excess-is}
 
 -- an acceptance is no refusal
-not-both : {excess number : ℕ} → judgement.Accepted excess ≡ judgement.Refused number → ⊥
+not-both : {excess number : ℕ} → judgement.Accepted excess ≡ judgement.Refused (refusal number) → ⊥
 not-both e = let z : _≡_ {A = ℕ} 0 1 = cc in omega arith
 
 module _ (n : ℕ) (candidates : List (List ℕ)) (weights : List ℕ) (rows : List (List ℕ)) where
@@ -48,7 +49,7 @@ module _ (n : ℕ) (candidates : List (List ℕ)) (weights : List ℕ) (rows : L
     unfolding judged
     by-code e = ap (λ (k : ℕ). settled k (excessOver (best job) stated) (length candidates) work) e
 
-    number-is : {k : ℕ} → code ≡ suc k → call .judgement ≡ judgement.Refused (suc k)
+    number-is : {k : ℕ} → code ≡ suc k → call .judgement ≡ judgement.Refused (refusal (suc k))
     number-is e = ap (λ (r : Result). r .judgement) (by-code e)
 
     accepted-code : (excess : ℕ) → call .judgement ≡ judgement.Accepted excess → code ≡ 0
@@ -77,14 +78,14 @@ module _ (n : ℕ) (candidates : List (List ℕ)) (weights : List ℕ) (rows : L
     accepted-work excess e = ap (λ (r : Result). r .work) (by-code (accepted-code excess e))
 
     -- every other call is refused with the first number due, and changes no table (rules 4.30, 4.36)
-    pub refused-first : (k : ℕ) → FirstDue n candidates weights rows list stated (length work) k → judged n candidates weights rows list stated work ≡ result (judgement.Refused k) work
+    pub refused-first : (k : ℕ) → FirstDue n candidates weights rows list stated (length work) k → judged n candidates weights rows list stated work ≡ result (judgement.Refused (refusal k)) work
     refused-first k d = by k (due-code n candidates weights rows list stated (length work) k d) (due-above n candidates weights rows list stated (length work) (d .due))
       where
-        by : (k : ℕ) → code ≡ k → (k ≡ 0 → ⊥) → call ≡ result (judgement.Refused k) work
+        by : (k : ℕ) → code ≡ k → (k ≡ 0 → ⊥) → call ≡ result (judgement.Refused (refusal k)) work
         by zero e d = absurd (d refl)
         by (suc k) e d = by-code e
 
-    pub given-first : (k : ℕ) → judged n candidates weights rows list stated work .judgement ≡ judgement.Refused k → FirstDue n candidates weights rows list stated (length work) k
+    pub given-first : (k : ℕ) → judged n candidates weights rows list stated work .judgement ≡ judgement.Refused (refusal k) → FirstDue n candidates weights rows list stated (length work) k
     given-first k r = by code refl
       where
         by : (j : ℕ) → code ≡ j → FirstDue n candidates weights rows list stated (length work) k

@@ -5,6 +5,7 @@ use mathlib.Core.Logic.{_≢_, _⊎_, inl, inr, ⊎-elim}
 use mathlib.Core.List.{List, [], _∷_, List·Memᴰ, List·Memᴰ·head, Memᴰ·append-left, Memᴰ·append-right}
 use native.Mathlib.Omega.{arith}
 use lib.ListN.{length, getD}
+use Rattle.codes.specs.Refusals.{refusal}
 use Rattle.lists.proofs.Choice.{Truth, truth, holds, fails, true-not-false}
 use Rattle.triangulation.specs.Triangulations.{Job, totalWeight}
 use Rattle.triangulation.specs.Jobs.{jobOf}
@@ -34,10 +35,10 @@ module _ (n : ℕ) (candidates : List (List ℕ)) (weights : List ℕ) (rows : L
 
   -- ---- 21 is given exactly when the job is accepted and the list is no tiling without repeats (rules 4.21, 4.36)
   pub gives-21 : JobAccepted n candidates weights rows (length work) → ((set : List ℕ) → IsTiling job list set → ⊥)
-      → judged n candidates weights rows list stated work ≡ result (Refused 21) work
+      → judged n candidates weights rows list stated work ≡ result (Refused (refusal 21)) work
   gives-21 a h = by-code n candidates weights rows list stated work (no-tiling-code n candidates weights rows list stated (length work) a h)
 
-  pub given-21 : judged n candidates weights rows list stated work .judgement ≡ Refused 21
+  pub given-21 : judged n candidates weights rows list stated work .judgement ≡ Refused (refusal 21)
       → JobAccepted n candidates weights rows (length work) × ((set : List ℕ) → IsTiling job list set → ⊥)
   given-21 e =
       let f : FirstDue n candidates weights rows list stated (length work) 21 = given-first n candidates weights rows list stated work 21 e in
@@ -46,27 +47,27 @@ module _ (n : ℕ) (candidates : List (List ℕ)) (weights : List ℕ) (rows : L
 
   -- so where a number stands at two places, or is no candidate's, where there are not n - 2 of them, and for every list of a job that has no tiling
   pub twice-21 : JobAccepted n candidates weights rows (length work) → (i j : ℕ) → i < j → j < length list → getD list i 0 ≡ getD list j 0
-      → judged n candidates weights rows list stated work ≡ result (Refused 21) work
+      → judged n candidates weights rows list stated work ≡ result (Refused (refusal 21)) work
   twice-21 a i j h l e = gives-21 a (λ set t. t .once .apart i j h l e)
 
   pub no-candidate-21 : JobAccepted n candidates weights rows (length work) → (k : ℕ) → List·Memᴰ k list → length candidates ≤ k
-      → judged n candidates weights rows list stated work ≡ result (Refused 21) work
+      → judged n candidates weights rows list stated work ≡ result (Refused (refusal 21)) work
   no-candidate-21 a k m h = gives-21 a (λ set t. omega (arith, names job list t .candidate k m))
 
   pub other-length-21 : JobAccepted n candidates weights rows (length work) → length list ≢ n - 2
-      → judged n candidates weights rows list stated work ≡ result (Refused 21) work
+      → judged n candidates weights rows list stated work ≡ result (Refused (refusal 21)) work
   other-length-21 a h = gives-21 a (λ set t. h (tiling-length job list (valid n candidates weights rows a) (is-tiling job list t)))
 
   pub no-tiling-21 : JobAccepted n candidates weights rows (length work) → ((set : List ℕ) → Triangulates job set → ⊥)
-      → judged n candidates weights rows list stated work ≡ result (Refused 21) work
+      → judged n candidates weights rows list stated work ≡ result (Refused (refusal 21)) work
   no-tiling-21 a h = gives-21 a (λ set t. h set (t .tiles))
 
   -- ---- 22 exactly when the job is accepted and the list is such a tiling, but the stated total is not its total (rules 4.22, 4.36)
   pub gives-22 : JobAccepted n candidates weights rows (length work) → (set : List ℕ) → IsTiling job list set → stated ≢ totalWeight job set
-      → judged n candidates weights rows list stated work ≡ result (Refused 22) work
+      → judged n candidates weights rows list stated work ≡ result (Refused (refusal 22)) work
   gives-22 a set t h = by-code n candidates weights rows list stated work (other-total-code n candidates weights rows list stated (length work) a set t h)
 
-  pub given-22 : judged n candidates weights rows list stated work .judgement ≡ Refused 22
+  pub given-22 : judged n candidates weights rows list stated work .judgement ≡ Refused (refusal 22)
       → JobAccepted n candidates weights rows (length work) × ((set : List ℕ) × IsTiling job list set × (stated ≢ totalWeight job set))
   given-22 e =
       let f : FirstDue n candidates weights rows list stated (length work) 22 = given-first n candidates weights rows list stated work 22 e in

@@ -2,6 +2,7 @@
 use Prim.Native.Nat.{ℕ, zero, suc, _-_}
 use mathlib.Core.List.{List}
 use lib.ListN.{length, replicate}
+use Rattle.codes.specs.Refusals.{refusal}
 use Rattle.lists.specs.Lists.{filled}
 use Rattle.terms.specs.Numbers.{firstDue}
 use Rattle.triangulation.specs.Triangulations.{Answer, none, patch, best}
@@ -14,11 +15,11 @@ use Rattle.judge.specs.declared.Judgement.the-variants.{Accepted, Refuse
 -- the number and the excess of each case of a judgement (rule 5.10)
 abbrev pub numberOf : Judgement → ℕ
 numberOf (Accepted excess) = 0
-numberOf (Refused number) = number
+numberOf (Refused r) = r .number
 
 abbrev pub excessOf : Judgement → ℕ
 excessOf (Accepted excess) = excess
-excessOf (Refused number) = 0
+excessOf (Refused r) = 0
 
 -- the two together (rule 5.10)
 pub record Values : Type 0 where
@@ -58,7 +59,7 @@ result j w = record { judgement = j; work = w }
 -- an acceptance leaves 0 in a place for each candidate (rule 3.9); a refusal changes no table (rule 4.30)
 abbrev pub settled : ℕ → ℕ → ℕ → List ℕ → Result
 settled zero excess count work = result (Accepted excess) (filled (replicate count 0) work)
-settled (suc k) excess count work = result (Refused (suc k)) work
+settled (suc k) excess count work = result (Refused (refusal (suc k))) work
 
 -- the call, by the first number due on it (rules 3.14, 4.36)
 unfoldable pub judged : ℕ → List (List ℕ) → List ℕ → List (List ℕ) → List ℕ → ℕ → List ℕ → Result

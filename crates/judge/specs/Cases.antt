@@ -2,6 +2,7 @@
 use Prim.Native.Nat.{ℕ, _+_}
 use mathlib.Core.List.{List, [], _∷_}
 use lib.ListN.{length, replicate}
+use Rattle.codes.specs.Refusals.{refusal}
 use Rattle.triangulator.specs.Cases.{Lists}
 use Rattle.judge.specs.declared.Judgement.the-variants.{Accepted, Refused}
 use Rattle.judge.specs.Call.{Result, result, judged}
@@ -15,4 +16,4 @@ abbrev pub accepted : ℕ → Result
 accepted excess = result (Accepted excess) (0 ∷ 0 ∷ 0 ∷ 0 ∷ 9 ∷ [])
 
 abbrev pub refused : ℕ → Result
-refused number = result (Refused number) (9 ∷ 9 ∷ 9 ∷ 9 ∷ 9 ∷ [])
+refused number = result (Refused (refusal number)) (9 ∷ 9 ∷ 9 ∷ 9 ∷ 9 ∷ [])

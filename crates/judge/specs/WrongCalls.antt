@@ -1,6 +1,7 @@
 -- What wrong judges would answer and leave. That none of it is right is proved (proofs/WrongCalls.antt); nobody has to believe it.
 use Prim.Native.Nat.{ℕ}
 use mathlib.Core.List.{List, [], _∷_}
+use Rattle.codes.specs.Refusals.{refusal}
 use Rattle.terms.specs.Entries.{triple}
 use Rattle.triangulator.specs.Cases.{Lists, lists, single, listsP}
 use Rattle.judge.specs.declared.Judgement.the-variants.{Accepted, Refused}
@@ -39,13 +40,13 @@ wrongCalls =
     -- the rows left out
     ∷ call listsP (1 ∷ 3 ∷ []) 157 (accepted 0)
     -- the work table cleared on 21
-    ∷ call listsP (1 ∷ 2 ∷ []) 469 (result (Refused 21) (0 ∷ 0 ∷ 0 ∷ 0 ∷ 9 ∷ []))
+    ∷ call listsP (1 ∷ 2 ∷ []) 469 (result (Refused (refusal 21)) (0 ∷ 0 ∷ 0 ∷ 0 ∷ 9 ∷ []))
     -- an order asked of the list
     ∷ call listsP (3 ∷ 1 ∷ []) 469 (refused 21)
     -- the list taken for a table that is too short
     ∷ call listsP (1 ∷ []) 469 (refused 13)
     -- the list tested before the job
-    ∷ call (lists 2 [] [] []) [] 0 (result (Refused 21) (9 ∷ []))
+    ∷ call (lists 2 [] [] []) [] 0 (result (Refused (refusal 21)) (9 ∷ []))
     -- 'none' for a job without a tiling
     ∷ call (lists 3 [] [] []) [] 0 (result (Accepted 0) (9 ∷ []))
     -- the work table left with the totals

@@ -1,14 +1,15 @@
 // The judge of patches from other programs: is a list of candidates a triangulation with the stated total, and how far is that above the least?
+use codes::Refusal;
 ghost use mathlib.Core.Path.{_≡_};
 ghost use lib.ListN.{length};
 ghost use Rattle.triangulation.specs.Triangulations.{best};
 ghost use Rattle.triangulation.specs.Jobs.{jobOf};
 ghost use Rattle.judge.specs.Call.{numberOf, excessOf, valuesOf, dueValues, judgeCode, excessOver, result, judged};
 
-// Accepted with the excess over the least total, or the number of a refusal.
+// Accepted with the excess over the least total, or a refusal.
 pub enum Judgement {
     Accepted { excess: u64 },
-    Refused(u32),
+    Refused(Refusal),
 }
 
 impl Judgement {
@@ -18,7 +19,7 @@ impl Judgement {
     {
         match self {
             Judgement::Accepted { excess: _ } => 0,
-            Judgement::Refused(number) => number,
+            Judgement::Refused(refusal) => refusal.number,
         }
     }
 
@@ -48,16 +49,15 @@ pub fn judge(
 {
     let job_number = jobs::code_without_triangles(n, candidates, weights, rows, work.len());
     if job_number != 0 {
-        return Judgement::Refused(job_number);
+        return Judgement::Refused(Refusal::new(job_number));
     }
     let list_number = validation::list_code(n, candidates, weights, rows, list, stated);
     if list_number != 0 {
-        return Judgement::Refused(list_number);
+        return Judgement::Refused(Refusal::new(list_number));
     }
     let starts = blocks::block_starts(candidates);
     let least = minimum_weight::least_total(n, &starts, candidates, weights, rows, work);
     minimum_weight::clear(work, candidates.len());
-    Judgement::Accepted {
-        excess: stated - least,
-    }
+    let excess = stated - least;
+    Judgement::Accepted { excess }
 }

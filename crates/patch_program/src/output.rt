@@ -88,6 +88,6 @@ pub(crate) fn print_outcome(
         Outcome::None => {
             io::write_all(1, b"none\n");
         }
-        Outcome::Refused(number) => print_refusal(number),
+        Outcome::Refused(refusal) => print_refusal(refusal.number),
     }
 }

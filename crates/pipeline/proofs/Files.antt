@@ -4,6 +4,8 @@ use mathlib.Core.Bool.{false}
 use mathlib.Core.List.{List}
 use Prim.Native.Nat.{ℕ, zero, suc}
 use native.Mathlib.Omega.{arith}
+use Rattle.codes.specs.declared.Refusal.{Refusal}
+use Rattle.codes.specs.Refusals.{refusal}
 use Rattle.polygon.specs.declared.Polygon.{Polygon}
 use Rattle.reader.specs.declared.Status.the-variants as status
 use Rattle.reader.specs.declared.Reading.{Reading}
@@ -21,20 +23,9 @@ use Rattle.pipeline.specs.Sizes.{sizesNumber, sizesFile}
 
 -- what the reader's answer says of the first number due
 module _ (limit : ℕ) (s : List ℕ) {r : Reading} (e : r ≡ readingOf limit s) where
-  first-refused : {k : ℕ} → r .status ≡ status.Refused k → (j : ℕ) → reader.numberDue limit s ≡ j → (later : ℕ) → firstDue (reader.numberDue limit s) later ≡ k
-  first-refused {k} d zero n later = absurd (let b : status.Refused k ≡ status.Complete = sym d ∙ ap (λ (x : Reading). x .status) e ∙ ap (λ (m : ℕ). answer m (polygonOf s) .status) n in let z : _≡_ {A = ℕ} 0 1 = cc in omega arith)
-  first-refused {k} d (suc j) n later =
-      let b : status.Refused k ≡ status.Refused (suc j) = sym d ∙ ap (λ (x : Reading). x .status) e ∙ ap (λ (m : ℕ). answer m (polygonOf s) .status) n in
-      let c : suc j ≡ k = cc in
-      ap (λ (m : ℕ). firstDue m later) n ∙ c
-
-  not-zero : {k : ℕ} → r .status ≡ status.Refused k → (j : ℕ) → reader.numberDue limit s ≡ j → k ≡ 0 → ⊥
-  not-zero {k} d zero n z = let b : status.Refused k ≡ status.Complete = sym d ∙ ap (λ (x : Reading). x .status) e ∙ ap (λ (m : ℕ). answer m (polygonOf s) .status) n in let q : _≡_ {A = ℕ} 0 1 = cc in omega arith
-  not-zero {k} d (suc j) n z = let b : status.Refused k ≡ status.Refused (suc j) = sym d ∙ ap (λ (x : Reading). x .status) e ∙ ap (λ (m : ℕ). answer m (polygonOf s) .status) n in let c : suc j ≡ k = cc in omega arith
-
   read-none : r .status ≡ status.Complete → (j : ℕ) → reader.numberDue limit s ≡ j → reader.numberDue limit s ≡ 0
   read-none d zero n = n
-  read-none d (suc j) n = absurd (let b : status.Complete ≡ status.Refused (suc j) = sym d ∙ ap (λ (x : Reading). x .status) e ∙ ap (λ (m : ℕ). answer m (polygonOf s) .status) n in let z : _≡_ {A = ℕ} 0 1 = cc in omega arith)
+  read-none d (suc j) n = absurd (let b : status.Complete ≡ status.Refused (refusal (suc j)) = sym d ∙ ap (λ (x : Reading). x .status) e ∙ ap (λ (m : ℕ). answer m (polygonOf s) .status) n in let z : _≡_ {A = ℕ} 0 1 = cc in omega arith)
 
   read-polygon : r .status ≡ status.Complete → r .polygon ≡ polygonOf s
   read-polygon d = ap (λ (x : Reading). x .polygon) e ∙ ap (λ (m : ℕ). answer m (polygonOf s) .polygon) (read-none d (reader.numberDue limit s) refl)
@@ -43,22 +34,31 @@ module _ (limit : ℕ) (s : List ℕ) {r : Reading} (e : r ≡ readingOf limit s
   first-read d f = ap (λ (m : ℕ). firstDue m (f (polygonOf s))) (read-none d (reader.numberDue limit s) refl) ∙ ap f (sym (read-polygon d))
 
   -- a call by its number: on a refusal, and on a file that is read
-  module _ {A : Type 0} (call : ℕ → Polygon → A) (refusal : ℕ → A) (refuses : (k : ℕ) → call (suc k) (polygonOf s) ≡ refusal (suc k)) (f : Polygon → ℕ) where
-    by-refusal : (k : ℕ) → r .status ≡ status.Refused k → refusal k ≡ call (firstDue (reader.numberDue limit s) (f (polygonOf s))) (polygonOf s)
-    by-refusal zero d = absurd (not-zero d (reader.numberDue limit s) refl refl)
-    by-refusal (suc k) d = sym (ap (λ (m : ℕ). call m (polygonOf s)) (first-refused d (reader.numberDue limit s) refl (f (polygonOf s))) ∙ refuses k)
+  module _ {A : Type 0} (call : ℕ → Polygon → A) (refuse : Refusal → A) (refuses : (k : ℕ) → call (suc k) (polygonOf s) ≡ refuse (refusal (suc k))) (f : Polygon → ℕ) where
+    by-refusal : {k : Refusal} → r .status ≡ status.Refused k → refuse k ≡ call (firstDue (reader.numberDue limit s) (f (polygonOf s))) (polygonOf s)
+    by-refusal {k} d = by (reader.numberDue limit s) refl
+      where
+        answered : {j : ℕ} → reader.numberDue limit s ≡ j → status.Refused k ≡ answer j (polygonOf s) .status
+        answered n = sym d ∙ ap (λ (x : Reading). x .status) e ∙ ap (λ (m : ℕ). answer m (polygonOf s) .status) n
+
+        by : (j : ℕ) → reader.numberDue limit s ≡ j → refuse k ≡ call (firstDue (reader.numberDue limit s) (f (polygonOf s))) (polygonOf s)
+        by zero n = absurd (let b : status.Refused k ≡ status.Complete = answered n in let z : _≡_ {A = ℕ} 0 1 = cc in omega arith)
+        by (suc j) n =
+            let b : status.Refused k ≡ status.Refused (refusal (suc j)) = answered n in
+            let c : k ≡ refusal (suc j) = cc in
+            ap refuse c ∙ sym (refuses j) ∙ sym (ap (λ (m : ℕ). call (firstDue m (f (polygonOf s))) (polygonOf s)) n)
 
     by-polygon : r .status ≡ status.Complete → call (f (r .polygon)) (r .polygon) ≡ call (firstDue (reader.numberDue limit s) (f (polygonOf s))) (polygonOf s)
     by-polygon d = ap (λ (m : ℕ). call m (r .polygon)) (sym (first-read d f)) ∙ ap (call (firstDue (reader.numberDue limit s) (f (polygonOf s)))) (read-polygon d)
 
 module _ (limit : ℕ) (s : List ℕ) (t : Tables) {r : Reading} where
-  pub file-refused : (k : ℕ) → r .status ≡ status.Refused k → r ≡ readingOf limit s → patching (Refused k) t ≡ patchFile limit s t
+  pub file-refused : {k : Refusal} → r .status ≡ status.Refused k → r ≡ readingOf limit s → patching (Refused k) t ≡ patchFile limit s t
   unfolding patchFile
-  file-refused k d e = by-refusal limit s e (λ (k : ℕ) (p : Polygon). patchBy k p t) (λ (k : ℕ). patching (Refused k) t) (λ k. refl) (λ (p : Polygon). polygonNumber p t) k d
+  file-refused d e = by-refusal limit s e (λ (k : ℕ) (p : Polygon). patchBy k p t) (λ (k : Refusal). patching (Refused k) t) (λ k. refl) (λ (p : Polygon). polygonNumber p t) d
 
   pub file-read : {x : Patching} → r .status ≡ status.Complete → r ≡ readingOf limit s → x ≡ patchPolygon (r .polygon) t → x ≡ patchFile limit s t
   unfolding patchFile patchPolygon
-  file-read d e f = f ∙ by-polygon limit s e (λ (k : ℕ) (p : Polygon). patchBy k p t) (λ (k : ℕ). patching (Refused k) t) (λ k. refl) (λ (p : Polygon). polygonNumber p t) d
+  file-read d e f = f ∙ by-polygon limit s e (λ (k : ℕ) (p : Polygon). patchBy k p t) (λ (k : Refusal). patching (Refused k) t) (λ k. refl) (λ (p : Polygon). polygonNumber p t) d
 
 -- the equation of the sizing call gives its number and places
 values : (limit : ℕ) (s : List ℕ) {x : Sizes} → x ≡ sizesFile limit s → (x ≡ sizesFile limit s) × ((numberOf x ≡ sizesNumber limit s) × (placesIn x ≡ duePlaces (sizesNumber limit s) (polygonOf s)))
@@ -66,12 +66,12 @@ unfolding sizesFile
 values limit s e = sizes-values (polygonOf s) (sizesNumber limit s) e
 
 module _ (limit : ℕ) (s : List ℕ) {r : Reading} where
-  pub sizes-refused : (k : ℕ) → r .status ≡ status.Refused k → r ≡ readingOf limit s →
-      (sizes.Refused k ≡ sizesFile limit s) × ((k ≡ sizesNumber limit s) × (noPlaces ≡ duePlaces (sizesNumber limit s) (polygonOf s)))
+  pub sizes-refused : {k : Refusal} → r .status ≡ status.Refused k → r ≡ readingOf limit s →
+      (sizes.Refused k ≡ sizesFile limit s) × ((k .number ≡ sizesNumber limit s) × (noPlaces ≡ duePlaces (sizesNumber limit s) (polygonOf s)))
   unfolding sizesFile
-  sizes-refused k d e = values limit s (by-refusal limit s e sizesBy (λ (k : ℕ). sizes.Refused k) (λ k. refl) (λ (p : Polygon). numberDue false p) k d)
+  sizes-refused d e = values limit s (by-refusal limit s e sizesBy (λ (k : Refusal). sizes.Refused k) (λ k. refl) (λ (p : Polygon). numberDue false p) d)
 
   pub sizes-read : {x : Sizes} → r .status ≡ status.Complete → r ≡ readingOf limit s → x ≡ sizesOf (r .polygon) →
       (x ≡ sizesFile limit s) × ((numberOf x ≡ sizesNumber limit s) × (placesIn x ≡ duePlaces (sizesNumber limit s) (polygonOf s)))
   unfolding sizesFile
-  sizes-read d e f = values limit s (f ∙ by-polygon limit s e sizesBy (λ (k : ℕ). sizes.Refused k) (λ k. refl) (λ (p : Polygon). numberDue false p) d)
+  sizes-read d e f = values limit s (f ∙ by-polygon limit s e sizesBy (λ (k : Refusal). sizes.Refused k) (λ k. refl) (λ (p : Polygon). numberDue false p) d)

@@ -7,6 +7,8 @@ use native.Mathlib.Omega.{arith}
 use borrow.Author.Tests.{ltb-false}
 use lib.Dec.{ltb}
 use lib.ListN.{length}
+use Rattle.codes.specs.declared.Refusal.{Refusal}
+use Rattle.codes.specs.Refusals.{refusal}
 use Rattle.lists.specs.Lists.{either, filled}
 use Rattle.lists.proofs.Choice.{true-not-false, either-left, either-neither, not-true-false}
 use Rattle.lists.proofs.Bools.{either-assoc}
@@ -41,7 +43,7 @@ module _ (p : Polygon) (triangles : List ℕ) (candidates : List (List ℕ)) (we
   asPatching f = patching (asOutcome (f .answer)) (tables triangles (f .candidates) (f .weights) (f .rows) work)
 
   -- the finder refuses: so does the call
-  pub find-refused : {f : Found} {k : ℕ} {c r : List (List ℕ)} {w : List ℕ} → f ≡ found.Refused k →
+  pub find-refused : {f : Found} {k : Refusal} {c r : List (List ℕ)} {w : List ℕ} → f ≡ found.Refused k →
       finding f c w r ≡ findBesideCall p (length triangles) (length work) candidates weights rows →
       patching (Refused k) (tables triangles c w r work) ≡ patchPolygon p (tables triangles candidates weights rows work)
   unfolding patchPolygon asOutcome asPatching
@@ -68,7 +70,7 @@ module _ (p : Polygon) (triangles : List ℕ) (candidates : List (List ℕ)) (we
     where
       by : (n : ℕ) → number ≡ n → finding (Lists x y) c w r ≡ findBy n p candidates weights rows → Lists-found x y c r w
       by (suc n) m d =
-          let f : Lists x y ≡ found.Refused (suc n) = ap (λ (g : Finding). g .answer) d in
+          let f : Lists x y ≡ found.Refused (refusal (suc n)) = ap (λ (g : Finding). g .answer) d in
           absurd (let z : _≡_ {A = ℕ} 0 1 = cc in omega arith)
       by zero m d =
           let f : Lists x y ≡ Lists (length (candidatesOf p)) (length (rowsIn p)) = ap (λ (g : Finding). g .answer) d in

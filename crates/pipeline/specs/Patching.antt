@@ -3,6 +3,7 @@ use mathlib.Core.Bool.{Bool}
 use mathlib.Core.List.{List}
 use Prim.Native.Nat.{ℕ, zero, suc, _-_}
 use lib.ListN.{length}
+use Rattle.codes.specs.Refusals.{refusal}
 use Rattle.lists.specs.Lists.{either, filled}
 use Rattle.polygon.specs.declared.Polygon.{Polygon}
 use Rattle.terms.specs.Numbers.{firstDue}
@@ -40,7 +41,7 @@ patching o t = record { outcome = o; left = t }
 
 -- a number changes no table (rule 4.30)
 abbrev pub refused : ℕ → Tables → Patching
-refused k t = patching (Refused k) t
+refused k t = patching (Refused (refusal k)) t
 
 -- the lists of a polygon, and the job that they state (rule 3.1)
 abbrev pub weightsIn : Polygon → List ℕ

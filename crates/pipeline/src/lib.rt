@@ -57,7 +57,7 @@ pub fn patch_polygon(
     let n = p.n;
     let found = finder::find_beside(p, triangles.len(), work.len(), candidates, weights, rows);
     match found {
-        Found::Refused(number) => Outcome::Refused(number),
+        Found::Refused(refusal) => Outcome::Refused(refusal),
         Found::Lists {
             candidates: count,
             rows: row_count,
@@ -91,7 +91,7 @@ pub fn patch_file(
     let status = reading.status;
     let p = reading.polygon;
     match status {
-        Status::Refused(number) => Outcome::Refused(number),
+        Status::Refused(refusal) => Outcome::Refused(refusal),
         Status::Complete => patch_polygon(p, triangles, candidates, weights, rows, work),
     }
 }
@@ -105,7 +105,7 @@ pub fn table_sizes(limit: usize, file: &[u8]) -> Sizes
     let status = reading.status;
     let p = reading.polygon;
     match status {
-        Status::Refused(number) => Sizes::Refused(number),
+        Status::Refused(refusal) => Sizes::Refused(refusal),
         Status::Complete => finder::table_sizes(p),
     }
 }

@@ -18,7 +18,7 @@ use Rattle.reader.specs.File.{areaFactor, bendFactor, recordCount, lengt
 use Rattle.reader.specs.Chain.{metBefore, overLimit, linkCode, recordCode, positionCode, codeFrom, endFrom, chainCode, vertexCount, verticesOf, normalsOf}
 use Rattle.reader.specs.Chain as chain
 use Rattle.reader.specs.Steps.{walked, chainOf}
-use Rattle.reader.specs.Reading.{fileCode, numberDue, polygonOf, refusal, answer, readingOf, statusNumber}
+use Rattle.reader.specs.Reading.{fileCode, numberDue, polygonOf, refusedReading, answer, readingOf, statusNumber}
 use Rattle.reader.specs.declared.Chain.{Chain}
 use Rattle.reader.specs.declared.Reading.{Reading}
 use Rattle.reader.specs.declared.Status.the-variants.{Complete}
@@ -126,7 +126,7 @@ limit-most limit f = leb-true limit maxVertices (both-right (leb 3 limit) (leb l
 
 module _ (limit : ℕ) (s : List ℕ) where
   -- a number that is due is the answer
-  pub answer-refused : (k : ℕ) → 0 < k → numberDue limit s ≡ k → refusal k ≡ readingOf limit s
+  pub answer-refused : (k : ℕ) → 0 < k → numberDue limit s ≡ k → refusedReading k ≡ readingOf limit s
   answer-refused zero h e = absurd (omega arith)
   answer-refused (suc k) h e = sym (ap (λ (j : ℕ). answer j (polygonOf s)) e)
 

@@ -3,6 +3,7 @@ use Prim.Native.Nat.{ℕ, zero, suc}
 use mathlib.Core.Bool.{cond}
 use mathlib.Core.List.{List}
 use lib.Dec.{ltb}
+use Rattle.codes.specs.Refusals.{refusal}
 use Rattle.terms.specs.Limits.{minVertices, maxAreaFactor, countFits}
 use Rattle.polygon.specs.Polygon.{emptyPolygon, repeatedVertex}
 use Rattle.terms.specs.Numbers.{firstDue}
@@ -40,16 +41,16 @@ polygonOf s = record {
 -- the number of each case of the answer (rule 5.2)
 abbrev pub statusNumber : Status → ℕ
 statusNumber Complete = 0
-statusNumber (Refused k) = k
+statusNumber (Refused r) = r .number
 
 -- the answer that gives a number (rule 4.30): with no polygon
-abbrev pub refusal : ℕ → Reading
-refusal k = record { status = Refused k; polygon = emptyPolygon }
+abbrev pub refusedReading : ℕ → Reading
+refusedReading k = record { status = Refused (refusal k); polygon = emptyPolygon }
 
 -- the answer with a number that is due, and with none (rule 5.1)
 abbrev pub answer : ℕ → Polygon → Reading
 answer zero p = record { status = Complete; polygon = p }
-answer (suc k) p = refusal (suc k)
+answer (suc k) p = refusedReading (suc k)
 
 abbrev pub readingOf : ℕ → List ℕ → Reading
 readingOf limit s = answer (numberDue limit s) (polygonOf s)

@@ -8,7 +8,8 @@ mod walk;
 ghost use mathlib.Core.Path.{_≡_};
 ghost use mathlib.Core.Bool.{true};
 ghost use Rattle.terms.specs.Limits.{countFits};
-ghost use Rattle.reader.specs.Reading.{refusal, readingOf, statusNumber, numberDue};
+ghost use Rattle.reader.specs.Reading.{refusedReading, readingOf, statusNumber, numberDue};
+use codes::Refusal;
 use grid::GridPoint;
 use polygon::Polygon;
 use polygon::normal::Normal;
@@ -76,7 +77,7 @@ struct Chain {
 
 pub enum Status {
     Complete,
-    Refused(u32),
+    Refused(Refusal),
 }
 
 impl Status {
@@ -86,7 +87,7 @@ impl Status {
     {
         match self {
             Status::Complete => 0,
-            Status::Refused(code) => code,
+            Status::Refused(refusal) => refusal.number,
         }
     }
 }
@@ -98,10 +99,10 @@ pub struct Reading {
 }
 
 fn refused(code: u32) -> Reading
-    ensures { λ r. ⌜ r ≡ refusal code ⌝ }
+    ensures { λ r. ⌜ r ≡ refusedReading code ⌝ }
 {
     Reading {
-        status: Status::Refused(code),
+        status: Status::Refused(Refusal::new(code)),
         polygon: Polygon::empty(),
     }
 }

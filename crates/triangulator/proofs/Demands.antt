@@ -5,6 +5,7 @@ use mathlib.Core.List.{List}
 use native.Mathlib.Omega.{arith}
 use lib.ListN.{length}
 use borrow.Author.Tests.{eq-eqb, ne-eqb}
+use Rattle.codes.specs.Refusals.{refusal}
 use Rattle.lists.proofs.Choice.{yes, no}
 use Rattle.lists.proofs.Writing.{filled-take}
 use Rattle.triangulation.specs.Triangulations.{Job, Valid, Answer, none, patch, best}
@@ -30,7 +31,7 @@ pub settled-taken : (a : Answer) (count : ℕ) (triangles work : List ℕ) → T
 settled-taken none count triangles work = a-none
 settled-taken (patch total l) count triangles work = a-patch
 
-not-taken : {o : Outcome} {k : ℕ} → o ≡ Refused k → Taken o → ⊥
+not-taken : {o : Outcome} {k : ℕ} → o ≡ Refused (refusal k) → Taken o → ⊥
 not-taken e a-patch = let z : _≡_ {A = ℕ} 0 1 = cc in omega arith
 not-taken e a-none = let z : _≡_ {A = ℕ} 0 1 = cc in omega arith
 
@@ -45,8 +46,8 @@ settled-handed job good count triangles work = go (best job) (demand3 job good .
         let b = handed-back job good total l (h total l refl) in
         with-patch {total = total} (b .count) (rw (part-patch l triangles total) b)
 
-pub refused-handed : (job : Job) (number : ℕ) (triangles : List ℕ) → Handed job (partOf (Refused number) triangles) (Refused number)
-refused-handed job number triangles = with-refusal (part-empty (Refused number) triangles refl)
+pub refused-handed : (job : Job) (number : ℕ) (triangles : List ℕ) → Handed job (partOf (Refused (refusal number)) triangles) (Refused (refusal number))
+refused-handed job number triangles = with-refusal (part-empty (Refused (refusal number)) triangles refl)
 
 -- what is handed back with a patch
 pub patch-handed : {job : Job} {part : List ℕ} {count total : ℕ} → Handed job part (Patch count total) → HandedBack job total part
@@ -63,9 +64,9 @@ module _ (n : ℕ) (candidates : List (List ℕ)) (weights : List ℕ) (rows : L
   unfolding call number triangulated
   settled-call e = yes _ _ (eq-eqb number 0 e)
 
-  refused-call : (k : ℕ) → number ≡ suc k → call ≡ result (Refused (suc k)) triangles work
+  refused-call : (k : ℕ) → number ≡ suc k → call ≡ result (Refused (refusal (suc k))) triangles work
   unfolding call number triangulated
-  refused-call k e = no _ _ (ne-eqb number 0 (λ z. omega (arith, e, z))) ∙ ap (λ (j : ℕ). result (Refused j) triangles work) e
+  refused-call k e = no _ _ (ne-eqb number 0 (λ z. omega (arith, e, z))) ∙ ap (λ (j : ℕ). result (Refused (refusal j)) triangles work) e
 
   -- an accepted job ends in a patch or 'none', and no other does (rule 4.33)
   pub job-taken : Accepted n candidates weights rows (length triangles) (length work) → Taken (triangulated n candidates weights rows triangles work .outcome)
@@ -84,15 +85,15 @@ module _ (n : ℕ) (candidates : List (List ℕ)) (weights : List ℕ) (rows : L
 
   -- every other is refused with the first number due, and every table holds what it held (rules 4.30, 4.32)
   pub job-refused : (k : ℕ) → FirstDue n candidates weights rows (length triangles) (length work) k →
-      triangulated n candidates weights rows triangles work ≡ result (Refused k) triangles work
+      triangulated n candidates weights rows triangles work ≡ result (Refused (refusal k)) triangles work
   unfolding call number
   job-refused k d = by k (due-code n candidates weights rows (length triangles) (length work) k d) (d .due)
     where
-      by : (k : ℕ) → number ≡ k → Due n candidates weights rows (length triangles) (length work) k → call ≡ result (Refused k) triangles work
+      by : (k : ℕ) → number ≡ k → Due n candidates weights rows (length triangles) (length work) k → call ≡ result (Refused (refusal k)) triangles work
       by zero e d = absurd (zero-accepted n candidates weights rows (length triangles) (length work) e 0 d)
       by (suc k) e d = refused-call k e
 
-  pub job-refused-only : (k : ℕ) → triangulated n candidates weights rows triangles work .outcome ≡ Refused k → FirstDue n candidates weights rows (length triangles) (length work) k
+  pub job-refused-only : (k : ℕ) → triangulated n candidates weights rows triangles work .outcome ≡ Refused (refusal k) → FirstDue n candidates weights rows (length triangles) (length work) k
   unfolding call number
   job-refused-only k r = by number refl
     where

@@ -9,6 +9,7 @@ use lib.ListN.{length, take, drop, replicate, length-append}
 use lib.Dec.{leb}
 use lib.Seq.{take-at}
 use borrow.Author.Tests.{le-leb}
+use Rattle.codes.specs.Refusals.{refusal}
 use Rattle.lists.specs.Lists.{filled}
 use Rattle.lists.proofs.Choice.{yes}
 use Rattle.triangulation.specs.Triangulations.{Answer, answerOf}
@@ -35,7 +36,7 @@ module _ (n count : ℕ) (t w : List ℕ) {t′ w′ : List ℕ} where
   )
 
 -- the values of a refusal
-pub refused-values : (k number n : ℕ) (a : Answer) → k ≡ number → (number ≡ 0 → ⊥) → valuesOf (Refused k) ≡ dueValues number n a
+pub refused-values : (k number n : ℕ) (a : Answer) → k ≡ number → (number ≡ 0 → ⊥) → valuesOf (Refused (refusal k)) ≡ dueValues number n a
 refused-values k zero n a e h = absurd (h refl)
 refused-values k (suc number) n a e h = ap (λ j. values j 0 0) e
 

@@ -4,6 +4,7 @@ use mathlib.Core.Bool.{cond}
 use mathlib.Core.List.{List}
 use lib.ListN.{length, replicate}
 use lib.Dec.{eqb}
+use Rattle.codes.specs.Refusals.{refusal}
 use Rattle.lists.specs.Lists.{filled, firstPlaces}
 use Rattle.triangulation.specs.Triangulations.{Answer, none, patch, best}
 use Rattle.triangulation.specs.Jobs.{jobOf}
@@ -15,17 +16,17 @@ use Rattle.triangulator.specs.declared.Outcome.the-variants.{Patch, None
 abbrev pub numberOf : Outcome → ℕ
 numberOf (Patch count total) = 0
 numberOf None = 0
-numberOf (Refused number) = number
+numberOf (Refused r) = r .number
 
 abbrev pub trianglesOf : Outcome → ℕ
 trianglesOf (Patch count total) = count
 trianglesOf None = 0
-trianglesOf (Refused number) = 0
+trianglesOf (Refused r) = 0
 
 abbrev pub totalOf : Outcome → ℕ
 totalOf (Patch count total) = total
 totalOf None = 0
-totalOf (Refused number) = 0
+totalOf (Refused r) = 0
 
 -- the three together (rule 5.2)
 pub record Values : Type 0 where
@@ -69,7 +70,7 @@ settled (patch total l) count triangles work = result (Patch (length l) total) (
 
 -- a refusal changes no table (rule 4.30), and comes before a patch and 'none' (rule 4.33)
 abbrev pub refusedOr : ℕ → List ℕ → List ℕ → Result → Result
-refusedOr number triangles work otherwise = cond (eqb number 0) otherwise (result (Refused number) triangles work)
+refusedOr number triangles work otherwise = cond (eqb number 0) otherwise (result (Refused (refusal number)) triangles work)
 
 -- the call for a direct job, by the first number due on it (rule 4.32)
 unfoldable pub triangulated : ℕ → List (List ℕ) → List ℕ → List (List ℕ) → List ℕ → List ℕ → Result

@@ -3,6 +3,7 @@ use mathlib.Core.Path.{_≡_}
 use mathlib.Core.List.{List, []}
 use Prim.Native.Nat.{ℕ, _-_}
 use lib.ListN.{take}
+use Rattle.codes.specs.Refusals.{refusal}
 use Rattle.triangulation.specs.Triangulations.{Job, Answer, none, patch}
 use Rattle.triangulation.specs.Demand3.{HandedBack}
 use Rattle.triangulator.specs.declared.Outcome.{Outcome}
@@ -13,7 +14,7 @@ use Rattle.triangulator.specs.declared.Outcome.the-variants.{Patch, None
 abbrev pub stated : Outcome → List ℕ → Answer
 stated (Patch count total) table = patch total (take count table)
 stated None table = none
-stated (Refused number) table = none
+stated (Refused r) table = none
 
 -- the outcome is a patch or 'none' (rule 4.33)
 pub data Taken : Outcome → Type 0 where
@@ -24,4 +25,4 @@ pub data Taken : Outcome → Type 0 where
 pub data Handed (job : Job) (part : List ℕ) : Outcome → Type 0 where
   with-patch : {count total : ℕ} → count ≡ job .n - 2 → HandedBack job total part → Handed job part (Patch count total)
   with-none : part ≡ [] → Handed job part None
-  with-refusal : {number : ℕ} → part ≡ [] → Handed job part (Refused number)
+  with-refusal : {number : ℕ} → part ≡ [] → Handed job part (Refused (refusal number))

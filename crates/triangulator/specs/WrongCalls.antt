@@ -1,6 +1,7 @@
 -- What wrong tilers would answer and leave on the direct jobs of rules 6.1 to 6.3. That none of it is right is proved (proofs/WrongCalls.antt); nobody has to believe it.
 use mathlib.Core.List.{List, [], _∷_}
 use Prim.Native.Nat.{ℕ}
+use Rattle.codes.specs.Refusals.{refusal}
 use Rattle.terms.specs.Entries.{triple}
 use Rattle.triangulator.specs.declared.Outcome.the-variants.{Patch, None, Refused}
 use Rattle.triangulator.specs.Call.{Result, result}
@@ -37,5 +38,5 @@ wrongCalls =
     -- the least area, with the rows added afterwards
     ∷ call (ties (triple 1 3 1 ∷ [])) (result (Patch 2 3) (1 ∷ 3 ∷ 9 ∷ []) cleared)
     -- a refusal that clears the work table
-    ∷ call (ties (triple 1 0 1 ∷ [])) (result (Refused 16) (9 ∷ 9 ∷ 9 ∷ []) cleared)
+    ∷ call (ties (triple 1 0 1 ∷ [])) (result (Refused (refusal 16)) (9 ∷ 9 ∷ 9 ∷ []) cleared)
     ∷ []

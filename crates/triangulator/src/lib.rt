@@ -1,4 +1,5 @@
 // The tiler: the best triangulation of a direct job, or the first number that is due.
+use codes::Refusal;
 ghost use mathlib.Core.Path.{_≡_};
 ghost use Prim.Native.Nat.{_+_, _≤_};
 ghost use lib.ListN.{length};
@@ -8,11 +9,11 @@ ghost use Rattle.minimum_weight.specs.Tables.{WellFormed};
 ghost use Rattle.jobs.specs.Job.{jobCode};
 ghost use Rattle.triangulator.specs.Call.{numberOf, trianglesOf, totalOf, valuesOf, answerValues, dueValues, partOf, result, settled, triangulated};
 
-// A patch with the number of its triangles and its total, 'none', or the number of a refusal.
+// A patch with the number of its triangles and its total, 'none', or a refusal.
 pub enum Outcome {
     Patch { triangles: usize, total: u64 },
     None,
-    Refused(u32),
+    Refused(Refusal),
 }
 
 impl Outcome {
@@ -26,7 +27,7 @@ impl Outcome {
                 total: _,
             } => 0,
             Outcome::None => 0,
-            Outcome::Refused(number) => number,
+            Outcome::Refused(refusal) => refusal.number,
         }
     }
 
@@ -96,7 +97,7 @@ pub fn triangulate(
 {
     let number = jobs::job_code(n, candidates, weights, rows, triangles.len(), work.len());
     if number != 0 {
-        return Outcome::Refused(number);
+        return Outcome::Refused(Refusal::new(number));
     }
     best_triangulation(n, candidates, weights, rows, triangles, work)
 }

@@ -87,10 +87,13 @@ module _ (c : tie.After-conversion-code) where
   fits : c .conversion-code .result ≡ 0 → length (converted file) ≤ length out
   fits e = ltb-false (length out) (length (converted file)) (not-short (ltb (length out) (length (converted file))) (normalLost file) (sym code-is ∙ e))
 
+new-requires : tie.Need-new-requires
+new-requires c κs = search needs
+
 returns : tie.Need-returns
 returns c =
-    let e = c .before in
-    refused-by (file e) (out e) (e .conversion-code .result) (c .if1 .taken) (code-is e)
+    let e = c .before .before in
+    refused-by (file e) (out e) (e .conversion-code .result) (c .new .ensures) (c .before .if1 .taken) (code-is e)
 
 write-file-requires : tie.Need-write-file-requires
 write-file-requires c κs =
@@ -129,6 +132,7 @@ carry-spec =
     record-start-requires
     has-normal-requires
     conversion-code-requires
+    new-requires
     returns
     write-file-requires
     same-length

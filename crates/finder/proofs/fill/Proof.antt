@@ -35,34 +35,62 @@ module _ (g : tie.After-count-places) where
   rows-are : g .count-places .result .rows ≡ length (rowsOf (begin .args .p) triangles)
   rows-are = ap (λ (x : Places). x .rows) (g .count-places .ensures) ∙ sym (row-count (begin .args .p) triangles)
 
+new-requires : tie.Need-new-requires
+new-requires c κs = search needs
+
 returns : tie.Need-returns
 unfolding fillOr13
-returns c = sym (yes _ _ (gt-via (triangles-are (c .before)) (c .if1 .taken)))
+returns c =
+    let h = c .before in
+    rw (c .new .ensures) (sym (yes _ _ (gt-via (triangles-are (h .before)) (h .if1 .taken))))
+
+new-requires-2 : tie.Need-new-requires-2
+new-requires-2 c κs = search needs
 
 returns-2 : tie.Need-returns-2
 unfolding fillOr13
-returns-2 c = sym (no _ _ (ge-via (triangles-are (c .before .before)) (c .before .if1 .left)) ∙ yes _ _ (gt-via (count-is (c .before .before)) (c .if2 .taken)))
+returns-2 c =
+    let h = c .before in
+    let g = h .before .before in
+    rw (c .new2 .ensures) (sym (no _ _ (ge-via (triangles-are g) (h .before .if1 .left)) ∙ yes _ _ (gt-via (count-is g) (h .if2 .taken))))
+
+new-requires-3 : tie.Need-new-requires-3
+new-requires-3 c κs = search needs
 
 returns-3 : tie.Need-returns-3
 unfolding fillOr13
 returns-3 c =
-    let g = c .before .before .before in
+    let h = c .before in
+    let g = h .before .before .before in
     let n = count-is g in
-    sym (no _ _ (ge-via (triangles-are g) (c .before .before .if1 .left)) ∙ no _ _ (ge-via n (c .before .if2 .left)) ∙ yes _ _ (gt-via n (c .if3 .taken)))
+    rw (c .new3 .ensures)
+    (sym (no _ _ (ge-via (triangles-are g) (h .before .before .if1 .left)) ∙ no _ _ (ge-via n (h .before .if2 .left)) ∙ yes _ _ (gt-via n (h .if3 .taken))))
+
+new-requires-4 : tie.Need-new-requires-4
+new-requires-4 c κs = search needs
 
 returns-4 : tie.Need-returns-4
 unfolding fillOr13
 returns-4 c =
-    let g = c .before .before .before .before in
+    let h = c .before in
+    let g = h .before .before .before .before in
     let n = count-is g in
-    sym (no _ _ (ge-via (triangles-are g) (c .before .before .before .if1 .left)) ∙ no _ _ (ge-via n (c .before .before .if2 .left)) ∙ no _ _ (ge-via n (c .before .if3 .left)) ∙ yes _ _ (gt-via n (c .if4 .taken)))
+    rw (c .new4 .ensures)
+    (sym (no _ _ (ge-via (triangles-are g) (h .before .before .before .if1 .left)) ∙ no _ _ (ge-via n (h .before .before .if2 .left))
+    ∙ no _ _ (ge-via n (h .before .if3 .left)) ∙ yes _ _ (gt-via n (h .if4 .taken))))
+
+new-requires-5 : tie.Need-new-requires-5
+new-requires-5 c κs = search needs
 
 returns-5 : tie.Need-returns-5
 unfolding fillOr13
 returns-5 c =
-    let g = c .before .before .before .before .before in
+    let h = c .before in
+    let g = h .before .before .before .before .before in
     let n = count-is g in
-    sym (no _ _ (ge-via (triangles-are g) (c .before .before .before .before .if1 .left)) ∙ no _ _ (ge-via n (c .before .before .before .if2 .left)) ∙ no _ _ (ge-via n (c .before .before .if3 .left)) ∙ no _ _ (ge-via n (c .before .if4 .left)) ∙ yes _ _ (gt-via (rows-are g) (c .if5 .taken)))
+    rw (c .new5 .ensures)
+    (sym (no _ _ (ge-via (triangles-are g) (h .before .before .before .before .if1 .left)) ∙ no _ _ (ge-via n (h .before .before .before .if2 .left))
+    ∙ no _ _ (ge-via n (h .before .before .if3 .left)) ∙ no _ _ (ge-via n (h .before .if4 .left)) ∙ yes _ _ (gt-via (rows-are g) (h .if5 .taken))))
 
 write-lists-requires : tie.Need-write-lists-requires
 write-lists-requires c κs =
@@ -101,10 +129,15 @@ fill-spec =
     tie.close
     (tie.spec
     count-places-requires
+    new-requires
     returns
+    new-requires-2
     returns-2
+    new-requires-3
     returns-3
+    new-requires-4
     returns-4
+    new-requires-5
     returns-5
     write-lists-requires
     same-length

@@ -26,10 +26,16 @@ values : (s : tie.Start) {x : Found} {c r : List (List ℕ)} {w : List ℕ} →
 values s e =
     values-found (s .args .p) (besideNumber (s .args .p) (s .args .triangle-places) (s .args .work-places) (s .args .candidates .now) (s .args .weights .now) (s .args .rows .now)) (s .args .candidates .now) (s .args .weights .now) (s .args .rows .now) e
 
+new-requires : tie.Need-new-requires
+new-requires c κs = search needs
+
 returns : tie.Need-returns
 returns c =
-    let s = c .before .before .before .before in
-    values s (find-refused (s .args .p) (s .args .triangle-places) (s .args .work-places) (s .args .candidates .now) (s .args .weights .now) (s .args .rows .now) _ (c .before .search .ensures .is-due) (c .if1 .taken))
+    let h = c .before in
+    let s = h .before .before .before .before in
+    values s
+    (find-refused (s .args .p) (s .args .triangle-places) (s .args .work-places) (s .args .candidates .now) (s .args .weights .now) (s .args .rows .now) _
+    (c .new .ensures) (h .before .search .ensures .is-due) (h .if1 .taken))
 
 -- no number is due so far
 module _ (g : tie.Else1) where
@@ -75,6 +81,7 @@ find-beside-spec =
     tie.close
     (tie.spec
     search-requires
+    new-requires
     returns
     fill-requires
     same-length

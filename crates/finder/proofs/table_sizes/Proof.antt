@@ -12,10 +12,14 @@ use Rattle.finder.proofs.table_sizes.Tie as tie
 search-requires : tie.Need-search-requires
 search-requires c κs = search needs
 
+new-requires : tie.Need-new-requires
+new-requires c κs = search needs
+
 returns : tie.Need-returns
 returns c =
-    let p = c .before .before .before .args .p in
-    sizes-values p (numberDue false p) (sizes-refused p _ (c .before .search .ensures .is-due) (c .if1 .taken))
+    let h = c .before in
+    let p = h .before .before .before .args .p in
+    sizes-values p (numberDue false p) (sizes-refused p _ (c .new .ensures) (h .before .search .ensures .is-due) (h .if1 .taken))
 
 none-due : (g : tie.Else1) → numberDue false (g .before .before .before .args .p) ≡ 0
 none-due g = sym (g .before .search .ensures .is-due) ∙ g .if1 .left
@@ -34,4 +38,4 @@ returns-2 c =
     (sizes-known p (none-due g) (g .before .search .ensures .listed (g .if1 .left)) (c .count-places .ensures))
 
 pub table-sizes-spec : {M : Type 1} → statement M
-table-sizes-spec = tie.close (tie.spec search-requires returns count-places-requires returns-2)
+table-sizes-spec = tie.close (tie.spec search-requires new-requires returns count-places-requires returns-2)

@@ -25,9 +25,14 @@ job s = jobOf (s .args .n) (s .args .candidates .now) (s .args .weights .now) (s
 code-without-triangles-requires : tie.Need-code-without-triangles-requires
 code-without-triangles-requires c κs = search needs
 
+new-requires : tie.Need-new-requires
+new-requires c κs = search needs
+
 returns : tie.Need-returns
 unfolding judged judgeCode
-returns c = settle-refused _ _ _ _ _ (sym (due-here _ (c .before .code-without-triangles .ensures) (c .if1 .taken))) (c .if1 .taken)
+returns c =
+    let g = c .before in
+    settle-refused _ _ _ _ _ (c .new .ensures) (sym (due-here _ (g .before .code-without-triangles .ensures) (g .if1 .taken))) (g .if1 .taken)
 
 -- the job is accepted: the call, and what the dynamic programme needs
 module _ (g : tie.Else1) where
@@ -51,11 +56,16 @@ module _ (g : tie.Else2) where
 list-code-requires : tie.Need-list-code-requires
 list-code-requires c κs = let w = formed c .0 in (w .valid, w .bounded .few, w .weights-there, w .rows-ascend)
 
+new-requires-2 : tie.Need-new-requires-2
+new-requires-2 c κs = search needs
+
 returns-2 : tie.Need-returns-2
 unfolding judged judgeCode
 returns-2 c =
-    let g = c .before .before in
-    settle-refused _ _ _ _ _ (c .before .list-code .ensures ∙ sym (due-on _ (sym (g .before .code-without-triangles .ensures) ∙ g .if1 .left))) (c .if2 .taken)
+    let h = c .before in
+    let g = h .before .before in
+    settle-refused _ _ _ _ _ (c .new2 .ensures)
+    (h .before .list-code .ensures ∙ sym (due-on _ (sym (g .before .code-without-triangles .ensures) ∙ g .if1 .left))) (h .if2 .taken)
 
 block-starts-requires : tie.Need-block-starts-requires
 block-starts-requires c κs = formed (of-job c) .0 .ascending .by-first
@@ -66,8 +76,8 @@ least-total-requires c κs = let f = formed (of-job (c .before .before .before))
 clear-requires : tie.Need-clear-requires
 clear-requires c κs = omega (arith, formed (of-job (c .before .before .before .before .before .before .before)) .1, c .before .before .before .least-total .ensures .1 .long)
 
-sub-t21 : tie.Need-sub-t21
-sub-t21 c =
+sub-excess : tie.Need-sub-excess
+sub-excess c =
     let g = c .before .before .before .before .before .before .before .before .before .before in
     let s = call (of-job g) in
     let a = acceptable g in
@@ -94,12 +104,14 @@ judge-spec =
     tie.close
     (tie.spec
     code-without-triangles-requires
+    new-requires
     returns
     list-code-requires
+    new-requires-2
     returns-2
     block-starts-requires
     least-total-requires
     clear-requires
-    sub-t21
+    sub-excess
     same-length
     returns-3)

@@ -24,7 +24,7 @@ returns c =
     let s = c .before .before .before .before .before .before .before .before .before in
     let t = (tables (now (s .args .triangles)) (now (s .args .candidates)) (now (s .args .weights)) (now (s .args .rows)) (now (s .args .work))) in
     file-values (s .args .limit) (now (s .args .file)) t
-    (file-refused (s .args .limit) (now (s .args .file)) t _ (c .before .status .given .1) (c .before .before .before .before .read-polygon .ensures .0))
+    (file-refused (s .args .limit) (now (s .args .file)) t (c .before .status .given .1) (c .before .before .before .before .read-polygon .ensures .0))
 
 same-length : tie.Need-same-length
 same-length c = search needs

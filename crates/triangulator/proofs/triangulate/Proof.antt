@@ -2,11 +2,13 @@
 use Prim.Native.Nat.{ℕ}
 use mathlib.Core.Path.{sym, ap, _∙_}
 use borrow.Author.Tests.{eq-eqb, ne-eqb}
+use Rattle.codes.specs.declared.Refusal.{Refusal}
+use Rattle.codes.specs.Refusals.{refusal}
 use Rattle.lists.proofs.Choice.{yes, no}
 use Rattle.triangulator.specs.declared.Outcome.the-variants.{Refused}
 use Rattle.triangulation.specs.Triangulations.{best}
 use Rattle.triangulation.specs.Jobs.{jobOf}
-use Rattle.triangulator.specs.Call.{result, triangulated, dueValues}
+use Rattle.triangulator.specs.Call.{result, triangulated, valuesOf, dueValues}
 use Rattle.triangulator.proofs.Accepting.{accepted-well-formed}
 use Rattle.triangulator.proofs.Settling.{refused-values}
 use borrow.Author.Needs.{needs}
@@ -16,13 +18,18 @@ use Rattle.triangulator.proofs.triangulate.Tie as tie
 job-code-requires : tie.Need-job-code-requires
 job-code-requires c κs = search needs
 
+new-requires : tie.Need-new-requires
+new-requires c κs = search needs
+
 returns : tie.Need-returns
 unfolding triangulated
 returns c =
-    let s = c .before .before .before .before .before in
-    let e = c .before .job-code .ensures in (
-      ap (λ (k : ℕ). result (Refused k) (s .args .triangles .now) (s .args .work .now)) e ∙ sym (no _ _ (ne-eqb _ 0 (λ z. c .if1 .taken (e ∙ z)))),
-      refused-values _ _ (s .args .n) _ e (λ z. c .if1 .taken (e ∙ z)),
+    let b = c .before in
+    let s = b .before .before .before .before .before in
+    let e = b .before .job-code .ensures in (
+      ap (λ (r : Refusal). result (Refused r) (s .args .triangles .now) (s .args .work .now)) (c .new .ensures ∙ ap refusal e)
+          ∙ sym (no _ _ (ne-eqb _ 0 (λ z. b .if1 .taken (e ∙ z)))),
+      ap (λ (r : Refusal). valuesOf (Refused r)) (c .new .ensures) ∙ refused-values _ _ (s .args .n) _ e (λ z. b .if1 .taken (e ∙ z)),
     )
 
 best-triangulation-requires : tie.Need-best-triangulation-requires
@@ -50,6 +57,7 @@ triangulate-spec =
     tie.close
     (tie.spec
     job-code-requires
+    new-requires
     returns
     best-triangulation-requires
     same-length
