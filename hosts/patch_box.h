@@ -51,13 +51,13 @@ enum {
 /* Why a call refused: the values of the field `number`. */
 enum {
     PATCH_BOX_ACCEPTED = 0,             /* not refused */
-    PATCH_BOX_LENGTH = 1,               /* the length of the file does not fit its record count, or the count is over 256 */
+    PATCH_BOX_LENGTH = 1,               /* the length of the file is not that of a header and its records, or these are over 256 */
     PATCH_BOX_AREA_FACTOR = 2,          /* the area factor is more than 16 */
     PATCH_BOX_LINK = 3,                 /* a link leads past the last record */
     PATCH_BOX_RECORD_REPEATED = 4,      /* a link leads back to a record of the chain */
-    PATCH_BOX_TOO_MANY_VERTICES = 5,    /* the chain has more than 64 records */
-    PATCH_BOX_KIND = 6,                 /* a record is neither a point nor a level point */
-    PATCH_BOX_NO_HEIGHT = 7,            /* a level point comes before any point */
+    PATCH_BOX_TOO_MANY_VERTICES = 5,    /* the limit is 64, and the chain has more records */
+    PATCH_BOX_KIND = 6,                 /* a record of the chain is neither a point nor a level point */
+    PATCH_BOX_NO_HEIGHT = 7,            /* a level point has no point before it on the chain */
     PATCH_BOX_NOT_FINITE = 8,           /* a coordinate is not finite, or the unused bytes of a level point are not zero */
     PATCH_BOX_OUT_OF_RANGE = 9,         /* a coordinate is not from -125 to 125 mm */
     PATCH_BOX_TOO_FEW_VERTICES = 10,    /* the rim has fewer than 3 vertices */
@@ -68,9 +68,9 @@ enum {
     PATCH_BOX_CANDIDATE = 15,           /* the candidates of a direct job are not vertices a < b < c < n in rising order */
     PATCH_BOX_ROW = 16,                 /* the rows of a direct job are not hanging pairs in rising order */
     PATCH_BOX_WEIGHT = 17,              /* a weight of a direct job is more than 2,000,000,000 */
-    PATCH_BOX_NORMAL = 18,              /* a number of a normal is not from -1000 to 1000 */
+    PATCH_BOX_NORMAL = 18,              /* a number of the normal of a vertex is not from -1000 to 1000 */
     PATCH_BOX_NORMAL_LOST = 19,         /* a normal would be lost: a record of the file to convert has one that is not zero */
-    PATCH_BOX_OVER_LIMIT = 20,          /* the chain has more records than the limit asked for */
+    PATCH_BOX_OVER_LIMIT = 20,          /* the limit is below 64, and the chain has more records */
     PATCH_BOX_NOT_A_TRIANGULATION = 21, /* the list to judge is not a triangulation, or names a candidate twice */
     PATCH_BOX_WRONG_TOTAL = 22          /* the total stated for the list to judge is not its own */
 };

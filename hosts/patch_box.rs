@@ -133,13 +133,14 @@ macro_rules! numbers {
 }
 
 numbers! {
-    Length = 1, "the length of the file does not fit its record count, or the count is over 256";
+    Length = 1,
+        "the length of the file is not that of a header and its records, or these are over 256";
     AreaFactor = 2, "the area factor is more than 16";
     Link = 3, "a link leads past the last record";
     RecordRepeated = 4, "a link leads back to a record of the chain";
-    TooManyVertices = 5, "the chain has more than 64 records";
-    Kind = 6, "a record is neither a point nor a level point";
-    NoHeight = 7, "a level point comes before any point";
+    TooManyVertices = 5, "the limit is 64, and the chain has more records";
+    Kind = 6, "a record of the chain is neither a point nor a level point";
+    NoHeight = 7, "a level point has no point before it on the chain";
     NotFinite = 8, "a coordinate is not finite, or the unused bytes of a level point are not zero";
     OutOfRange = 9, "a coordinate is not from -125 to 125 mm";
     TooFewVertices = 10, "the rim has fewer than 3 vertices";
@@ -152,9 +153,9 @@ numbers! {
     Candidate = 15, "the candidates of a direct job are not vertices a < b < c < n in rising order";
     Row = 16, "the rows of a direct job are not hanging pairs in rising order";
     Weight = 17, "a weight of a direct job is more than 2,000,000,000";
-    Normal = 18, "a number of a normal is not from -1000 to 1000";
+    Normal = 18, "a number of the normal of a vertex is not from -1000 to 1000";
     NormalLost = 19, "a normal would be lost: a record of the file to convert has one that is not zero";
-    OverLimit = 20, "the chain has more records than the limit asked for";
+    OverLimit = 20, "the limit is below 64, and the chain has more records";
     NotATriangulation = 21, "the list to judge is not a triangulation, or names a candidate twice";
     WrongTotal = 22, "the total stated for the list to judge is not its own";
 }
