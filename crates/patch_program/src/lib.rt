@@ -1,11 +1,12 @@
-// What the programs bench and trim do: they close the gap of the rim file on standard input, of either edition, and differ in their limit (rules 5.3, 5.4,
-// 5.9).
+// What the programs bench and trim do with the rim file that they read, of either edition: they close its gap and print the patch, and differ in their
+// limit (rules 5.3, 5.4, 5.9).
 mod hanging;
 mod output;
 
-use programs::input;
 use triangulator::Outcome;
-ghost use Rattle.patch_program.specs.Run.{Closes};
+ghost use mathlib.Core.Path.{_≡_};
+ghost use Rattle.pipeline.specs.Patching.{patchFile};
+ghost use Rattle.patch_program.specs.Run.{emptyTables};
 
 // Places of the tables. A rim of 64 points has at most 62 triangles; a few rims need more of the others than there is (rule 5.3).
 const TRIANGLES: usize = 62;
@@ -14,12 +15,10 @@ const CANDIDATES: usize = 1024;
 
 const ROWS: usize = 4096;
 
-// Closes the rim on standard input and prints its patch; answers what came of it.
-pub fn run(limit: usize) -> Outcome
-    ensures { λ r. ⌜ Closes limit r ⌝ }
+// Closes the rim of a file and prints its patch; answers what came of it.
+pub fn run(limit: usize, file: &[u8]) -> Outcome
+    ensures { λ r. ⌜ r ≡ patchFile limit (now (file .entry)) emptyTables .outcome ⌝ }
 {
-    let mut file = [0u8; input::BUFFER];
-    let length = input::read(&mut file);
     let mut triangles = [0u16; TRIANGLES];
     let mut candidates = [[0u8; 3]; CANDIDATES];
     let mut weights = [0u32; CANDIDATES];
@@ -27,7 +26,7 @@ pub fn run(limit: usize) -> Outcome
     let mut work = [0u64; CANDIDATES];
     let outcome = pipeline::patch_file(
         limit,
-        &file[..length],
+        file,
         &mut triangles,
         &mut candidates,
         &mut weights,

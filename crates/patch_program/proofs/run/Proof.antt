@@ -5,15 +5,6 @@ use borrow.Author.Needs.{needs}
 use Rattle.patch_program.proofs.run.Statement.{statement}
 use Rattle.patch_program.proofs.run.Tie as tie
 
-slice-aggregate-read : tie.Need-slice-aggregate-read
-slice-aggregate-read c = search needs
-
-read-requires : tie.Need-read-requires
-read-requires c κs = search needs
-
-array-share-prefix-file : tie.Need-array-share-prefix-file
-array-share-prefix-file c = search needs
-
 slice-aggregate-patch-file : tie.Need-slice-aggregate-patch-file
 slice-aggregate-patch-file c = search needs
 
@@ -28,9 +19,6 @@ slice-aggregate-patch-file-4 c = search needs
 
 slice-aggregate-patch-file-5 : tie.Need-slice-aggregate-patch-file-5
 slice-aggregate-patch-file-5 c = search needs
-
-slice-aggregate-patch-file-6 : tie.Need-slice-aggregate-patch-file-6
-slice-aggregate-patch-file-6 c = search needs
 
 patch-file-requires : tie.Need-patch-file-requires
 patch-file-requires c κs = search needs
@@ -51,21 +39,17 @@ print-outcome-requires : tie.Need-print-outcome-requires
 print-outcome-requires c κs = search needs
 
 returns : tie.Need-returns
-returns c = record { file = _; is = ap (λ (x : Patching). x .outcome) (c .before .before .before .before .before .before .before .before .before .before .patch-file .ensures .0) }
+returns c = ap (λ (x : Patching). x .outcome) (c .before .before .before .before .before .before .before .before .before .before .patch-file .ensures .0)
 
 pub run-spec : {M : Type 1} → statement M
 run-spec =
     tie.close
     (tie.spec
-    slice-aggregate-read
-    read-requires
-    array-share-prefix-file
     slice-aggregate-patch-file
     slice-aggregate-patch-file-2
     slice-aggregate-patch-file-3
     slice-aggregate-patch-file-4
     slice-aggregate-patch-file-5
-    slice-aggregate-patch-file-6
     patch-file-requires
     slice-aggregate-print-outcome
     slice-aggregate-print-outcome-2
