@@ -22,7 +22,8 @@ use Rattle.geometry.specs.Bounds.{maxDifference, Within, LiftedBounds, SphereBo
 use Rattle.geometry.specs.Lifting.{liftOf, turned, noSphere, positionBy}
 use Rattle.geometry.specs.Faces.{normalOf}
 use Rattle.geometry.proofs.Terms.{VectorE, vec, dotE, crossE, scaledE, plusE, minusE, oppositeE, ofVectors}
-use Rattle.geometry.proofs.Spheres.{distances-power, by-multiple, pencil-bounds, sphere-bounds, triple-product, turned-orient}
+use Rattle.geometry.proofs.Centres.{distances-power}
+use Rattle.geometry.proofs.Spheres.{by-multiple, pencil-bounds, sphere-bounds, triple-product, turned-orient}
 use Rattle.geometry.proofs.Faces.{square-size, zero-vector}
 use Rattle.planar.specs.Circles.{collinear, circumcentreOf, distanceInPlane}
 use Rattle.planar.specs.Seen.{positionInPlane, vector, axisAcross, circleOf}
