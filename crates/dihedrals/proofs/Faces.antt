@@ -18,7 +18,7 @@ use Rattle.geometry.proofs.Faces.{normal-within}
 use Rattle.terms.specs.Limits.{maxVertices}
 use Rattle.terms.specs.Entries.{entryAt, vertexA, vertexB, vertexC}
 use Rattle.dihedrals.specs.Dihedrals.{faceNormal, lengthsOf}
-use Rattle.dihedrals.specs.Lists.{Corners, Solid, Measured}
+use Rattle.dihedrals.specs.Lists.{Corners, ProperCandidates, Measured}
 
 pub face-within : {p : Polygon} {t : List ℕ} → Valid p → Corners p t → Within maxNormal (faceNormal p t)
 face-within {p} {t} v c = normal-within (v .on-grid (vertexA t) (c .a<n)) (v .on-grid (vertexB t) (c .b<n)) (v .on-grid (vertexC t) (c .c<n))
@@ -52,7 +52,7 @@ pub length-at : (p : Polygon) (cs : List (List ℕ)) (i : ℕ) → i < length cs
 length-at p cs i h = map-at (λ t. lengthOf (faceNormal p t)) cs [] 0 i h
 
 -- the bend with a candidate can be computed
-pub face-measured : {p : Polygon} {cs : List (List ℕ)} (s : Solid p cs) (i : ℕ) → i < length cs → {n : Vector} {m : ℕ} → n ≡ faceNormal p (entryAt cs i) → m ≡ lengthOf (faceNormal p (entryAt cs i)) → Measured n m
+pub face-measured : {p : Polygon} {cs : List (List ℕ)} (s : ProperCandidates p cs) (i : ℕ) → i < length cs → {n : Vector} {m : ℕ} → n ≡ faceNormal p (entryAt cs i) → m ≡ lengthOf (faceNormal p (entryAt cs i)) → Measured n m
 face-measured {p} {cs} s i h {n} {m} en em = record {
   within = within-as en (face-within (s .valid) (s .corners i h));
   is = em ∙ ap lengthOf (sym en);

@@ -19,7 +19,7 @@ pub record Corners (p : Polygon) (t : List ℕ) : Type 0 where
   pub c<n : vertexC t < p .n
 
 -- candidates of a valid polygon, none of them with its corners on one line
-pub record Solid (p : Polygon) (candidates : List (List ℕ)) : Type 0 where
+pub record ProperCandidates (p : Polygon) (candidates : List (List ℕ)) : Type 0 where
   pub valid : Valid p
   pub sorted : Sorted candidates
   pub corners : (i : ℕ) → i < length candidates → Corners p (entryAt candidates i)

@@ -11,7 +11,7 @@ ghost use Rattle.lists.specs.Lists.{filled};
 ghost use Rattle.geometry.specs.Faces.{bendBetween, bendWeightOf};
 ghost use Rattle.blocks.specs.Blocks.{Starts};
 ghost use Rattle.dihedrals.specs.Dihedrals.{lengthsOf, rowsOf};
-ghost use Rattle.dihedrals.specs.Lists.{Solid, Measured};
+ghost use Rattle.dihedrals.specs.Lists.{ProperCandidates, Measured};
 
 // A vertex of a candidate, as an index.
 pub fn wide(x: u8) -> usize
@@ -22,7 +22,7 @@ pub fn wide(x: u8) -> usize
 
 // The lengths of the candidates' normals.
 pub fn write_lengths(p: Polygon, candidates: &[[u8; 3]], out: &mut [u32])
-    requires { ⌜ (Solid p (now candidates)) × (length (now candidates) ≤ length (now out)) ⌝ }
+    requires { ⌜ (ProperCandidates p (now candidates)) × (length (now candidates) ≤ length (now out)) ⌝ }
     ensures { λ _. ⌜ now (out .exit) ≡ filled (lengthsOf p (now (candidates .entry))) (now (out .entry)) ⌝ }
 {
     let vertices = p.vertices;
@@ -55,7 +55,7 @@ pub fn write_rows(
     lengths: &[u32],
     out: &mut [[u32; 3]],
 )
-    requires { ⌜ (Solid p (now candidates)) × (Starts (now candidates) (now starts)) × (now lengths ≡ lengthsOf p (now candidates)) × (length (rowsOf p (now candidates)) ≤ length (now out)) ⌝ }
+    requires { ⌜ (ProperCandidates p (now candidates)) × (Starts (now candidates) (now starts)) × (now lengths ≡ lengthsOf p (now candidates)) × (length (rowsOf p (now candidates)) ≤ length (now out)) ⌝ }
     ensures { λ _. ⌜ now (out .exit) ≡ filled (rowsOf p (now (candidates .entry))) (now (out .entry)) ⌝ }
 {
     let factor = p.bend_factor;

@@ -23,7 +23,7 @@ use Rattle.delaunay.specs.Candidates.{isCandidate, candidatesOf}
 use Rattle.dihedrals.specs.Dihedrals.{faceNormal, rowAt, rowsOn, rowsOf}
 use Rattle.weights.specs.Weights.{weightsOf}
 use Rattle.weights.proofs.Edges.{own-weight-bound, weight-at}
-use Rattle.finder.proofs.Candidates.{triples-ascend, candidate-at, candidates-solid}
+use Rattle.finder.proofs.Candidates.{triples-ascend, candidate-at, candidates-proper}
 
 -- ---- rows, of any list of candidates
 module _ (p : Polygon) (cs : List (List ℕ)) where
@@ -95,7 +95,7 @@ module _ (p : Polygon) (v : Valid p) where
 
   pub weights-allowed : lists.Weights (candidatesOf p) (weightsOf p (candidatesOf p)) (rowsOf p (candidatesOf p))
   weights-allowed = record {
-    own = λ i h. subst (λ (w : ℕ). w ≤ maxWeight) (sym (weight-at p (candidatesOf p) i h)) (own-weight-bound v (candidates-solid p v .corners i h));
+    own = λ i h. subst (λ (w : ℕ). w ≤ maxWeight) (sym (weight-at p (candidatesOf p) i h)) (own-weight-bound v (candidates-proper p v .corners i h));
     of-row = λ k h. let f = row-hinge p (candidatesOf p) (entryAt (rowsOf p (candidatesOf p)) k) (entry-member (rowsOf p (candidatesOf p)) [] k h) in
         subst (λ (w : ℕ). w ≤ maxWeight) (sym (ap rowWeight (f .is))) (le-trans (bend-weight-bound (v .bend-factor) (bend-bound (dotOf (faceNormal p (entryAt (candidatesOf p) (f .i))) (faceNormal p (entryAt (candidatesOf p) (f .o)))) (lengthOf (faceNormal p (entryAt (candidatesOf p) (f .i)))) (lengthOf (faceNormal p (entryAt (candidatesOf p) (f .o)))))) (lit≤ tt));
   }

@@ -26,7 +26,7 @@ use Rattle.faces.proofs.Fours.{four-found}
 use Rattle.faces.proofs.Members.{Triple, triples-member}
 use Rattle.hinges.specs.Hinges.{Sorted}
 use Rattle.dihedrals.specs.Dihedrals.{faceNormal}
-use Rattle.dihedrals.specs.Lists.{Solid}
+use Rattle.dihedrals.specs.Lists.{ProperCandidates}
 use Rattle.delaunay.specs.Candidates.{vertex, insideFour, counts, isFaceOfFour, insideThree, countsInPlane, isCountedThree, isFlat, isCandidate, candidatesOf}
 
 -- ---- a list of triples ascends
@@ -139,8 +139,8 @@ module _ (p : Polygon) (v : Valid p) where
       by (holds f) = counted-three-length x y z (sym (yes (isCountedThree p x y z) (isFaceOfFour p x y z) f) ∙ e)
       by (fails f) = face-of-four-length x y z (sym (no (isCountedThree p x y z) (isFaceOfFour p x y z) f) ∙ e)
 
-  pub candidates-solid : Solid p (candidatesOf p)
-  candidates-solid = record {
+  pub candidates-proper : ProperCandidates p (candidatesOf p)
+  candidates-proper = record {
     valid = v;
     sorted = candidates-sorted;
     corners = λ i h. let t = candidate-at i h in record {

@@ -7,7 +7,7 @@ ghost use Prim.Native.Nat.{_≤_};
 ghost use Rattle.terms.specs.Limits.{minVertices, maxVertices};
 ghost use Rattle.faces.specs.Faces.{triplesOf};
 ghost use Rattle.faces.specs.Masks.{has, emptySet};
-ghost use Rattle.dihedrals.specs.Lists.{Solid};
+ghost use Rattle.dihedrals.specs.Lists.{ProperCandidates};
 ghost use Rattle.finder.specs.Finding.{numberOf, candidateCountOf, rowCountOf, valuesOf, dueValues, finding, numberDue, findNumber, findCall, besideNumber, findBesideCall};
 ghost use Rattle.finder.specs.Sizes.{placesIn, duePlaces, sizesOf};
 ghost use Rattle.finder.specs.Sizes as sizes;
@@ -122,7 +122,7 @@ fn write_lists(
     weights: &mut [u32],
     rows: &mut [[u32; 3]],
 )
-    requires { ⌜ (Solid p (facesOf p (now masks))) × Room p (facesOf p (now masks)) (now candidates) (now weights) (now rows) ⌝ }
+    requires { ⌜ (ProperCandidates p (facesOf p (now masks))) × Room p (facesOf p (now masks)) (now candidates) (now weights) (now rows) ⌝ }
     ensures { λ _. ⌜ Written p (facesOf p (now (masks .entry))) (now (candidates .entry)) (now (weights .entry)) (now (rows .entry)) (now (candidates .exit)) (now (weights .exit)) (now (rows .exit)) ⌝ }
 {
     let n = p.n;
@@ -144,7 +144,7 @@ fn fill(
     weights: &mut [u32],
     rows: &mut [[u32; 3]],
 ) -> Found
-    requires { ⌜ Solid p (facesOf p (now masks)) ⌝ }
+    requires { ⌜ ProperCandidates p (facesOf p (now masks)) ⌝ }
     ensures { λ r. ⌜ finding r (now (candidates .exit)) (now (weights .exit)) (now (rows .exit)) ≡ fillOr13 p (facesOf p (now (masks .entry))) «triangle_places» «work_places» (now (candidates .entry)) (now (weights .entry)) (now (rows .entry)) ⌝ }
 {
     let n = p.n;

@@ -18,6 +18,22 @@ use Rattle.geometry.specs.Faces.{lengthOf, ratioOf, bendOf, bendBetween}
 use Rattle.geometry.proofs.Terms.{vec, dotE, oppositeE}
 use Rattle.geometry.proofs.Faces.{square-size, length-squared}
 
+-- ---- three bends, with both lengths 100: of triangles that go on in one plane, of folded ones, and of a dot product of -1 (rules 2.11, 6.5)
+
+pub going-on : bendOf (pos 10000) 100 100 ≡ 0
+unfolding bendOf ratioOf
+going-on = refl
+
+pub folded : bendOf (negsuc 9999) 100 100 ≡ 2000
+unfolding bendOf ratioOf
+folded = refl
+
+pub nearly-perpendicular : bendOf (negsuc 0) 100 100 ≡ 1001
+unfolding bendOf ratioOf
+nearly-perpendicular = refl
+
+-- ---- its range
+
 module _ (d : ℤ) (m k : ℕ) where
   bend-natural : (j : ℕ) × (j ≤ maxBend) × (pos 1000 -ℤ ratioOf d m k ≡ pos j)
   unfolding ratioOf
@@ -96,8 +112,3 @@ module _ (n : Vector) where
     where
       dot : dotOf n (opposite n) ≡ negℤ (pos (natAbs (squareOf n)))
       dot = opposite-dot ∙ +ℤ-idl (negℤ (squareOf n)) ∙ ap negℤ (square-size n)
-
--- a dot product of -1 with both lengths 100
-pub nearly-perpendicular : bendOf (negsuc 0) 100 100 ≡ 1001
-unfolding bendOf ratioOf
-nearly-perpendicular = refl

@@ -1,66 +1,19 @@
--- The four corners are at one distance from the centre, and the sphere does not depend on the order in which they are named. Assumes nothing.
-use mathlib.Core.Path.{_≡_, _∙_, ap}
+-- The sphere does not depend on the order in which they are named. Assumes nothing.
+use mathlib.Core.Path.{_≡_, _∙_}
 use mathlib.Core.List.{[], _∷_}
-use mathlib.Core.Bool.{true, cond}
-use lib.IntN.{ℤ, pos, _-ℤ_, _*ℤ_, *ℤ-zero}
+use mathlib.Core.Bool.{cond}
+use lib.IntN.{ℤ, pos, _-ℤ_, _*ℤ_}
 use lib.Signed.{ltZ}
 use Rattle.grid.specs.declared.GridPoint.{GridPoint}
 use Rattle.geometry.specs.declared.Vector.{Vector}
 use Rattle.geometry.specs.declared.sphere.Position.the-variants.{Inside, On, Outside}
 use Rattle.integers.specs.Order.{equal}
-use Rattle.integers.proofs.Laws.{sub-zero}
-use Rattle.integers.proofs.Order.{equal-is}
 use Rattle.integers.proofs.Ring.{E, var, con, _:-_, _:*_, ring}
 use Rattle.geometry.specs.Vectors.{differenceOf, dotOf, crossOf, squareOf, scaledBy, plus, minus, opposite}
-use Rattle.geometry.specs.Spheres.{orientOf, centreOf, distanceOf, onSphere}
+use Rattle.geometry.specs.Spheres.{orientOf, centreOf, distanceOf}
 use Rattle.geometry.specs.Lifting.{positionOf}
-use Rattle.geometry.proofs.Terms.{VectorE, vec, dotE, scaledE, plusE, minusE, oppositeE, orientE, centreE, distanceE, ofVectors, ofPoints}
-use Rattle.geometry.proofs.Spheres.{distances-power}
-
--- ---- corners
-
--- the power of each corner, seen from the first, is 0
-module _ (u v t : Vector) where
-  abbrev centre : Vector
-  centre = plus (plus (scaledBy (squareOf u) (crossOf v t)) (scaledBy (squareOf v) (crossOf t u))) (scaledBy (squareOf t) (crossOf u v))
-
-  abbrev powerE : VectorE → E
-  powerE w = orientE (vec 0) (vec 3) (vec 6) :* dotE w w :- dotE (centreE (vec 0) (vec 3) (vec 6)) w
-
-  power-u : dotOf u (crossOf v t) *ℤ squareOf u -ℤ dotOf centre u ≡ pos 0
-  power-u = ring (ofVectors u v t) (powerE (vec 0)) (con (pos 0)) tt
-
-  power-v : dotOf u (crossOf v t) *ℤ squareOf v -ℤ dotOf centre v ≡ pos 0
-  power-v = ring (ofVectors u v t) (powerE (vec 3)) (con (pos 0)) tt
-
-  power-t : dotOf u (crossOf v t) *ℤ squareOf t -ℤ dotOf centre t ≡ pos 0
-  power-t = ring (ofVectors u v t) (powerE (vec 6)) (con (pos 0)) tt
-
--- the sphere goes through the four (rule 2.2): the corners q, r, s are as far from the centre as p
-module _ (p q r s : GridPoint) where
-  at-corner : (w : GridPoint) → orientOf p q r s *ℤ squareOf (differenceOf w p) -ℤ dotOf (centreOf p q r s) (differenceOf w p) ≡ pos 0 → distanceOf p q r s w ≡ distanceOf p q r s p
-  unfolding distanceOf
-  at-corner w h =
-      let o = orientOf p q r s in
-      sub-zero _ _ (distances-power o (centreOf p q r s) (differenceOf w p) p ∙ ap (λ (z : ℤ). (pos 4 *ℤ o) *ℤ z) h ∙ *ℤ-zero (pos 4 *ℤ o))
-
-  pub corner-q : distanceOf p q r s q ≡ distanceOf p q r s p
-  unfolding orientOf centreOf
-  corner-q = at-corner q (power-u (differenceOf q p) (differenceOf r p) (differenceOf s p))
-
-  pub corner-r : distanceOf p q r s r ≡ distanceOf p q r s p
-  unfolding orientOf centreOf
-  corner-r = at-corner r (power-v (differenceOf q p) (differenceOf r p) (differenceOf s p))
-
-  pub corner-s : distanceOf p q r s s ≡ distanceOf p q r s p
-  unfolding orientOf centreOf
-  corner-s = at-corner s (power-t (differenceOf q p) (differenceOf r p) (differenceOf s p))
-
-  -- so each corner is on the sphere
-  pub corner-on : (w : GridPoint) → distanceOf p q r s w ≡ distanceOf p q r s p → onSphere p q r s w ≡ true
-  corner-on w e = equal-is e
-
--- ---- the order of the corners
+use Rattle.geometry.proofs.Terms.{VectorE, vec, scaledE, plusE, minusE, oppositeE, orientE, centreE, distanceE, ofVectors, ofPoints}
+use Rattle.geometry.proofs.Centres.{centre, corner-q}
 
 -- the opposite orientation and the opposite centre give the same distances
 distance-opposite : (o : ℤ) (c v : Vector) → squareOf (minus (scaledBy (pos 2 *ℤ (pos 0 -ℤ o)) v) (opposite c)) ≡ squareOf (minus (scaledBy (pos 2 *ℤ o) v) c)

@@ -18,7 +18,8 @@ use Rattle.geometry.specs.Lifting.{positionOf, positionBy, liftOf, penci
 use Rattle.geometry.specs.Facets.{opposed, separates, separatesBy, isInside, refutedBy}
 use Rattle.geometry.proofs.Terms.{VectorE, vec, dotE, crossE, scaledE, plusE, minusE, orientE, ofVectors}
 use Rattle.geometry.proofs.Signs.{opposed-is, opposed-first, one-negative}
-use Rattle.geometry.proofs.Spheres.{triple-product, pencil-centre, distances-power, position-is}
+use Rattle.geometry.proofs.Centres.{distances-power}
+use Rattle.geometry.proofs.Spheres.{triple-product, pencil-centre, position-is}
 
 -- ---- three powers over one pencil
 

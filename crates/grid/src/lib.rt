@@ -32,6 +32,13 @@ impl GridPoint {
         let x = self.x;
         let y = self.y;
         let z = self.z;
+        GridPoint::coordinates_on_grid(x, y, z)
+    }
+
+    // The same of three numbers that are no point yet.
+    pub fn coordinates_on_grid(x: i64, y: i64, z: i64) -> bool
+        ensures { λ r. ⌜ r ≡ pointOnGrid (point x y z) ⌝ }
+    {
         if !GridPoint::coordinate_on_grid(x) {
             return false;
         }

@@ -4,13 +4,13 @@ use mathlib.Core.Bool.{Bool, true, false, cond}
 use Prim.Native.Nat.{ℕ, zero, suc, _+_, _*_, _-_, _^_, _<_}
 use native.Mathlib.Omega.{arith}
 use lib.Dec.{T, ltb}
-use lib.IntN.{ℤ, pos, negsuc, negℤ, subℕ, _-ℤ_, _*ℤ_}
+use lib.IntN.{ℤ, pos, negsuc, negℤ, subℕ, _-ℤ_, _*ℤ_, negℤ-negℤ}
 use lib.Signed.{ltZ}
 use borrow.Author.Tests.{lt-ltb, le-ltb, eq-eqb, ne-eqb, eqb-true, ltb-true, ltb-false}
 use mir.Syntax.{w64}
 use mir.Val.{SFits, ofZ}
 use Rattle.integers.specs.Order.{equal}
-use Rattle.integers.proofs.Laws.{sub-zero, sub-self}
+use Rattle.integers.proofs.Laws.{neg-mul, sub-zero, sub-self}
 
 pub true≢false : {X : Type 0} → true ≡ false → X
 true≢false e = absurd (subst T e tt)
@@ -82,6 +82,14 @@ module _ (k : ℕ) where
   equal-multiple (pos zero) = eq-eqb (suc k * 0) 0 (omega arith)
   equal-multiple (pos (suc n)) = ne-eqb (suc k * suc n) 0 (λ e. omega (arith, product-suc k n)) ∙ sym (ne-eqb (suc n) 0 (λ e. omega arith))
   equal-multiple (negsuc n) = ap (λ (x : ℕ). equal (negℤ (pos x)) (pos 0)) (product-suc k n)
+
+-- a product that is 0, with a factor that is not
+pub no-divisor : (a b : ℤ) → (a ≡ pos 0 → ⊥) → a *ℤ b ≡ pos 0 → b ≡ pos 0
+no-divisor (pos zero) b h e = absurd (h refl)
+no-divisor (pos (suc n)) b h e = equal-yes b (pos 0) (sym (equal-multiple n b) ∙ equal-is e)
+no-divisor (negsuc n) b h e =
+    let f : pos (suc n) *ℤ b ≡ pos 0 = sym (negℤ-negℤ (pos (suc n) *ℤ b)) ∙ ap negℤ (sym (neg-mul (pos (suc n)) b) ∙ e) in
+    equal-yes b (pos 0) (sym (equal-multiple n b) ∙ equal-is f)
 
 -- ---- the machine's test `z == 0`, which compares bits
 

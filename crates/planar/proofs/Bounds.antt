@@ -19,7 +19,7 @@ use Rattle.geometry.specs.Lifting.{liftOf, turned, noSphere, powerOf}
 use Rattle.geometry.specs.Faces.{normalOf}
 use Rattle.geometry.proofs.Terms.{vec, dotE}
 use Rattle.geometry.proofs.Vectors.{within-difference, at-most-dot}
-use Rattle.planar.specs.Seen.{vector, axisAcross}
+use Rattle.planar.specs.Seen.{axisX, axisY, axisZ, axisAcross}
 use Rattle.planar.proofs.Zero.{at-most-zero}
 use Rattle.planar.proofs.Seen.{seen, power-back, determinant, determinant-x, determinant-y, determinant-z, powerAlong, computedCircle}
 
@@ -39,7 +39,7 @@ module _ {u v t : Vector} (hu : Within maxDifference u) (hv : Within maxDifferen
   along-bound : (n : Vector) → AtMost maxPower (powerAlong u v t (axisAcross n))
   along-bound n = go (equal (n .x) (pos 0)) (equal (n .y) (pos 0))
     where
-      go : (bx by : Bool) → AtMost maxPower (powerAlong u v t (cond bx (cond by (vector (pos 0) (pos 0) (pos 1)) (vector (pos 0) (pos 1) (pos 0))) (vector (pos 1) (pos 0) (pos 0))))
+      go : (bx by : Bool) → AtMost maxPower (powerAlong u v t (cond bx (cond by axisZ axisY) axisX))
       go true true = at-most-as (determinant-z u v t) (bounded (hu .in-x) (hu .in-y) (hv .in-x) (hv .in-y) (ht .in-x) (ht .in-y))
       go true false = at-most-as (determinant-y u v t) (bounded (hu .in-z) (hu .in-x) (hv .in-z) (hv .in-x) (ht .in-z) (ht .in-x))
       go false by = at-most-as (determinant-x u v t) (bounded (hu .in-y) (hu .in-z) (hv .in-y) (hv .in-z) (ht .in-y) (ht .in-z))

@@ -8,17 +8,17 @@ use Rattle.grid.specs.declared.GridPoint.{GridPoint}
 use Rattle.geometry.specs.declared.Vector.{Vector}
 use Rattle.geometry.specs.declared.sphere.Position.the-variants.{Inside, On, Outside}
 use Rattle.integers.specs.Order.{equal}
-use Rattle.integers.proofs.Laws.{sub-zero, sub-self}
+use Rattle.integers.proofs.Laws.{sub-zero}
 use Rattle.integers.proofs.Order.{equal-is, equal-self, equal-yes}
 use Rattle.integers.proofs.Ring.{E, var, con, _:-_, _:*_, ring}
 use Rattle.geometry.specs.Vectors.{differenceOf, dotOf, crossOf, squareOf, scaledBy, plus, minus, opposite}
 use Rattle.geometry.specs.Faces.{normalOf}
 use Rattle.geometry.proofs.Faces.{zero-vector}
 use Rattle.geometry.proofs.Terms.{VectorE, vec, dotE, crossE, scaledE, plusE, minusE, oppositeE, ofVectors}
-use Rattle.geometry.proofs.Spheres.{distances-power}
+use Rattle.geometry.proofs.Centres.{distances-power, equidistant}
 use Rattle.planar.specs.Circles.{collinear, circumcentreOf, distanceInPlane, onCircle}
 use Rattle.planar.specs.Seen.{positionInPlane}
-use Rattle.planar.proofs.Zero.{no-divisor, zero-square}
+use Rattle.planar.proofs.Zero.{zero-square}
 
 -- three points are on one line exactly where each coordinate of their normal is 0
 pub collinear-zero : (p q r : GridPoint) → collinear p q r ≡ true → (normalOf p q r .x ≡ pos 0) × (normalOf p q r .y ≡ pos 0) × (normalOf p q r .z ≡ pos 0)
@@ -87,20 +87,6 @@ module _ (p q r : GridPoint) where
   centre-in-plane = centre-on-plane (differenceOf q p) (differenceOf r p)
 
 -- ---- there is no other centre
-
--- a point of the plane, c / k as seen from the first corner, as far from a corner u as from the first
-equidistant : (k : ℤ) (u c : Vector) → (k ≡ pos 0 → ⊥) → squareOf (minus (scaledBy k u) c) ≡ squareOf c → k *ℤ squareOf u ≡ pos 2 *ℤ dotOf c u
-equidistant k u c h e =
-    sub-zero _ _ (no-divisor k (k *ℤ squareOf u -ℤ pos 2 *ℤ dotOf c u) h (ring known doubledE (dotE byE byE :- dotE (vec 4) (vec 4)) tt ∙ sub-self (squareOf (minus (scaledBy k u) c)) (squareOf c) e))
-  where
-    known : List ℤ
-    known = k ∷ u .x ∷ u .y ∷ u .z ∷ c .x ∷ c .y ∷ c .z ∷ []
-
-    byE : VectorE
-    byE = minusE (scaledE (var 0) (vec 1)) (vec 4)
-
-    doubledE : E
-    doubledE = var 0 :* (var 0 :* dotE (vec 1) (vec 1) :- con (pos 2) :* dotE (vec 4) (vec 1))
 
 -- a vector by its products with u, v and their normal
 module _ (u v c : Vector) where

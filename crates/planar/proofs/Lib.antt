@@ -1,5 +1,6 @@
 pub mod Zero
 pub mod Circles
+pub mod Axes
 pub mod Seen
 pub mod Bounds
 pub mod OnePlane

@@ -8,7 +8,7 @@ use lib.IntN.{ℤ, pos, natAbs}
 use Rattle.grid.specs.declared.GridPoint.{GridPoint}
 use Rattle.geometry.specs.declared.Vector.{Vector}
 use Rattle.integers.specs.Order.{equal}
-use Rattle.integers.proofs.Order.{equal-is, equal-yes, true≢false}
+use Rattle.integers.proofs.Order.{equal-is, equal-yes, no-divisor, true≢false}
 use Rattle.integers.proofs.Ring.{E, con, ring}
 use Rattle.geometry.specs.Vectors.{differenceOf, dotOf, crossOf, squareOf, scaledBy, minus}
 use Rattle.geometry.specs.Faces.{normalOf}
@@ -18,7 +18,7 @@ use Rattle.lists.proofs.Choice.{Truth, holds, fails, truth, Compared, less, sam
 use Rattle.lists.proofs.Ranges.{some-found, some-none}
 use Rattle.planar.specs.Circles.{collinear}
 use Rattle.planar.specs.Planes.{OnOneLine, zeroVector}
-use Rattle.planar.proofs.Zero.{no-divisor, vanishes, vanished}
+use Rattle.planar.proofs.Zero.{vanishes, vanished}
 
 -- every three of the first n points are on one line
 pub record ThreesOnLine (at : ℕ → GridPoint) (n : ℕ) : Type 0 where

@@ -6,12 +6,11 @@ use lib.IntN.{ℤ, pos, _+ℤ_, _*ℤ_, zero-*ℤ}
 use Rattle.grid.specs.declared.GridPoint.{GridPoint}
 use Rattle.geometry.specs.declared.Vector.{Vector}
 use Rattle.integers.proofs.Laws.{sub-self}
-use Rattle.integers.proofs.Order.{equal-is, true≢false}
+use Rattle.integers.proofs.Order.{equal-is, no-divisor, true≢false}
 use Rattle.integers.proofs.Ring.{E, var, _:-_, _:*_, ring}
 use Rattle.geometry.specs.Vectors.{differenceOf, dotOf, crossOf}
 use Rattle.geometry.specs.Spheres.{orientOf, coplanar}
 use Rattle.geometry.proofs.Terms.{VectorE, vec, dotE, crossE, scaledE, plusE, orientE}
-use Rattle.planar.proofs.Zero.{no-divisor}
 
 -- how far p lies along n: the equation of a plane is `along n p ≡ k`
 abbrev along : Vector → GridPoint → ℤ

@@ -22,12 +22,13 @@ use Rattle.geometry.specs.Bounds.{maxDifference, Within, LiftedBounds, SphereBo
 use Rattle.geometry.specs.Lifting.{liftOf, turned, noSphere, positionBy}
 use Rattle.geometry.specs.Faces.{normalOf}
 use Rattle.geometry.proofs.Terms.{VectorE, vec, dotE, crossE, scaledE, plusE, minusE, oppositeE, ofVectors}
-use Rattle.geometry.proofs.Spheres.{distances-power, by-multiple, pencil-bounds, sphere-bounds, triple-product, turned-orient}
+use Rattle.geometry.proofs.Centres.{distances-power}
+use Rattle.geometry.proofs.Spheres.{by-multiple, pencil-bounds, sphere-bounds, triple-product, turned-orient}
 use Rattle.geometry.proofs.Faces.{square-size, zero-vector}
 use Rattle.planar.specs.Circles.{collinear, circumcentreOf, distanceInPlane}
-use Rattle.planar.specs.Seen.{positionInPlane, vector, axisAcross, circleOf}
-use Rattle.planar.proofs.Zero.{at-most-zero, zero-square}
+use Rattle.planar.specs.Seen.{positionInPlane, axisX, axisY, axisZ, axisAcross, circleOf}
 use Rattle.planar.proofs.Circles.{centre, normalE, centreE}
+use Rattle.planar.proofs.Axes.{axis-across, zero-along, axis-bounds}
 
 -- ---- as seen along an axis
 
@@ -73,13 +74,13 @@ module _ (u v t : Vector) where
   abbrev pub powerAlong : Vector → ℤ
   powerAlong e = dotOf (crossOf u v) e *ℤ squareOf t -ℤ dotOf (seen u v e t) t
 
-  pub determinant-x : powerAlong (vector (pos 1) (pos 0) (pos 0)) ≡ determinant (u .y) (u .z) (v .y) (v .z) (t .y) (t .z)
+  pub determinant-x : powerAlong axisX ≡ determinant (u .y) (u .z) (v .y) (v .z) (t .y) (t .z)
   determinant-x = ring (ofVectors u v t) (alongE (pos 1) (pos 0) (pos 0)) (determinantE (var 1) (var 2) (var 4) (var 5) (var 7) (var 8)) tt
 
-  pub determinant-y : powerAlong (vector (pos 0) (pos 1) (pos 0)) ≡ determinant (u .z) (u .x) (v .z) (v .x) (t .z) (t .x)
+  pub determinant-y : powerAlong axisY ≡ determinant (u .z) (u .x) (v .z) (v .x) (t .z) (t .x)
   determinant-y = ring (ofVectors u v t) (alongE (pos 0) (pos 1) (pos 0)) (determinantE (var 2) (var 0) (var 5) (var 3) (var 8) (var 6)) tt
 
-  pub determinant-z : powerAlong (vector (pos 0) (pos 0) (pos 1)) ≡ determinant (u .x) (u .y) (v .x) (v .y) (t .x) (t .y)
+  pub determinant-z : powerAlong axisZ ≡ determinant (u .x) (u .y) (v .x) (v .y) (t .x) (t .y)
   determinant-z = ring (ofVectors u v t) (alongE (pos 0) (pos 0) (pos 1)) (determinantE (var 0) (var 1) (var 3) (var 4) (var 6) (var 7)) tt
 
 -- ---- the sign
@@ -118,52 +119,7 @@ place-turned n (pos (suc m)) c w y h e =
 place-turned n (negsuc m) c w y h e =
     place-same n m ((pos 0 -ℤ negsuc m) *ℤ w .square -ℤ dotOf (opposite c) (w .vector)) y (ap (λ (z : ℤ). pos (suc n) *ℤ z) (power-back (negsuc m) (w .square) c (w .vector)) ∙ opposite-products (pos (suc n)) (negsuc m *ℤ w .square -ℤ dotOf c (w .vector)) (negsuc m) y e ∙ ap (λ (z : ℤ). z *ℤ y) (+ℤ-idl (pos (suc m))))
 
--- ---- the axis
-
-module _ (n : Vector) where
-  abbrev parts : List ℤ
-  parts = n .x ∷ n .y ∷ n .z ∷ []
-
-  abbrev unitE : ℤ → ℤ → ℤ → VectorE
-  unitE x y z = record { X = con x; Y = con y; Z = con z }
-
-  along-x : dotOf n (vector (pos 1) (pos 0) (pos 0)) ≡ n .x
-  along-x = ring parts (dotE (vec 0) (unitE (pos 1) (pos 0) (pos 0))) (var 0) tt
-
-  along-y : dotOf n (vector (pos 0) (pos 1) (pos 0)) ≡ n .y
-  along-y = ring parts (dotE (vec 0) (unitE (pos 0) (pos 1) (pos 0))) (var 1) tt
-
-  along-z : dotOf n (vector (pos 0) (pos 0) (pos 1)) ≡ n .z
-  along-z = ring parts (dotE (vec 0) (unitE (pos 0) (pos 0) (pos 1))) (var 2) tt
-
-  -- a vector vanishes along its axis exactly where it is 0
-  across-zero : dotOf n (axisAcross n) ≡ pos 0 → squareOf n ≡ pos 0
-  across-zero = go (equal (n .x) (pos 0)) (equal (n .y) (pos 0)) refl refl
-    where
-      go : (bx by : Bool) → equal (n .x) (pos 0) ≡ bx → equal (n .y) (pos 0) ≡ by →
-          dotOf n (cond bx (cond by (vector (pos 0) (pos 0) (pos 1)) (vector (pos 0) (pos 1) (pos 0))) (vector (pos 1) (pos 0) (pos 0))) ≡ pos 0 → squareOf n ≡ pos 0
-      go true true ex ey h = zero-square n (equal-yes (n .x) (pos 0) ex) (equal-yes (n .y) (pos 0) ey) (sym along-z ∙ h)
-      go true false ex ey h = true≢false (sym (equal-is (sym along-y ∙ h)) ∙ ey)
-      go false by ex ey h = true≢false (sym (equal-is (sym along-x ∙ h)) ∙ ex)
-
-  zero-across : squareOf n ≡ pos 0 → dotOf n (axisAcross n) ≡ pos 0
-  zero-across h =
-      let a = axisAcross n in
-      let e = zero-vector n h in
-      (λ i. e .0 i *ℤ a .x +ℤ e .1 i *ℤ a .y +ℤ e .2 i *ℤ a .z) ∙ (λ i. zero-*ℤ (a .x) i +ℤ zero-*ℤ (a .y) i +ℤ zero-*ℤ (a .z) i)
-
 -- ---- bounds
-
-pub axis-bounds : (n : Vector) → LiftedBounds (record { vector = axisAcross n; square = pos 0 })
-axis-bounds n = record { vector-in = go (equal (n .x) (pos 0)) (equal (n .y) (pos 0)); square-in = record { size = lit≤ tt } }
-  where
-    one-in : AtMost maxDifference (pos 1)
-    one-in = record { size = lit≤ tt }
-
-    go : (bx by : Bool) → Within maxDifference (cond bx (cond by (vector (pos 0) (pos 0) (pos 1)) (vector (pos 0) (pos 1) (pos 0))) (vector (pos 1) (pos 0) (pos 0)))
-    go true true = record { in-x = at-most-zero; in-y = at-most-zero; in-z = one-in }
-    go true false = record { in-x = at-most-zero; in-y = one-in; in-z = at-most-zero }
-    go false by = record { in-x = one-in; in-y = at-most-zero; in-z = at-most-zero }
 
 pub circle-bounds : {u v : Lifted} → LiftedBounds u → LiftedBounds v → SphereBounds (circleOf u v)
 circle-bounds {u} {v} h k = sphere-bounds (pencil-bounds h k) (axis-bounds (crossOf (u .vector) (v .vector)))
@@ -215,7 +171,7 @@ module _ (p q r w : GridPoint) where
   placed (suc s) e k h =
       let o = dotOf (normalOf p q r) axis in
       let c = seen u v axis t in
-      let nonzero : (o ≡ pos 0 → ⊥) = λ z. true≢false (sym (equal-is (across-zero (normalOf p q r) z)) ∙ k) in
+      let nonzero : (o ≡ pos 0 → ⊥) = λ z. true≢false (sym (equal-is (axis-across (normalOf p q r) .along z)) ∙ k) in
       ap (λ (b : Bool). positionBy (cond b noSphere (turned o c)) (liftOf p w)) (equal-no o (pos 0) nonzero)
       ∙ place-turned s o c (liftOf p w) power nonzero (ap (λ (z : ℤ). z *ℤ (o *ℤ squareOf t -ℤ dotOf c t)) (sym e) ∙ powers-on-plane h)
       ∙ by-multiple s (distanceInPlane p q r w) (distanceInPlane p q r p) power (distances ∙ ap (λ (z : ℤ). (pos 4 *ℤ z) *ℤ power) e)
@@ -238,5 +194,5 @@ collinear-is p q r = go (equal o (pos 0)) refl
     c = seen (differenceOf q p) (differenceOf r p) (axisAcross (normalOf p q r)) (differenceOf p p)
 
     go : (b : Bool) → equal o (pos 0) ≡ b → equal (cond b noSphere (turned o c) .orient) (pos 0) ≡ collinear p q r
-    go true e = sym (equal-is (across-zero n (equal-yes o (pos 0) e)))
-    go false e = turned-orient o c ∙ e ∙ sym (equal-no (squareOf n) (pos 0) (λ z. true≢false (sym (equal-is (zero-across n z)) ∙ e)))
+    go true e = sym (equal-is (axis-across n .along (equal-yes o (pos 0) e)))
+    go false e = turned-orient o c ∙ e ∙ sym (equal-no (squareOf n) (pos 0) (λ z. true≢false (sym (equal-is (zero-along n (axisAcross n) z)) ∙ e)))

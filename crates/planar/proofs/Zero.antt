@@ -1,12 +1,10 @@
 -- Numbers and vectors that are 0. Assumes nothing.
-use mathlib.Core.Path.{_≡_, refl, sym, _∙_, ap}
-use Prim.Native.Nat.{ℕ, zero, suc}
+use mathlib.Core.Path.{_≡_, ap}
+use Prim.Native.Nat.{ℕ}
 use native.Mathlib.Omega.{arith}
-use lib.IntN.{ℤ, pos, negsuc, negℤ, _+ℤ_, _*ℤ_, negℤ-negℤ}
+use lib.IntN.{pos, _+ℤ_, _*ℤ_}
 use Rattle.geometry.specs.declared.Vector.{Vector}
 use Rattle.integers.specs.Bounds.{AtMost}
-use Rattle.integers.proofs.Laws.{neg-mul}
-use Rattle.integers.proofs.Order.{equal-is, equal-yes, equal-multiple}
 use Rattle.geometry.specs.Vectors.{squareOf}
 use Rattle.geometry.proofs.Faces.{zero-vector}
 use Rattle.planar.specs.Planes.{zeroVector}
@@ -14,14 +12,6 @@ use Rattle.planar.specs.Planes.{zeroVector}
 -- 0 is within every bound
 pub at-most-zero : {n : ℕ} → AtMost n (pos 0)
 at-most-zero = record { size = omega arith }
-
--- a product that is 0, with a factor that is not
-pub no-divisor : (a b : ℤ) → (a ≡ pos 0 → ⊥) → a *ℤ b ≡ pos 0 → b ≡ pos 0
-no-divisor (pos zero) b h e = absurd (h refl)
-no-divisor (pos (suc n)) b h e = equal-yes b (pos 0) (sym (equal-multiple n b) ∙ equal-is e)
-no-divisor (negsuc n) b h e =
-    let f : pos (suc n) *ℤ b ≡ pos 0 = sym (negℤ-negℤ (pos (suc n) *ℤ b)) ∙ ap negℤ (sym (neg-mul (pos (suc n)) b) ∙ e) in
-    equal-yes b (pos 0) (sym (equal-multiple n b) ∙ equal-is f)
 
 -- a vector is 0 exactly where its squared length is: the other way round `zero-vector` of geometry/proofs/Faces.antt
 pub zero-square : (n : Vector) → n .x ≡ pos 0 → n .y ≡ pos 0 → n .z ≡ pos 0 → squareOf n ≡ pos 0

@@ -6,12 +6,12 @@ use geometry::sphere::Lifted;
 use geometry::sphere::Sphere;
 ghost use mathlib.Core.Path.{_≡_};
 ghost use Rattle.geometry.specs.Bounds.{maxNormal, Within, LiftedBounds};
-ghost use Rattle.planar.specs.Seen.{axisAcross, circleOf};
+ghost use Rattle.planar.specs.Seen.{Across, circleOf};
 
 // The direction of the first axis along which a normal does not vanish.
 fn axis_across(normal: Vector) -> Vector
     requires { ⌜ Within maxNormal normal ⌝ }
-    ensures { λ r. ⌜ r ≡ axisAcross normal ⌝ }
+    ensures { λ r. ⌜ Across normal r ⌝ }
 {
     let nx = normal.x;
     let ny = normal.y;

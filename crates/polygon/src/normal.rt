@@ -40,7 +40,6 @@ impl Normal {
         let x = self.x as i64;
         let y = self.y as i64;
         let z = self.z as i64;
-        let tip = GridPoint { x, y, z };
-        tip.on_grid()
+        GridPoint::coordinates_on_grid(x, y, z)
     }
 }

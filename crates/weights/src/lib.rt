@@ -13,7 +13,7 @@ ghost use Rattle.lists.specs.Lists.{filled};
 ghost use Rattle.grid.specs.Point.{PointOnGrid};
 ghost use Rattle.geometry.specs.Faces.{normalOf};
 ghost use Rattle.dihedrals.specs.Dihedrals.{lengthsOf};
-ghost use Rattle.dihedrals.specs.Lists.{Solid, Measured};
+ghost use Rattle.dihedrals.specs.Lists.{ProperCandidates, Measured};
 ghost use Rattle.weights.specs.Weights.{weightsOf};
 ghost use Rattle.weights.specs.Edges.{EdgesInRange, ownWeightOf};
 
@@ -47,7 +47,7 @@ fn own_weight(
 // From the lengths of the candidates' normals, in the first places, to the own weights.
 // The loop holds the vertices and normals: a function for one candidate would take them by value.
 pub fn write_weights(p: Polygon, candidates: &[[u8; 3]], weights: &mut [u32])
-    requires { ⌜ (Solid p (now candidates)) × (length (now candidates) ≤ length (now weights)) × (take (length (now candidates)) (now weights) ≡ lengthsOf p (now candidates)) ⌝ }
+    requires { ⌜ (ProperCandidates p (now candidates)) × (length (now candidates) ≤ length (now weights)) × (take (length (now candidates)) (now weights) ≡ lengthsOf p (now candidates)) ⌝ }
     ensures { λ _. ⌜ now (weights .exit) ≡ filled (weightsOf p (now (candidates .entry))) (now (weights .entry)) ⌝ }
 {
     let n = p.n;

@@ -7,11 +7,11 @@ use borrow.Author.Needs.{needs}
 use Rattle.polygon.specs.declared.Polygon.{Polygon}
 use Rattle.polygon.proofs.Validity.{code-valid}
 use Rattle.delaunay.specs.Candidates.{candidatesOf}
-use Rattle.dihedrals.specs.Lists.{Solid}
+use Rattle.dihedrals.specs.Lists.{ProperCandidates}
 use Rattle.finder.specs.declared.Found.{Found}
 use Rattle.finder.specs.Finding.{valuesOf, dueValues, finding, besideNumber, findBesideCall, numberDue}
 use Rattle.finder.specs.Filling.{facesOf, fillOr13}
-use Rattle.finder.proofs.Candidates.{candidates-solid}
+use Rattle.finder.proofs.Candidates.{candidates-proper}
 use Rattle.finder.proofs.Answers.{clear, values-found, find-refused, filled-is}
 use Rattle.finder.proofs.find_beside.Statement.{statement}
 use Rattle.finder.proofs.find_beside.Tie as tie
@@ -55,7 +55,7 @@ fill-requires : tie.Need-fill-requires
 fill-requires c κs =
     let g = c .before .before .before .before in
     let p = polygon g in
-    subst (λ (l : List (List ℕ)). Solid p l) (sym (candidates-are g)) (candidates-solid p (code-valid p (clear p false (none-due g) .code)))
+    subst (λ (l : List (List ℕ)). ProperCandidates p l) (sym (candidates-are g)) (candidates-proper p (code-valid p (clear p false (none-due g) .code)))
 
 same-length : tie.Need-same-length
 same-length c = search needs

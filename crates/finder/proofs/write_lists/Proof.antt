@@ -11,7 +11,7 @@ use Rattle.geometry.specs.Faces.{lengthOf}
 use Rattle.lists.specs.Lists.{filled}
 use Rattle.lists.proofs.Writing.{taken, filled-length, filled-over}
 use Rattle.dihedrals.specs.Dihedrals.{faceNormal, lengthsOf, rowsOf}
-use Rattle.dihedrals.specs.Lists.{Solid}
+use Rattle.dihedrals.specs.Lists.{ProperCandidates}
 use Rattle.dihedrals.proofs.Faces.{first-lengths}
 use Rattle.weights.specs.Weights.{ownWeight, weightsOf}
 use Rattle.finder.specs.Filling.{facesOf}
@@ -47,17 +47,17 @@ module _ (g : tie.After-list) where
   found-are : found ≡ triangles
   found-are = taken triangles (begin .args .candidates .now) count-is (g .list .ensures .1)
 
-  solid : Solid polygon found
-  solid = subst (λ (l : List (List ℕ)). Solid polygon l) (sym found-are) (begin .pre .0)
+  proper : ProperCandidates polygon found
+  proper = subst (λ (l : List (List ℕ)). ProperCandidates polygon l) (sym found-are) (begin .pre .0)
 
 slice-aggregate-found : tie.Need-slice-aggregate-found
 slice-aggregate-found c = let g = c .before .before in count-is g ∙ sym (ap length (found-are g))
 
 block-starts-requires : tie.Need-block-starts-requires
-block-starts-requires c κs = solid (c .before .before) .sorted .by-first
+block-starts-requires c κs = proper (c .before .before) .sorted .by-first
 
 write-lengths-requires : tie.Need-write-lengths-requires
-write-lengths-requires c κs = let g = c .before .before .before .before in (solid g, omega (arith, ap length (found-are g), begin g .pre .1 .for-weights))
+write-lengths-requires c κs = let g = c .before .before .before .before in (proper g, omega (arith, ap length (found-are g), begin g .pre .1 .for-weights))
 
 slice-reshare-prefix-write-rows : tie.Need-slice-reshare-prefix-write-rows
 slice-reshare-prefix-write-rows c = search needs
@@ -93,14 +93,14 @@ write-rows-requires : tie.Need-write-rows-requires
 write-rows-requires c κs =
     let w = c .before .before .before .before .before in
     let g = listed w in
-    (solid g, w .before .before .block-starts .ensures, lengths-are w, omega (arith, ap (λ (l : List (List ℕ)). length (rowsOf (polygon g) l)) (found-are g), begin g .pre .1 .for-rows))
+    (proper g, w .before .before .block-starts .ensures, lengths-are w, omega (arith, ap (λ (l : List (List ℕ)). length (rowsOf (polygon g) l)) (found-are g), begin g .pre .1 .for-rows))
 
 write-weights-requires : tie.Need-write-weights-requires
 write-weights-requires c κs =
     let w = c .before .before .before .before .before .before .before .before in
     let g = listed w in
     let same = sym (ap length (found-are g)) in
-    (solid g, omega (arith, count-is g, same, room w), ap (λ (k : ℕ). take k (table w)) (sym same ∙ sym (count-is g)) ∙ lengths-are w)
+    (proper g, omega (arith, count-is g, same, room w), ap (λ (k : ℕ). take k (table w)) (sym same ∙ sym (count-is g)) ∙ lengths-are w)
 
 same-length : tie.Need-same-length
 same-length c = search needs

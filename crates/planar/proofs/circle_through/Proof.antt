@@ -2,13 +2,12 @@
 use mathlib.Core.Path.{sym, _∙_, ap, subst}
 use borrow.Author.Needs.{needs}
 use lib.IntN.{pos}
-use Rattle.geometry.specs.declared.Vector.{Vector}
 use Rattle.geometry.specs.declared.sphere.Pencil.{Pencil}
-use Rattle.geometry.specs.Bounds.{LiftedBounds, PencilBounds}
+use Rattle.geometry.specs.Bounds.{PencilBounds}
 use Rattle.geometry.specs.Lifting.{sphereOf}
 use Rattle.geometry.proofs.Spheres.{pencil-bounds}
 use Rattle.planar.specs.Seen.{axisAcross}
-use Rattle.planar.proofs.Seen.{axis-bounds}
+use Rattle.planar.proofs.Axes.{same-circle, across-bounds}
 use Rattle.planar.proofs.circle_through.Statement.{statement}
 use Rattle.planar.proofs.circle_through.Tie as tie
 
@@ -22,16 +21,13 @@ axis-across-requires : tie.Need-axis-across-requires
 axis-across-requires c κs = pencil-in (c .before) .normal-in
 
 circumsphere-requires : tie.Need-circumsphere-requires
-circumsphere-requires c κs = (
-  pencil-in (c .before .before),
-  subst (λ (a : Vector). LiftedBounds (record { vector = a; square = pos 0 })) (sym (c .axis-across .ensures)) (axis-bounds (c .before .before .pencil-through .result .normal)),
-)
+circumsphere-requires c κs = (pencil-in (c .before .before), across-bounds (c .axis-across .ensures))
 
 returns : tie.Need-returns
 returns c =
     let k = c .before .before .before .pencil-through in
     c .circumsphere .ensures
-    ∙ ap (λ (a : Vector). sphereOf (k .result) (record { vector = a; square = pos 0 })) (c .before .axis-across .ensures)
+    ∙ same-circle (k .result) (c .before .axis-across .ensures)
     ∙ ap (λ (k : Pencil). sphereOf k (record { vector = axisAcross (k .normal); square = pos 0 })) (k .ensures)
 
 pub circle-through-spec : {M : Type 1} → statement M

@@ -1,65 +1,22 @@
 -- `grid::GridPoint::on_grid` meets its contract. Assumes nothing.
-use mathlib.Core.Path.{_≡_, ap, _∙_}
+use mathlib.Core.Path.{_∙_}
 use borrow.Author.Needs.{needs}
-use borrow.Author.Tests.{not-true, not-false}
 use mir.Syntax.{w64}
 use mir.Facts.{toZ-ofZ}
-use Rattle.grid.specs.Point.{coordinateOnGrid}
-use Rattle.grid.proofs.Points.{out-by-x, out-by-y, by-z}
+use Rattle.grid.specs.Point.{point, pointOnGrid}
 use Rattle.grid.proofs.GridPoint.on_grid.Statement.{statement}
 use Rattle.grid.proofs.GridPoint.on_grid.Tie as tie
-use Rattle.grid.proofs.GridPoint.on_grid.Reads as reads
-use Rattle.grid.proofs.GridPoint.on_grid.Lts as lts
-use Rattle.grid.proofs.GridPoint.coordinate_on_grid.Reads as coordinate-reads
 
--- what each call says of its own coordinate
-abbrev Called : Type 0
-Called = lts.After-coordinate-on-grid (coordinate-reads.Asked, coordinate-reads.Learnt) reads.Pre reads.Post
-
-abbrev Called2 : Type 0
-Called2 = lts.After-coordinate-on-grid2 (coordinate-reads.Asked, coordinate-reads.Learnt) reads.Pre reads.Post
-
-abbrev Called3 : Type 0
-Called3 = lts.After-coordinate-on-grid3 (coordinate-reads.Asked, coordinate-reads.Learnt) reads.Pre reads.Post
-
-says-x : (c : Called) → c .coordinate-on-grid .result ≡ coordinateOnGrid (c .before .before .before .before .args .self .x)
-says-x c = c .coordinate-on-grid .ensures ∙ ap coordinateOnGrid (toZ-ofZ {w = w64} {z = c .before .before .before .before .args .self .x} (record { sfits = c .before .before .before .struct-told .given .0 .1 }))
-
-says-y : (c : Called2) → c .coordinate-on-grid2 .result ≡ coordinateOnGrid (c .before .before .before .before .before .before .args .self .y)
-says-y c = c .coordinate-on-grid2 .ensures ∙ ap coordinateOnGrid (toZ-ofZ {w = w64} {z = c .before .before .before .before .before .before .args .self .y} (record { sfits = c .before .before .before .before .struct-told2 .given .1 .0 .1 }))
-
-says-z : (c : Called3) → c .coordinate-on-grid3 .result ≡ coordinateOnGrid (c .before .before .before .before .before .before .before .before .args .self .z)
-says-z c = c .coordinate-on-grid3 .ensures ∙ ap coordinateOnGrid (toZ-ofZ {w = w64} {z = c .before .before .before .before .before .before .before .before .args .self .z} (record { sfits = c .before .before .before .before .before .struct-told3 .given .1 .1 .0 .1 }))
-
-coordinate-on-grid-requires : tie.Need-coordinate-on-grid-requires
-coordinate-on-grid-requires c κs = search needs
+coordinates-on-grid-requires : tie.Need-coordinates-on-grid-requires
+coordinates-on-grid-requires c κs = search needs
 
 returns : tie.Need-returns
-returns c = out-by-x (c .before .before .before .before .before .args .self) (says-x (c .before)) (not-true _ (c .if1 .taken))
-
-coordinate-on-grid-requires-2 : tie.Need-coordinate-on-grid-requires-2
-coordinate-on-grid-requires-2 c κs = search needs
-
-returns-2 : tie.Need-returns-2
-returns-2 c =
-    let past = c .before .before in
-    out-by-y (past .before .before .before .before .before .args .self) (says-x (past .before)) (not-false _ (past .if1 .left)) (says-y (c .before)) (not-true _ (c .if2 .taken))
-
-coordinate-on-grid-requires-3 : tie.Need-coordinate-on-grid-requires-3
-coordinate-on-grid-requires-3 c κs = search needs
-
-returns-3 : tie.Need-returns-3
-returns-3 c =
-    let past = c .before .before .before in
-    by-z (past .before .before .before .before .before .args .self) (says-x (past .before)) (not-false _ (past .if1 .left)) (says-y (c .before .before)) (not-false _ (c .before .if2 .left)) (says-z c)
+returns c =
+    let p = c .before .before .before .before .args .self in
+    let x = toZ-ofZ {w = w64} {z = p .x} (record { sfits = c .before .before .before .struct-told .given .0 .1 }) in
+    let y = toZ-ofZ {w = w64} {z = p .y} (record { sfits = c .before .before .struct-told2 .given .1 .0 .1 }) in
+    let z = toZ-ofZ {w = w64} {z = p .z} (record { sfits = c .before .struct-told3 .given .1 .1 .0 .1 }) in
+    c .coordinates-on-grid .ensures ∙ (λ i. pointOnGrid (point (x i) (y i) (z i)))
 
 pub on-grid-spec : {M : Type 1} → statement M
-on-grid-spec =
-    tie.close
-    (tie.spec
-    coordinate-on-grid-requires
-    returns
-    coordinate-on-grid-requires-2
-    returns-2
-    coordinate-on-grid-requires-3
-    returns-3)
+on-grid-spec = tie.close (tie.spec coordinates-on-grid-requires returns)

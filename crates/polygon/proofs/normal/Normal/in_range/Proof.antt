@@ -15,8 +15,8 @@ cast-y c = widened-fits (c .before .before .before .before .args .self .y) (reco
 cast-z : tie.Need-cast-z
 cast-z c = widened-fits (c .before .before .before .before .before .before .args .self .z) (record { sfits = c .struct-told3 .given .1 .1 .0 .1 })
 
-on-grid-requires : tie.Need-on-grid-requires
-on-grid-requires c κs = search needs
+coordinates-on-grid-requires : tie.Need-coordinates-on-grid-requires
+coordinates-on-grid-requires c κs = search needs
 
 returns : tie.Need-returns
 returns c =
@@ -24,7 +24,7 @@ returns c =
     let x = widened (n .x) (record { sfits = c .before .before .before .before .before .struct-told .given .0 .1 }) in
     let y = widened (n .y) (record { sfits = c .before .before .before .struct-told2 .given .1 .0 .1 }) in
     let z = widened (n .z) (record { sfits = c .before .struct-told3 .given .1 .1 .0 .1 }) in
-    c .on-grid .ensures ∙ (λ i. pointOnGrid (point (x i) (y i) (z i)))
+    c .coordinates-on-grid .ensures ∙ (λ i. pointOnGrid (point (x i) (y i) (z i)))
 
 pub in-range-spec : {M : Type 1} → statement M
-in-range-spec = tie.close (tie.spec cast-x cast-y cast-z on-grid-requires returns)
+in-range-spec = tie.close (tie.spec cast-x cast-y cast-z coordinates-on-grid-requires returns)
