@@ -1,7 +1,5 @@
 -- Demands 2 and 3 of a call that takes a valid polygon through its stages, whichever call it is. Assumes nothing.
 use mathlib.Core.Path.{_≡_, refl, sym, ap, _∙_, subst}
-use mathlib.Core.List.{List}
-use Prim.Native.Nat.{ℕ}
 use lib.ListN.{length, take}
 use Rattle.lists.proofs.Writing.{filled-take}
 use Rattle.polygon.specs.declared.Polygon.{Polygon}
