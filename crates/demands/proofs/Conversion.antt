@@ -13,13 +13,14 @@ use Rattle.finder.specs.Finding.{numberDue}
 use Rattle.finder.specs.Sizes.{sizesBy}
 use Rattle.pipeline.specs.Patching.{weightsIn, rowsIn, polygonNumber, patchBy, patchFile}
 use Rattle.pipeline.specs.Sizes.{sizesFile}
+use Rattle.pipeline.proofs.Files.{lists-alike}
 use Rattle.converter.specs.Call.{numberOf, convertCall, handedOver}
 use Rattle.converter.proofs.Demands.{same-rim}
 use Rattle.demands.specs.Conversion.{SameAnswers}
 
 pub same-answers : {s t : List ℕ} → SameRim s t → (limit : ℕ) → SameAnswers limit s t
 unfolding patchFile sizesFile
-same-answers r limit =
+same-answers {s} {t} r limit =
     let n = number-same r limit in
     let p = polygon-same r in
     let g = reading-same r limit in
@@ -29,6 +30,7 @@ same-answers r limit =
       weights = ap (λ (x : Reading). weightsIn (x .polygon)) g;
       rows = ap (λ (x : Reading). rowsIn (x .polygon)) g;
       sizes = λ i. sizesBy (firstDue (n i) (numberDue false (p i))) (p i);
+      lists = lists-alike limit limit s t g;
       patch = λ lent i. patchBy (firstDue (n i) (polygonNumber (p i) lent)) (p i) lent;
     }
 

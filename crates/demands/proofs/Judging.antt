@@ -1,11 +1,10 @@
 -- The judge over the lists of a rim: the job is accepted, and what the one call answered is a patch with excess 0. Assumes nothing.
-use mathlib.Core.Path.{_≡_, refl, sym, ap, _∙_, subst}
+use mathlib.Core.Path.{_≡_, sym, _∙_, subst}
 use mathlib.Core.List.{List}
 use Prim.Native.Nat.{ℕ, _-_, _≤_}
 use native.Mathlib.Omega.{arith}
 use lib.ListN.{length, take, replicate}
 use Rattle.lists.specs.Lists.{filled}
-use Rattle.lists.proofs.Writing.{filled-take}
 use Rattle.polygon.specs.declared.Polygon.{Polygon}
 use Rattle.polygon.specs.Polygon.{Valid}
 use Rattle.reader.specs.Order.{NoneDue}
@@ -21,11 +20,12 @@ use Rattle.judge.specs.Call.{result, judged}
 use Rattle.judge.specs.Demands.{JobAccepted}
 use Rattle.triangulator.proofs.Demands.{patch-handed}
 use Rattle.judge.proofs.Demands.{handed-accepted}
-use Rattle.pipeline.specs.Patching.{Tables, Patching, weightsIn, rowsIn, jobIn, patchFile}
-use Rattle.pipeline.proofs.Accepted.{weight-count, lists-accepted}
+use Rattle.pipeline.specs.Patching.{Tables, weightsIn, rowsIn, jobIn, patchFile}
+use Rattle.pipeline.proofs.Accepted.{lists-accepted}
 use Rattle.demands.specs.Demand1.{polygonIn, CallDue}
 use Rattle.demands.proofs.Demand1.{taken-only-when, accepted}
 use Rattle.demands.proofs.Demands.{file-handed}
+use Rattle.demands.proofs.Patched.{first-candidates, first-weights, first-rows}
 
 -- none of 13 to 17 is due on the lists of a rim beside a work table that is long enough (rule 4.36)
 pub rim-job-accepted : (p : Polygon) → Valid p → (workPlaces : ℕ) → length (candidatesOf p) ≤ workPlaces → JobAccepted (p .n) (candidatesOf p) (weightsIn p) (rowsIn p) workPlaces
@@ -44,15 +44,6 @@ module _ (limit : ℕ) (file : List ℕ) (bytes : Bytes file) (t : Tables) where
   abbrev left : Tables
   left = patchFile limit file t .left
 
-  first-candidates : None → take (length (candidatesOf p)) (left .candidates) ≡ candidatesOf p
-  first-candidates none = ap (λ (x : Patching). take (length (candidatesOf p)) (x .left .candidates)) (accepted limit file bytes t none .call-is) ∙ filled-take (candidatesOf p) (t .candidates) (length (candidatesOf p)) refl
-
-  first-weights : None → take (length (candidatesOf p)) (left .weights) ≡ weightsIn p
-  first-weights none = ap (λ (x : Patching). take (length (candidatesOf p)) (x .left .weights)) (accepted limit file bytes t none .call-is) ∙ filled-take (weightsIn p) (t .weights) (length (candidatesOf p)) (sym (weight-count p))
-
-  first-rows : None → take (length (rowsIn p)) (left .rows) ≡ rowsIn p
-  first-rows none = ap (λ (x : Patching). take (length (rowsIn p)) (x .left .rows)) (accepted limit file bytes t none .call-is) ∙ filled-take (rowsIn p) (t .rows) (length (rowsIn p)) refl
-
   -- the patch of a rim file, with the lists that the call left, is accepted with excess 0 (rules 3.13, 3.14)
   pub file-patch-accepted : (count total : ℕ) (work : List ℕ) → length (candidatesOf (polygonIn limit file)) ≤ length work → patchFile limit file t .outcome ≡ Patch count total
       → judged (polygonIn limit file .n) (take (length (candidatesOf (polygonIn limit file))) (patchFile limit file t .left .candidates)) (take (length (candidatesOf (polygonIn limit file))) (patchFile limit file t .left .weights))
@@ -60,7 +51,8 @@ module _ (limit : ℕ) (file : List ℕ) (bytes : Bytes file) (t : Tables) where
       ≡ result (judgement.Accepted 0) (filled (replicate (length (candidatesOf (polygonIn limit file))) 0) work)
   file-patch-accepted count total work room e =
       let none : None = taken-only-when limit file bytes t (subst Taken (sym e) a-patch) in
-      (λ i. judged (p .n) (first-candidates none i) (first-weights none i) (first-rows none i) (partOf (Patch count total) (left .triangles)) total work)
+      let is = accepted limit file bytes t none .call-is in
+      (λ i. judged (p .n) (first-candidates p t is i) (first-weights p t is i) (first-rows p t is i) (partOf (Patch count total) (left .triangles)) total work)
       ∙ handed-accepted (p .n) (candidatesOf p) (weightsIn p) (rowsIn p) total (partOf (Patch count total) (left .triangles)) work
       (rim-job-accepted p (accepted limit file bytes t none .polygon-valid) (length work) room)
       (patch-handed (subst (λ (o : Outcome). Handed (jobIn p) (partOf o (left .triangles)) o) e (file-handed limit file bytes t none)))

@@ -1,6 +1,7 @@
 pub mod Candidates
 pub mod Demand2
 pub mod Tables
+pub mod Patched
 pub mod Demand1
 pub mod Demands
 pub mod Flat

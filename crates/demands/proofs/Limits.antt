@@ -21,6 +21,7 @@ use Rattle.finder.specs.declared.Sizes.the-variants.{Refused}
 use Rattle.finder.specs.Sizes.{sizesBy}
 use Rattle.pipeline.specs.Patching.{Tables, refused, patchBy, polygonNumber, patchFile}
 use Rattle.pipeline.specs.Sizes.{sizesFile}
+use Rattle.pipeline.proofs.Files.{lists-alike}
 use Rattle.triangulator.specs.Call.{numberOf}
 use Rattle.demands.specs.Demand1.{CallDue, by-reader}
 use Rattle.demands.specs.Limits.{OneAnswer}
@@ -33,9 +34,11 @@ module _ {small large : ℕ} (least : minVertices ≤ small) (below : small ≤ 
   one-answer few =
       let n = number-alike least below most file few in
       let p = polygonOf file in
+      let r = reading-alike least below most file few in
       record {
-        reading = reading-alike least below most file few;
+        reading = r;
         sizes = λ i. sizesBy (firstDue (n i) (numberDue false p)) p;
+        lists = lists-alike small large file file r;
         patch = λ lent i. patchBy (firstDue (n i) (polygonNumber p lent)) p lent;
       }
 

@@ -24,7 +24,8 @@ use Rattle.triangulator.proofs.Settling.{part-patch, part-empty}
 use Rattle.pipeline.specs.Patching.{Tables, Patching, patching, weightsIn, jobIn, patchedBy, patched, patchFile}
 use Rattle.pipeline.proofs.Values.{valid-job}
 use Rattle.demands.specs.Demand1.{polygonIn, CallDue, by-reader, twelve, thirteen}
-use Rattle.demands.specs.OnePatch.{LongEnough, handedBack, SamePatch}
+use Rattle.demands.specs.Demand3.{handedBack}
+use Rattle.demands.specs.OnePatch.{LongEnough, SamePatch}
 use Rattle.demands.proofs.Demand1.{first-or-none, refused-first, accepted}
 
 -- where no triangle is counted nothing is handed back, whatever the tables hold

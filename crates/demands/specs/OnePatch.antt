@@ -5,17 +5,14 @@ use Prim.Native.Nat.{ℕ}
 use lib.ListN.{getD}
 use Rattle.terms.specs.Entries.{entryAt}
 use Rattle.finder.specs.Sizes.{placesOf}
-use Rattle.triangulator.specs.Call.{totalOf, partOf}
+use Rattle.triangulator.specs.Call.{totalOf}
 use Rattle.pipeline.specs.Patching.{Tables, Patching}
 use Rattle.demands.specs.Demand1.{polygonIn, TooShort}
+use Rattle.demands.specs.Demand3.{handedBack}
 
 -- no table is too short for the rim of the file (rule 4.13); for a file that the reader refuses, which has no rim, any tables will do
 abbrev pub LongEnough : ℕ → List ℕ → Tables → Type 0
 LongEnough limit file t = TooShort (placesOf (polygonIn limit file)) t → ⊥
-
--- the triangles that a call hands back, as candidate numbers in walk order (rule 3.8)
-abbrev pub handedBack : Patching → List ℕ
-handedBack x = partOf (x .outcome) (x .left .triangles)
 
 -- one outcome with one total, and the same triangles in the same order; each has the same three vertices and the same own weight in both sets of tables
 -- (rule 3.10)

@@ -9,7 +9,7 @@ use Rattle.reader.specs.declared.Reading.{Reading}
 use Rattle.reader.specs.Reading.{readingOf}
 use Rattle.finder.specs.declared.Found.the-variants.{Refused}
 use Rattle.finder.specs.Finding.{Finding, finding, findCall}
-use Rattle.exports.specs.Answers.{findAfter, findFile}
+use Rattle.pipeline.specs.Finding.{findAfter, findFile}
 
 module _ (limit : ℕ) (s : List ℕ) (candidates : List (List ℕ)) (weights : List ℕ) (rows : List (List ℕ)) {r : Reading} where
   after : {x : Status} → r .status ≡ x → r ≡ readingOf limit s → findAfter x (r .polygon) candidates weights rows ≡ findFile limit s candidates weights rows
@@ -26,9 +26,3 @@ module _ (limit : ℕ) (s : List ℕ) (candidates : List (List ℕ)) (weights : 
       {x : Finding} → r .status ≡ status.Complete → r ≡ readingOf limit s → x ≡ findCall (r .polygon) candidates weights rows →
       x ≡ findFile limit s candidates weights rows
   file-read d e f = f ∙ after d e
-
--- the finder's call goes by the reading alone: under two limits that read a file alike it answers alike (rule 3.11)
-pub lists-alike : (small large : ℕ) (s : List ℕ) → readingOf small s ≡ readingOf large s →
-    (candidates : List (List ℕ)) (weights : List ℕ) (rows : List (List ℕ)) → findFile small s candidates weights rows ≡ findFile large s candidates weights rows
-unfolding findFile
-lists-alike small large s e candidates weights rows = ap (λ (x : Reading). findAfter (x .status) (x .polygon) candidates weights rows) e

@@ -1,13 +1,9 @@
 -- What the exported calls answer (rule 5.6), and what they leave in every place of every lent table. Definitions only.
 use Prim.Native.Nat.{ℕ}
 use mathlib.Core.List.{List}
-use Rattle.polygon.specs.declared.Polygon.{Polygon}
-use Rattle.reader.specs.declared.Status.{Status}
-use Rattle.reader.specs.declared.Status.the-variants as status
 use Rattle.reader.specs.declared.Reading.{Reading}
-use Rattle.reader.specs.Reading.{readingOf, statusNumber}
-use Rattle.finder.specs.declared.Found.the-variants as found
-use Rattle.finder.specs.Finding.{Finding, finding, findCall, candidateCountOf, rowCountOf}
+use Rattle.reader.specs.Reading.{statusNumber}
+use Rattle.finder.specs.Finding.{Finding, candidateCountOf, rowCountOf}
 use Rattle.finder.specs.Finding as finder
 use Rattle.triangulator.specs.declared.Outcome.{Outcome}
 use Rattle.triangulator.specs.Call.{Result, numberOf, trianglesOf, totalOf}
@@ -72,15 +68,6 @@ jobJudgementOf r = jobJudgement (judgeAnswerOf (r .judgement)) (r .work)
 -- the reader's number, and how many vertices: 0 in a refusal, whose polygon is the empty one (rule 5.6)
 abbrev pub readAnswerOf : Reading → ReadAnswer
 readAnswerOf r = record { number = statusNumber (r .status); vertices = r .polygon .n }
-
--- the reader, then the finder (rule 5.1): a number of the reader changes no table (rule 4.30)
-abbrev pub findAfter : Status → Polygon → List (List ℕ) → List ℕ → List (List ℕ) → Finding
-findAfter (status.Refused r) p candidates weights rows = finding (found.Refused r) candidates weights rows
-findAfter status.Complete p candidates weights rows = findCall p candidates weights rows
-
--- the lists of a rim file read with a limit (rule 5.1)
-unfoldable pub findFile : ℕ → List ℕ → List (List ℕ) → List ℕ → List (List ℕ) → Finding
-findFile limit file candidates weights rows = findAfter (readingOf limit file .status) (readingOf limit file .polygon) candidates weights rows
 
 -- the finder's answer as three numbers, with its three tables after it (rule 5.6)
 pub record RimLists : Type 0 where

@@ -14,9 +14,10 @@ ghost use Rattle.converter.specs.Call.{convertCall};
 ghost use Rattle.finder.specs.Finding.{finding};
 ghost use Rattle.triangulator.specs.Call.{triangulated};
 ghost use Rattle.judge.specs.Call.{judged};
+ghost use Rattle.pipeline.specs.Finding.{findFile};
 ghost use Rattle.pipeline.specs.Patching.{tables, patchFile};
 ghost use Rattle.pipeline.specs.Sizes.{sizesFile};
-ghost use Rattle.exports.specs.Answers.{patchAnswerOf, rimPatch, rimPatchOf, jobPatch, jobPatchOf, judgeAnswerOf, jobJudgement, jobJudgementOf, readAnswerOf, findFile, rimLists, rimListsOf, sizesAnswerOf, convertAnswerOf, fileConversion, fileConversionOf};
+ghost use Rattle.exports.specs.Answers.{patchAnswerOf, rimPatch, rimPatchOf, jobPatch, jobPatchOf, judgeAnswerOf, jobJudgement, jobJudgementOf, readAnswerOf, rimLists, rimListsOf, sizesAnswerOf, convertAnswerOf, fileConversion, fileConversionOf};
 
 // A patch where the number is 0 and there are triangles, 'none' where both are 0.
 #[repr(C)]

@@ -18,6 +18,7 @@ use Rattle.finder.specs.declared.Sizes.the-variants as sizes
 use Rattle.finder.specs.Sizes.{noPlaces, numberOf, placesIn, duePlaces, sizesBy, sizesOf}
 use Rattle.finder.proofs.Answers.{sizes-values}
 use Rattle.triangulator.specs.declared.Outcome.the-variants.{Refused}
+use Rattle.pipeline.specs.Finding.{findAfter, findFile}
 use Rattle.pipeline.specs.Patching.{Tables, Patching, patching, patchBy, polygonNumber, patchPolygon, patchFile}
 use Rattle.pipeline.specs.Sizes.{sizesNumber, sizesFile}
 
@@ -75,3 +76,9 @@ module _ (limit : ℕ) (s : List ℕ) {r : Reading} where
       (x ≡ sizesFile limit s) × ((numberOf x ≡ sizesNumber limit s) × (placesIn x ≡ duePlaces (sizesNumber limit s) (polygonOf s)))
   unfolding sizesFile
   sizes-read d e f = values limit s (f ∙ by-polygon limit s e sizesBy (λ (k : Refusal). sizes.Refused k) (λ k. refl) (λ (p : Polygon). numberDue false p) d)
+
+-- the finder's call goes by the reading alone: two files, each under a limit, that are read alike are answered alike (rules 1.16, 3.11)
+pub lists-alike : (small large : ℕ) (s t : List ℕ) → readingOf small s ≡ readingOf large t →
+    (candidates : List (List ℕ)) (weights : List ℕ) (rows : List (List ℕ)) → findFile small s candidates weights rows ≡ findFile large t candidates weights rows
+unfolding findFile
+lists-alike small large s t e candidates weights rows = ap (λ (x : Reading). findAfter (x .status) (x .polygon) candidates weights rows) e

@@ -24,11 +24,11 @@ module _ where
   SameMembers s t = ((k : ℕ) → Mem k s → Mem k t) × ((k : ℕ) → Mem k t → Mem k s)
 
   -- a subset of i, i + 1, .. starts with i, or is one of i + 1, ..
-  data Split (i c : ℕ) (s : List ℕ) : Type 0 where
+  pub data Split (i c : ℕ) (s : List ℕ) : Type 0 where
     with-it : (r : List ℕ) → List·Memᴰ r (subsets (upFrom (suc i) c)) → s ≡ i ∷ r → Split i c s
     without : List·Memᴰ s (subsets (upFrom (suc i) c)) → Split i c s
 
-  split : (i c : ℕ) (s : List ℕ) → List·Memᴰ s (subsets (upFrom i (suc c))) → Split i c s
+  pub split : (i c : ℕ) (s : List ℕ) → List·Memᴰ s (subsets (upFrom i (suc c))) → Split i c s
   split i c s m = ⊎-elim (λ h. go (map-mem (λ r. i ∷ r) s (subsets (upFrom (suc i) c)) h)) without (List·Memᴰ·append-cases (map (λ r. i ∷ r) (subsets (upFrom (suc i) c))) m)
     where
       go : Image (λ r. i ∷ r) s (subsets (upFrom (suc i) c)) → Split i c s

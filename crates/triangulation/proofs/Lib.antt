@@ -8,3 +8,4 @@ pub mod Least
 pub mod Recursion
 pub mod Bounds
 pub mod Demand3
+pub mod Tiling

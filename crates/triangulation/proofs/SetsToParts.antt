@@ -22,7 +22,7 @@ below-true (suc k) p h i l = go (eqb i k) refl (λ d. below-true k p (and-left (
     go true e ih = ap p (eqb-true i k e) ∙ and-right (allBelow k p) (p k) h
     go false e ih = ih (let d : i ≢ k = eqb-false i k e in omega arith)
 
-or-cases : (x y : Bool) → (x || y) ≡ true → (x ≡ true) ⊎ (y ≡ true)
+pub or-cases : (x y : Bool) → (x || y) ≡ true → (x ≡ true) ⊎ (y ≡ true)
 or-cases true y e = inl refl
 or-cases false y e = inr e
 
@@ -60,7 +60,7 @@ module _ (job : Job) where
       go false y e = e
 
   module _ (good : Valid job) (s : List ℕ) (valid : (k : ℕ) → Mem k s → k < job .size) (isTriangulated : isTriangulation job s ≡ true) where
-    at : (i j : ℕ) → i < j → j < job .n → Edge i j (countBetween job s i j) (countOutside job s i j)
+    pub at : (i j : ℕ) → i < j → j < job .n → Edge i j (countBetween job s i j) (countOutside job s i j)
     unfolding isTriangulation
     at i j h k = edge-of i j _ _ (below-true j _ (below-true (job .n) _ isTriangulated j k) i h)
 

@@ -7,7 +7,7 @@ use mathlib.Core.List.{List, _∷_, List·Memᴰ}
 use lib.ListN.{length, getD}
 use Rattle.triangulation.specs.Triangulations.{Job, Answer, none, patch, upFrom, subsets, isTriangulation, totalWeight, preorder}
 
--- the set s of candidates is a tiling (rule 3.3)
+-- the set s of candidates is a tiling (rule 3.3), by the test; `Tiling` of Tiling.antt says the same of vertices and triangles
 abbrev pub Triangulates : Job → List ℕ → Type 0
 Triangulates job s = List·Memᴰ s (subsets (upFrom 0 (job .size))) × (isTriangulation job s ≡ true)
 

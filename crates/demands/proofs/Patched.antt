@@ -1,0 +1,50 @@
+-- Demands 2 and 3 of a call that takes a valid polygon through its stages, whichever call it is. Assumes nothing.
+use mathlib.Core.Path.{_≡_, refl, sym, ap, _∙_, subst}
+use lib.ListN.{length, take}
+use Rattle.lists.proofs.Writing.{filled-take}
+use Rattle.polygon.specs.declared.Polygon.{Polygon}
+use Rattle.polygon.specs.Polygon.{Valid}
+use Rattle.delaunay.specs.Candidates.{candidatesOf}
+use Rattle.triangulation.specs.Triangulations.{Job, Answer, best}
+use Rattle.triangulation.specs.Jobs.{jobOf}
+use Rattle.triangulation.specs.Demand3.{Demand3}
+use Rattle.triangulation.proofs.Demand3.{demand3}
+use Rattle.triangulator.specs.Demands.{Handed}
+use Rattle.triangulator.proofs.Demands.{settled-states, settled-handed}
+use Rattle.pipeline.specs.Patching.{Tables, Patching, weightsIn, rowsIn, jobIn, patched}
+use Rattle.pipeline.proofs.Values.{valid-job}
+use Rattle.pipeline.proofs.Accepted.{weight-count}
+use Rattle.demands.specs.Demand3.{ListsLeft, jobLeft, answerIn, handedBack, RightOfTables}
+use Rattle.demands.proofs.Tables.{filled-hold}
+
+module _ (p : Polygon) (t : Tables) {x : Patching} (e : x ≡ patched p t) where
+  -- the lists in the first places of the tables
+  pub first-candidates : take (length (candidatesOf p)) (x .left .candidates) ≡ candidatesOf p
+  first-candidates = ap (λ (x : Patching). take (length (candidatesOf p)) (x .left .candidates)) e ∙ filled-take (candidatesOf p) (t .candidates) (length (candidatesOf p)) refl
+
+  pub first-weights : take (length (candidatesOf p)) (x .left .weights) ≡ weightsIn p
+  first-weights = ap (λ (x : Patching). take (length (candidatesOf p)) (x .left .weights)) e ∙ filled-take (weightsIn p) (t .weights) (length (candidatesOf p)) (sym (weight-count p))
+
+  pub first-rows : take (length (rowsIn p)) (x .left .rows) ≡ rowsIn p
+  first-rows = ap (λ (x : Patching). take (length (rowsIn p)) (x .left .rows)) e ∙ filled-take (rowsIn p) (t .rows) (length (rowsIn p)) refl
+
+  -- so they state the polygon's job
+  pub job-left : jobLeft p (x .left) ≡ jobIn p
+  job-left = λ i. jobOf (p .n) (first-candidates i) (first-weights i) (first-rows i)
+
+  module _ (v : Valid p) where
+    pub patched-demand2 : ListsLeft p t (x .left)
+    patched-demand2 = subst (λ (x : Patching). ListsLeft p t (x .left)) (sym e) (filled-hold p v (t .candidates) (t .weights) (t .rows))
+
+    pub patched-demand3 : Demand3 (jobIn p) (answerIn x)
+    patched-demand3 =
+        subst (λ (a : Answer). Demand3 (jobIn p) a) (sym (ap answerIn e ∙ settled-states (best (jobIn p)) (length (candidatesOf p)) (t .triangles) (t .work)))
+        (demand3 (jobIn p) (valid-job p v))
+
+    pub patched-demand3-of-tables : RightOfTables p x
+    patched-demand3-of-tables = subst (λ (j : Job). Demand3 j (answerIn x)) (sym job-left) patched-demand3
+
+    pub patched-handed : Handed (jobIn p) (handedBack x) (x .outcome)
+    patched-handed =
+        subst (λ (x : Patching). Handed (jobIn p) (handedBack x) (x .outcome)) (sym e)
+        (settled-handed (jobIn p) (valid-job p v) (length (candidatesOf p)) (t .triangles) (t .work))

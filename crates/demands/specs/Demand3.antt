@@ -1,0 +1,35 @@
+-- What a call on a polygon left in its five tables, as demands 2 and 3 speak of it. Definitions only.
+use mathlib.Core.List.{List}
+use Prim.Native.Nat.{ℕ}
+use lib.ListN.{take}
+use Rattle.polygon.specs.declared.Polygon.{Polygon}
+use Rattle.finder.specs.Sizes.{placesOf}
+use Rattle.triangulation.specs.Triangulations.{Job, Answer}
+use Rattle.triangulation.specs.Jobs.{jobOf}
+use Rattle.triangulation.specs.Demand3.{Demand3}
+use Rattle.triangulator.specs.Call.{partOf}
+use Rattle.triangulator.specs.Demands.{stated}
+use Rattle.pipeline.specs.Patching.{Tables, Patching}
+use Rattle.demands.specs.Demand2.{TablesHold}
+
+-- the candidate, weight and row tables have the polygon's lists in their first places, and in each further place what they held (rule 3.9)
+abbrev pub ListsLeft : Polygon → Tables → Tables → Type 0
+ListsLeft p t left =
+    TablesHold p (placesOf p .candidates) (placesOf p .rows) (t .candidates) (t .weights) (t .rows) (left .candidates) (left .weights) (left .rows)
+
+-- the job that the first places of these tables state (rules 3.1, 3.9)
+abbrev pub jobLeft : Polygon → Tables → Job
+jobLeft p left =
+    jobOf (p .n) (take (placesOf p .candidates) (left .candidates)) (take (placesOf p .candidates) (left .weights)) (take (placesOf p .rows) (left .rows))
+
+-- the triangles that a call hands back, as candidate numbers in walk order (rule 3.8)
+abbrev pub handedBack : Patching → List ℕ
+handedBack x = partOf (x .outcome) (x .left .triangles)
+
+-- the answer that the outcome states with its triangle table (rule 3.8)
+abbrev pub answerIn : Patching → Answer
+answerIn x = stated (x .outcome) (x .left .triangles)
+
+-- the answer is right for the lists that the call left (rule 3.7)
+abbrev pub RightOfTables : Polygon → Patching → Type 0
+RightOfTables p x = Demand3 (jobLeft p (x .left)) (answerIn x)
