@@ -13,7 +13,7 @@ use Rattle.triangulator.specs.Demands.{stated, Handed}
 use Rattle.triangulator.proofs.Demands.{settled-states, settled-handed}
 use Rattle.pipeline.specs.Patching.{Tables, Patching, rowsIn, jobIn, patchFile}
 use Rattle.pipeline.proofs.Values.{valid-job}
-use Rattle.reader.specs.File.{Bytes}
+use Rattle.rim_file.specs.File.{Bytes}
 use Rattle.demands.specs.Demand1.{polygonIn, CallDue}
 use Rattle.demands.specs.Demand2.{TablesHold}
 use Rattle.demands.proofs.Demand1.{accepted}

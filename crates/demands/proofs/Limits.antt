@@ -8,7 +8,7 @@ use Prim.Native.Nat.{ℕ, suc, _≤_, _<_}
 use native.Mathlib.Omega.{arith}
 use Rattle.terms.specs.Limits.{minVertices, maxVertices, trimVertices, countFits}
 use Rattle.terms.specs.Numbers.{firstDue}
-use Rattle.reader.specs.File.{Bytes}
+use Rattle.rim_file.specs.File.{Bytes}
 use Rattle.reader.specs.Order.{Place, request, Precedes, by-number}
 use Rattle.reader.specs.Due.{HasRecords, AtMost, limit-wrong}
 use Rattle.reader.specs.Reading.{polygonOf, readingOf}
