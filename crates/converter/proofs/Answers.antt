@@ -10,7 +10,7 @@ use Rattle.codes.specs.Refusals.{refusal}
 use Rattle.lists.specs.Lists.{filled}
 use Rattle.terms.specs.Numbers.{firstDue}
 use Rattle.terms.specs.Limits.{maxVertices}
-use Rattle.reader.specs.File.{lengthWrong}
+use Rattle.rim_file.specs.File.{lengthWrong}
 use Rattle.reader.specs.Reading.{polygonOf, answer, readingOf, statusNumber}
 use Rattle.reader.specs.Reading as reader
 use Rattle.reader.specs.declared.Status.the-variants as status

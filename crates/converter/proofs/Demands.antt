@@ -12,8 +12,8 @@ use Rattle.lists.proofs.Writing.{filled-first}
 use Rattle.terms.specs.Numbers.{firstDue}
 use Rattle.terms.proofs.Numbers.{due-neither}
 use Rattle.terms.specs.Limits.{maxVertices}
-use Rattle.reader.specs.File.{Bytes, isEdition2}
-use Rattle.reader.specs.Editions.{SameRim}
+use Rattle.rim_file.specs.File.{Bytes, isEdition2}
+use Rattle.rim_file.specs.Editions.{SameRim}
 use Rattle.reader.specs.Reading.{readingOf}
 use Rattle.reader.specs.Reading as reader
 use Rattle.reader.proofs.Editions.{number-same, reading-same}

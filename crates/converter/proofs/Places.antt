@@ -9,8 +9,8 @@ use lib.ListN.{length, getD, length-append, List·getD-append}
 use lib.Seq.{getD-append-add}
 use Rattle.lists.specs.Lists.{over}
 use Rattle.lists.proofs.Pieces.{piece-at}
-use Rattle.reader.specs.File.{u16At, headerSize, recordSize1, headerStart, recordSize, recordCount, lengthWrong, offset}
-use Rattle.reader.proofs.Lengths.{Whole, by-records}
+use Rattle.rim_file.specs.File.{u16At, headerSize, recordSize1, headerStart, recordSize, recordCount, lengthWrong, offset}
+use Rattle.rim_file.proofs.Lengths.{Whole, by-records}
 use Rattle.converter.specs.Converted.{headerBytes, recordBytes, laidOut}
 use Rattle.converter.proofs.Storing.{bytes-at}
 use Rattle.converter.proofs.Records.{header-length, record-length, piece-length}

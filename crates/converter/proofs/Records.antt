@@ -9,9 +9,9 @@ use lib.Seq.{sets}
 use Rattle.lists.specs.Lists.{over}
 use Rattle.lists.proofs.Ranges.{over-last}
 use Rattle.lists.proofs.Pieces.{pieces-length}
-use Rattle.reader.specs.File.{headerSize, recordSize1, recordCount, offset}
-use Rattle.reader.proofs.Layouts.{bounds, record-within}
-use Rattle.reader.proofs.Lengths.{Whole}
+use Rattle.rim_file.specs.File.{headerSize, recordSize1, recordCount, offset}
+use Rattle.rim_file.proofs.Layouts.{bounds, record-within}
+use Rattle.rim_file.proofs.Lengths.{Whole}
 use Rattle.converter.specs.Converted.{bytesAt, headerBytes, recordBytes}
 use Rattle.converter.proofs.Storing.{bytes-length, stores-then}
 

@@ -14,12 +14,12 @@ use Rattle.lists.proofs.Pieces.{cut-pieces}
 use Rattle.polygon.specs.Normal.{noNormal}
 use Rattle.polygon.specs.declared.normal.Normal.{Normal}
 use Rattle.terms.specs.Limits.{maxVertices}
-use Rattle.reader.specs.File.{Bytes, u16At, i16At, isEdition2, marker, headerSize, recordSize1, headerStart, recordSize, recordCount, offset}
-use Rattle.reader.specs.Record.{heldNormal, normalIn}
-use Rattle.reader.proofs.Layouts.{bounds, start-1, start-2, size-1, size-2, record-within}
-use Rattle.reader.proofs.Lengths.{Whole, whole}
-use Rattle.reader.proofs.Normals.{normal-2}
-use Rattle.reader.proofs.Signed.{zero-bits}
+use Rattle.rim_file.specs.File.{Bytes, u16At, i16At, isEdition2, marker, headerSize, recordSize1, headerStart, recordSize, recordCount, offset}
+use Rattle.rim_file.specs.Record.{heldNormal, normalIn}
+use Rattle.rim_file.proofs.Layouts.{bounds, start-1, start-2, size-1, size-2, record-within}
+use Rattle.rim_file.proofs.Lengths.{Whole, whole}
+use Rattle.rim_file.proofs.Normals.{normal-2}
+use Rattle.rim_file.proofs.Signed.{zero-bits}
 use Rattle.reader.proofs.FirstNumber.{Read}
 use Rattle.converter.specs.Converted.{bytesAt, headerBytes, recordBytes, laidOut, markerBytes, zeroNormal, converted, normalLost}
 use Rattle.converter.proofs.Storing.{bytes-length, bytes-at, bytes-same}

@@ -9,10 +9,10 @@ use lib.ListN.{length, replicate, length-append, length-replicate}
 use lib.Seq.{sets}
 use Rattle.lists.specs.Lists.{over}
 use Rattle.lists.proofs.Choice.{yes, no}
-use Rattle.reader.specs.declared.Layout.{Layout}
-use Rattle.reader.specs.File.{isEdition2, markerSize, headerSize, recordSize1, recordSize2, layout1, layout2, layoutOf, headerStart, recordCount}
-use Rattle.reader.proofs.Layouts.{edition1, edition2}
-use Rattle.reader.proofs.Lengths.{Whole}
+use Rattle.rim_file.specs.declared.Layout.{Layout}
+use Rattle.rim_file.specs.File.{isEdition2, markerSize, headerSize, recordSize1, recordSize2, layout1, layout2, layoutOf, headerStart, recordCount}
+use Rattle.rim_file.proofs.Layouts.{edition1, edition2}
+use Rattle.rim_file.proofs.Lengths.{Whole}
 use Rattle.converter.specs.Converted.{bytesAt, headerBytes, recordBytes, laidOut, markerByte, converted, otherEdition}
 use Rattle.converter.specs.Steps.{targetOf, endingIn, inLayout}
 use Rattle.converter.specs.declared.Target.{Target}

@@ -12,8 +12,8 @@ use Rattle.lists.specs.Lists.{upFrom, someFrom}
 use Rattle.lists.proofs.Comparing.{sameList, same-list, anyOf, any-of}
 use Rattle.grid.specs.Number.{finite, numerator, denominator, negative, inRange, roundEighths}
 use Rattle.polygon.specs.Polygon.{repeatedVertex}
-use Rattle.reader.specs.File.{layoutOf, lengthWrong}
-use Rattle.reader.specs.Record.{recordAt, numbersCode, vertexOf, normalIn}
+use Rattle.rim_file.specs.File.{layoutOf, lengthWrong}
+use Rattle.rim_file.specs.Record.{recordAt, numbersCode, vertexOf, normalIn}
 use Rattle.reader.specs.Chain.{link, metBefore, heightBefore, linkCode, positionCode, codeFrom, endFrom}
 use Rattle.reader.specs.Reading as reader
 use Rattle.reader.proofs.Cases.{point-then, zero-mm, one-mm, no-surface}

@@ -5,8 +5,8 @@ use Prim.Native.Nat.{ℕ, suc}
 use lib.ListN.{take, drop, replicate}
 use Rattle.lists.specs.Lists.{over, some}
 use Rattle.polygon.specs.Normal.{isNone}
-use Rattle.reader.specs.File.{isEdition2, headerSize, recordSize1, headerStart, recordCount, offset}
-use Rattle.reader.specs.Record.{normalIn}
+use Rattle.rim_file.specs.File.{isEdition2, headerSize, recordSize1, headerStart, recordCount, offset}
+use Rattle.rim_file.specs.Record.{normalIn}
 
 -- k bytes of a file, from place i on
 abbrev pub bytesAt : List ℕ → ℕ → ℕ → List ℕ

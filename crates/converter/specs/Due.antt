@@ -6,8 +6,8 @@ use Prim.Native.Nat.{ℕ, _<_}
 use lib.ListN.{length}
 use Rattle.terms.specs.Limits.{maxVertices}
 use Rattle.polygon.specs.Normal.{noNormal}
-use Rattle.reader.specs.File.{isEdition2, offset, lengthWrong}
-use Rattle.reader.specs.Record.{heldNormal}
+use Rattle.rim_file.specs.File.{isEdition2, offset, lengthWrong}
+use Rattle.rim_file.specs.Record.{heldNormal}
 use Rattle.reader.specs.Order.{Place, rim}
 use Rattle.reader.specs.Due.{InFile, DueAt}
 use Rattle.converter.specs.Converted.{converted}

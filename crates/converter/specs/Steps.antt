@@ -5,8 +5,8 @@ use mathlib.Core.List.{List}
 use Prim.Native.Nat.{ℕ, _+_, _-_, _*_, _≤_}
 use lib.Dec.{eqb}
 use lib.ListN.{length, replicate}
-use Rattle.reader.specs.declared.Layout.{Layout}
-use Rattle.reader.specs.File.{markerSize, headerSize, recordSize1, recordSize2, layout1, layout2, layoutOf, recordCount, lengthWrong}
+use Rattle.rim_file.specs.declared.Layout.{Layout}
+use Rattle.rim_file.specs.File.{markerSize, headerSize, recordSize1, recordSize2, layout1, layout2, layoutOf, recordCount, lengthWrong}
 use Rattle.converter.specs.Converted.{laidOut, markerByte}
 use Rattle.converter.specs.declared.Target.{Target}
 

@@ -4,13 +4,13 @@ mod writing;
 
 ghost use mathlib.Core.Path.{_≡_};
 ghost use mathlib.Core.Bool.{false};
-ghost use Rattle.reader.specs.File.{lengthWrong};
+ghost use Rattle.rim_file.specs.File.{lengthWrong};
 ghost use Rattle.converter.specs.Call.{numberOf, editionOf, lengthOf, valuesOf, conversionCode, conversionNumber, numberDue, dueValues, converting, convertBy, convertCall, partOf};
 ghost use Rattle.converter.specs.Steps.{targetOf};
 use codes::Refusal;
-use reader::Layout;
 use reader::Status;
-use reader::edition;
+use rim_file::Layout;
+use rim_file::edition;
 
 // The converted file's edition and length, or a refusal.
 pub enum Conversion {

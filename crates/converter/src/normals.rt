@@ -1,11 +1,11 @@
 // The test for 19, over all records, whether the chain reaches them or not.
 ghost use mathlib.Core.Path.{_≡_};
 ghost use mathlib.Core.Bool.{false};
-ghost use Rattle.reader.specs.File.{layoutOf, recordCount, lengthWrong};
+ghost use Rattle.rim_file.specs.File.{layoutOf, recordCount, lengthWrong};
 ghost use Rattle.converter.specs.Converted.{normalLost};
-use reader::Layout;
-use reader::edition;
-use reader::normal;
+use rim_file::Layout;
+use rim_file::edition;
+use rim_file::normal;
 
 // Does a record have a normal other than three zeros?
 pub fn has_normal(file: &[u8], layout: Layout, count: usize) -> bool

@@ -5,11 +5,11 @@ ghost use Prim.Native.Nat.{suc, _+_, _≤_};
 ghost use lib.ListN.{length, replicate};
 ghost use lib.Seq.{sets};
 ghost use Rattle.lists.specs.Lists.{over};
-ghost use Rattle.reader.specs.File.{headerSize, recordCount};
+ghost use Rattle.rim_file.specs.File.{headerSize, recordCount};
 ghost use Rattle.converter.specs.Converted.{bytesAt, recordBytes};
 ghost use Rattle.converter.specs.Steps.{endingIn, inLayout, Room};
-use reader::Layout;
-use reader::edition;
+use rim_file::Layout;
+use rim_file::edition;
 
 // Both bytes of the marker.
 const MARKER_BYTE: u8 = 255;

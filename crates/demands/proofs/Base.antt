@@ -1,13 +1,12 @@
 -- Where no surface adjoins the rim, the answer is that of areas and rows alone: for every file of edition 1, and for a file of edition 2 whose normals are
 -- all zero. Assumes nothing.
 use mathlib.Core.Path.{_≡_, refl, sym, ap, _∙_, subst}
-use mathlib.Core.Bool.{Bool, true, false, cond, not}
+use mathlib.Core.Bool.{Bool, true, false, cond}
 use mathlib.Core.List.{List, [], _∷_, map, List·Memᴰ, List·Memᴰ·head, List·Memᴰ·tail}
-use Prim.Native.Nat.{ℕ, zero, suc, _+_, _-_, _*_, _<_}
+use Prim.Native.Nat.{ℕ, zero, suc, _+_, _<_}
 use native.Mathlib.Omega.{arith}
-use lib.Dec.{ltb, eqb}
-use lib.ListN.{length}
-use Rattle.lists.specs.Lists.{both, either}
+use lib.Dec.{eqb}
+use Rattle.lists.specs.Lists.{both}
 use Rattle.lists.proofs.Choice.{both-true}
 use Rattle.polygon.specs.declared.Polygon.{Polygon}
 use Rattle.polygon.specs.declared.normal.Normal.{Normal}
@@ -15,15 +14,14 @@ use Rattle.terms.proofs.Numbers.{due-neither}
 use Rattle.polygon.specs.Normal.{noNormal, isNone}
 use Rattle.terms.specs.Entries.{vertexA, vertexB, vertexC}
 use Rattle.reader.specs.declared.Status.the-variants.{Complete}
-use Rattle.reader.specs.File.{u16At, isEdition2, headerStart, recordSize, offset, lengthWrong}
+use Rattle.rim_file.specs.File.{isEdition2, offset}
 use Rattle.reader.specs.Due.{InFile, HasNormal, held, none}
 use Rattle.reader.specs.Chain.{link}
-use Rattle.reader.specs.Editions.{SameRim}
+use Rattle.rim_file.specs.Editions.{SameRim}
 use Rattle.reader.specs.Reading.{answer, polygonOf, readingOf}
 use Rattle.reader.specs.Reading as reader
-use Rattle.reader.proofs.Layouts.{start-1, size-1}
 use Rattle.reader.proofs.Accepted.{read-normals, read-records}
-use Rattle.reader.proofs.Normals.{normal-1, normal-2}
+use Rattle.rim_file.proofs.Normals.{normal-1, normal-2}
 use Rattle.faces.proofs.Members.{triples-member}
 use Rattle.delaunay.specs.Candidates.{isCandidate, candidatesOf}
 use Rattle.dihedrals.specs.Dihedrals.{faceNormal}
@@ -31,7 +29,7 @@ use Rattle.weights.specs.Weights.{edgeNormal, outsideNormal, areaWeight, ownWei
 use Rattle.weights.proofs.Edges.{edgesOf, none-outside}
 use Rattle.pipeline.specs.Patching.{Tables, weightsIn, patchedWith, patchBy, polygonNumber, fileNumber, patchFile}
 use Rattle.demands.proofs.Conversion.{same-answers}
-use Rattle.demands.specs.Base.{NoSurface, ZeroNormals, areaWeights, baseBy, baseFile, Edition1}
+use Rattle.demands.specs.Base.{NoSurface, ZeroNormals, areaWeights, baseBy, baseFile}
 
 map-members : {A B : Type 0} (f g : A → B) (l : List A) → ((x : A) → List·Memᴰ x l → f x ≡ g x) → map f l ≡ map g l
 map-members f g [] h = refl
@@ -89,21 +87,6 @@ module _ (limit : ℕ) (file : List ℕ) where
   -- every file of edition 1 is such a file
   pub edition-1-answer : isEdition2 file ≡ false → (t : Tables) → patchFile limit file t ≡ baseFile limit file t
   edition-1-answer one = zero-normals-answer (record { zero = λ k h l. normal-1 file (offset file k) one })
-
--- and its header and records stand where they did
-pub edition-1-layout : (file : List ℕ) → isEdition2 file ≡ false → Edition1 file
-unfolding lengthWrong
-edition-1-layout file one =
-    let start : headerStart file ≡ 0 = start-1 file one in
-    let size : recordSize file ≡ 16 = size-1 file one in
-    record {
-      first = ap (λ (k : ℕ). u16At file k) start;
-      count = ap (λ (k : ℕ). u16At file (k + 2)) start;
-      area = ap (λ (k : ℕ). u16At file (k + 4)) start;
-      bend = ap (λ (k : ℕ). u16At file (k + 6)) start;
-      records = λ k i. start i + 8 + size i * (k - 1);
-      number-1 = λ i. either (ltb (length file) (start i + 8)) (either (ltb 256 (u16At file (start i + 2))) (not (eqb (length file) (start i + 8 + size i * u16At file (start i + 2)))));
-    }
 
 -- a file of edition 2 with the same header and records as one of edition 1, so that its normals are all zero, has the answer of that one
 pub edition-2-answer : (limit : ℕ) {one two : List ℕ} → isEdition2 one ≡ false → SameRim two one → (t : Tables) → patchFile limit two t ≡ baseFile limit one t

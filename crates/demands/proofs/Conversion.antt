@@ -5,7 +5,7 @@ use mathlib.Core.Bool.{false}
 use mathlib.Core.List.{List}
 use Prim.Native.Nat.{ℕ}
 use Rattle.terms.specs.Numbers.{firstDue}
-use Rattle.reader.specs.Editions.{SameRim}
+use Rattle.rim_file.specs.Editions.{SameRim}
 use Rattle.reader.specs.declared.Reading.{Reading}
 use Rattle.reader.proofs.Editions.{number-same, polygon-same, reading-same}
 use Rattle.delaunay.specs.Candidates.{candidatesOf}

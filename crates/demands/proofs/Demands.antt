@@ -2,7 +2,7 @@
 use mathlib.Core.List.{List}
 use Prim.Native.Nat.{ℕ}
 use Rattle.reader.specs.Order.{NoneDue}
-use Rattle.reader.specs.File.{Bytes}
+use Rattle.rim_file.specs.File.{Bytes}
 use Rattle.triangulation.specs.Demand3.{Demand3}
 use Rattle.triangulator.specs.Demands.{Handed}
 use Rattle.pipeline.specs.Patching.{Tables, jobIn, patchFile}

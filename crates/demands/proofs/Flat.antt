@@ -25,7 +25,7 @@ use Rattle.faces.proofs.Members.{triples-member}
 use Rattle.delaunay.specs.Candidates.{vertex, isCandidate, candidatesOf}
 use Rattle.dihedrals.specs.Dihedrals.{rowsOf}
 use Rattle.weights.specs.Weights.{ownWeight, weightsOf}
-use Rattle.reader.specs.File.{Bytes}
+use Rattle.rim_file.specs.File.{Bytes}
 use Rattle.reader.specs.Order.{Place, NoneDue}
 use Rattle.reader.specs.Due.{DueAt}
 use Rattle.triangulation.specs.Triangulations.{Answer, patch, best, bestKey, key, isTriangulation, totalWeight, preorderFrom, countBetween, countOutside}

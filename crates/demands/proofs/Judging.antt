@@ -8,7 +8,7 @@ use Rattle.lists.specs.Lists.{filled}
 use Rattle.polygon.specs.declared.Polygon.{Polygon}
 use Rattle.polygon.specs.Polygon.{Valid}
 use Rattle.reader.specs.Order.{NoneDue}
-use Rattle.reader.specs.File.{Bytes}
+use Rattle.rim_file.specs.File.{Bytes}
 use Rattle.delaunay.specs.Candidates.{candidatesOf}
 use Rattle.jobs.proofs.Acceptance.{fitting-accepted}
 use Rattle.triangulator.specs.declared.Outcome.{Outcome}

@@ -9,7 +9,7 @@ use native.Mathlib.Omega.{arith}
 use Rattle.codes.specs.Refusals.{refusal}
 use Rattle.terms.specs.Limits.{minVertices, maxVertices, trimVertices, countFits}
 use Rattle.terms.specs.Numbers.{firstDue}
-use Rattle.reader.specs.File.{Bytes}
+use Rattle.rim_file.specs.File.{Bytes}
 use Rattle.reader.specs.Order.{Place, request, Precedes, by-number}
 use Rattle.reader.specs.Due.{HasRecords, AtMost, limit-wrong}
 use Rattle.reader.specs.Reading.{polygonOf, readingOf}

@@ -10,7 +10,7 @@ use Rattle.lists.specs.Lists.{filled}
 use Rattle.lists.proofs.Writing.{filled-at}
 use Rattle.polygon.specs.declared.Polygon.{Polygon}
 use Rattle.polygon.specs.Polygon.{Valid}
-use Rattle.reader.specs.File.{Bytes}
+use Rattle.rim_file.specs.File.{Bytes}
 use Rattle.reader.specs.Order.{Place, First, NoneDue}
 use Rattle.delaunay.specs.Candidates.{candidatesOf}
 use Rattle.weights.specs.Weights.{ownWeight}

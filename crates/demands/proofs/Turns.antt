@@ -3,7 +3,7 @@ use Prim.Native.Nat.{ℕ}
 use mathlib.Core.Path.{_≡_, sym, _∙_}
 use mathlib.Core.List.{List}
 use lib.ListN.{length}
-use Rattle.reader.specs.File.{Bytes}
+use Rattle.rim_file.specs.File.{Bytes}
 use Rattle.reader.specs.Order.{NoneDue}
 use Rattle.delaunay.specs.Candidates.{candidatesOf}
 use Rattle.triangulation.specs.Triangulations.{Answer, patch}

@@ -18,8 +18,8 @@ use Rattle.polygon.specs.Polygon.{origin, codeOf, repeatedVertex, verticesCodeF
 use Rattle.terms.specs.Numbers.{firstDue}
 use Rattle.polygon.specs.declared.normal.Normal.{Normal}
 use Rattle.polygon.specs.Normal.{normal, noNormal}
-use Rattle.reader.specs.File.{layoutOf, lengthWrong}
-use Rattle.reader.specs.Record.{recordAt, numbersCode, vertexOf, normalIn}
+use Rattle.rim_file.specs.File.{layoutOf, lengthWrong}
+use Rattle.rim_file.specs.Record.{recordAt, numbersCode, vertexOf, normalIn}
 use Rattle.reader.specs.Chain.{link, metBefore, heightBefore, linkCode, positionCode, codeFrom, endFrom}
 use Rattle.reader.specs.Reading.{polygonOf}
 use Rattle.reader.specs.Reading as reader

@@ -1,15 +1,11 @@
 -- The answer where no surface adjoins the rim: areas and rows alone, as for files without normals. Definitions only.
 use mathlib.Core.Path.{_≡_}
-use mathlib.Core.Bool.{not}
 use mathlib.Core.List.{List, map}
-use Prim.Native.Nat.{ℕ, zero, suc, _+_, _-_, _*_, _≤_, _<_}
-use lib.Dec.{ltb, eqb}
-use lib.ListN.{length}
-use Rattle.lists.specs.Lists.{either}
+use Prim.Native.Nat.{ℕ, zero, suc, _≤_, _<_}
 use Rattle.polygon.specs.declared.Polygon.{Polygon}
 use Rattle.polygon.specs.Normal.{noNormal, normalAt}
-use Rattle.reader.specs.File.{u16At, firstRecord, recordCount, areaFactor, bendFactor, offset, lengthWrong}
-use Rattle.reader.specs.Record.{normalIn}
+use Rattle.rim_file.specs.File.{recordCount, offset}
+use Rattle.rim_file.specs.Record.{normalIn}
 use Rattle.reader.specs.Reading.{polygonOf}
 use Rattle.delaunay.specs.Candidates.{candidatesOf}
 use Rattle.weights.specs.Weights.{areaWeight}
@@ -35,12 +31,3 @@ baseBy (suc k) p t = refused (suc k) t
 -- the answer to a file by areas and rows alone (rule 2.16)
 abbrev pub baseFile : ℕ → List ℕ → Tables → Patching
 baseFile limit file t = baseBy (fileNumber limit file t) (polygonOf file) t
-
--- header and records stand where a file without normals has them (rules 1.2 to 1.4, 4.1)
-pub record Edition1 (file : List ℕ) : Type 0 where
-  pub first : firstRecord file ≡ u16At file 0
-  pub count : recordCount file ≡ u16At file 2
-  pub area : areaFactor file ≡ u16At file 4
-  pub bend : bendFactor file ≡ u16At file 6
-  pub records : (k : ℕ) → offset file k ≡ 8 + 16 * (k - 1)
-  pub number-1 : lengthWrong file ≡ either (ltb (length file) 8) (either (ltb 256 (u16At file 2)) (not (eqb (length file) (8 + 16 * u16At file 2))))

@@ -14,7 +14,7 @@ use Rattle.terms.specs.Numbers.{firstDue}
 use Rattle.terms.proofs.Numbers.{due-neither}
 use Rattle.polygon.specs.declared.Polygon.{Polygon}
 use Rattle.polygon.specs.declared.normal.Normal.{Normal}
-use Rattle.reader.specs.File.{areaFactor, bendFactor, recordCount, lengthWrong}
+use Rattle.rim_file.specs.File.{areaFactor, bendFactor, recordCount, lengthWrong}
 use Rattle.reader.specs.Chain.{metBefore, overLimit, linkCode, recordCode, positionCode, codeFrom, endFrom, chainCode, vertexCount, verticesOf, normalsOf}
 use Rattle.reader.specs.Chain as chain
 use Rattle.reader.specs.Steps.{walked, chainOf}

@@ -12,8 +12,8 @@ use Rattle.grid.specs.Number.{finite, numerator, denominator, negative, inRange
 use Rattle.terms.specs.Limits.{maxVertices}
 use Rattle.polygon.specs.Polygon.{repeatedVertex}
 use Rattle.lists.proofs.Choice.{true-not-false}
-use Rattle.reader.specs.File.{isEdition2, layoutOf, lengthWrong}
-use Rattle.reader.specs.Record.{recordAt, numbersCode, vertexOf, normalIn}
+use Rattle.rim_file.specs.File.{isEdition2, layoutOf, lengthWrong}
+use Rattle.rim_file.specs.Record.{recordAt, numbersCode, vertexOf, normalIn}
 use Rattle.reader.specs.Chain.{link, metBefore, heightBefore, linkCode, positionCode, codeFrom, endFrom}
 use Rattle.reader.specs.Reading.{fileCode, numberDue}
 

@@ -7,7 +7,7 @@ use mathlib.Core.Logic.{_⊎_}
 use Prim.Native.Nat.{ℕ, zero, suc}
 use native.Mathlib.Omega.{arith}
 use Rattle.polygon.specs.Polygon.{emptyPolygon}
-use Rattle.reader.specs.File.{isEdition2}
+use Rattle.rim_file.specs.File.{isEdition2}
 use Rattle.reader.specs.Order.{First, NoneDue}
 use Rattle.reader.specs.Due.{DueAt}
 use Rattle.reader.specs.Reading.{numberDue, polygonOf, answer, readingOf, statusNumber}

@@ -11,11 +11,12 @@ use Rattle.lists.proofs.Choice.{yes, no, below-or-same}
 use Rattle.terms.specs.Limits.{maxVertices}
 use Rattle.polygon.specs.Normal.{normalInRange}
 use Rattle.terms.specs.Numbers.{firstDue}
-use Rattle.reader.specs.Chain.{vertexAt, numberOf, normalAt, linkCode, recordCode, positionCode, codeFrom, endFrom, chainCode, vertexCount}
+use Rattle.rim_file.specs.Record.{numberOf}
+use Rattle.reader.specs.Chain.{vertexAt, normalAt, linkCode, recordCode, positionCode, codeFrom, endFrom, chainCode, vertexCount}
 use Rattle.reader.specs.Chain as chain
 use Rattle.reader.specs.Order.{link-to, record-at}
 use Rattle.reader.specs.Due.{HasRecords, DueAt}
-use Rattle.reader.proofs.Lengths.{Whole}
+use Rattle.rim_file.proofs.Lengths.{Whole}
 use Rattle.reader.proofs.Answers.{code-step, end-step, past-limit, Passed, passed}
 use Rattle.reader.proofs.Walking.{positive}
 use Rattle.reader.proofs.Positions.{link-quiet, record-quiet, Reached, link-due-reached, record-due-reached, shorter, given-link, given-record, passing}

@@ -8,7 +8,7 @@ use native.Mathlib.Omega.{arith}
 use lib.ListN.{length, replicate}
 use Rattle.lists.proofs.Choice.{true-not-false}
 use Rattle.grid.specs.declared.GridPoint.{GridPoint}
-use Rattle.reader.specs.File.{headerSize, layoutOf, headerStart, recordCount}
+use Rattle.rim_file.specs.File.{headerSize, layoutOf, headerStart, recordCount}
 use Rattle.reader.specs.Chain.{link}
 use Rattle.reader.specs.Order.{Place, link-to, record-at}
 use Rattle.reader.specs.Due.{InFile, kindAt, tailZeroAt, OnGridAt, HasVertex, a-point, a-level-point, DueAt, link-over, met-again, too-many, over-limit, kind-unknown, no-height, not-finite, tail-not-zero, out-of-range, normal-out-of-range}

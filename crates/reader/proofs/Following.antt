@@ -15,7 +15,8 @@ use Rattle.polygon.specs.Normal.{noNormal}
 use Rattle.polygon.specs.Polygon.{origin}
 use Rattle.polygon.specs.declared.normal.Normal.{Normal}
 use Rattle.grid.specs.declared.GridPoint.{GridPoint}
-use Rattle.reader.specs.Chain.{link, vertexAt, pointOf, normalAt, positionCode, codeFrom, endFrom, chainCode, vertexCount, verticesOf, normalsOf}
+use Rattle.rim_file.specs.Record.{pointOf}
+use Rattle.reader.specs.Chain.{link, vertexAt, normalAt, positionCode, codeFrom, endFrom, chainCode, vertexCount, verticesOf, normalsOf}
 use Rattle.reader.specs.Steps.{Walking, Stepped, stoppedAt, walked, chainOf}
 use Rattle.reader.specs.declared.Progress.{Progress}
 use Rattle.reader.proofs.Tables.{table-next}

@@ -15,7 +15,7 @@ use Rattle.grid.specs.Point.{point}
 use Rattle.grid.proofs.HalfStep.{half-step, even-half}
 use Rattle.grid.proofs.Unique.{one-number}
 use Rattle.polygon.specs.Polygon as polygon
-use Rattle.reader.specs.File.{firstNumber, secondNumber, thirdNumber}
+use Rattle.rim_file.specs.File.{firstNumber, secondNumber, thirdNumber}
 use Rattle.reader.specs.Due.{kindAt, floatsAt, OnGridAt, HasVertex, a-point, a-level-point}
 use Rattle.reader.specs.Reading.{readingOf}
 use Rattle.reader.specs.Rounded.{RoundsTo, recordStart, Rounded}

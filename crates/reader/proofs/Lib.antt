@@ -1,15 +1,9 @@
-pub mod Numbers
-pub mod Signed
-pub mod Vertices
-pub mod Layouts
-pub mod Lengths
 pub mod Normals
 pub mod Tables
 pub mod Walking
 pub mod Following
 pub mod Answers
 pub mod Order
-pub mod Floats
 pub mod Heights
 pub mod RecordNumbers
 pub mod Positions

@@ -12,16 +12,17 @@ use Rattle.terms.specs.Limits.{maxVertices}
 use Rattle.polygon.specs.Normal.{normalInRange, normalCode}
 use Rattle.terms.specs.Numbers.{firstDue}
 use Rattle.terms.proofs.Numbers.{due-here, due-on, due-neither}
-use Rattle.reader.specs.File.{recordCount}
-use Rattle.reader.specs.Chain.{metBefore, vertexAt, numberOf, normalAt, overLimit, linkCode, recordCode, positionCode}
+use Rattle.rim_file.specs.File.{recordCount}
+use Rattle.rim_file.specs.Record.{numberOf}
+use Rattle.reader.specs.Chain.{metBefore, vertexAt, normalAt, overLimit, linkCode, recordCode, positionCode}
 use Rattle.reader.specs.Chain as chain
 use Rattle.reader.specs.Order.{link-to, record-at}
 use Rattle.reader.specs.Due.{InFile, HasRecords, DueAt, link-over, met-again, too-many, over-limit, kind-unknown, no-height, not-finite, tail-not-zero, out-of-range, normal-out-of-range}
 use Rattle.reader.proofs.Answers.{over-least}
 use Rattle.reader.proofs.Walking.{below-limit}
-use Rattle.reader.proofs.Layouts.{record-within}
-use Rattle.reader.proofs.Lengths.{Whole}
-use Rattle.reader.proofs.Floats.{UpTo}
+use Rattle.rim_file.proofs.Layouts.{record-within}
+use Rattle.rim_file.proofs.Lengths.{Whole}
+use Rattle.rim_file.proofs.Floats.{UpTo}
 use Rattle.reader.proofs.Normals.{normal-given, normal-due}
 use Rattle.reader.proofs.RecordNumbers.{record-most, kind-given, height-given, tail-given, finite-given, range-given, record-due}
 

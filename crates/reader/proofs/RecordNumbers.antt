@@ -12,31 +12,15 @@ use Rattle.lists.proofs.Choice.{yes, no}
 use Rattle.grid.specs.declared.GridPoint.{GridPoint}
 use Rattle.grid.specs.Number.{finite, inRange, roundEighths}
 use Rattle.grid.specs.Point.{point}
-use Rattle.reader.specs.File.{offset, firstNumber, secondNumber, thirdNumber}
-use Rattle.reader.specs.Record.{known, heightOf, everyNumber, numbersCode, vertexUnless}
-use Rattle.reader.specs.Chain.{heightBefore, vertexAt, numberOf}
+use Rattle.rim_file.specs.File.{offset, firstNumber, secondNumber, thirdNumber}
+use Rattle.rim_file.specs.Record.{known, heightOf, everyNumber, numbersCode, vertexUnless, numberOf}
+use Rattle.reader.specs.Chain.{heightBefore, vertexAt}
 use Rattle.reader.specs.Chain as chain
 use Rattle.reader.specs.Order.{record-at}
 use Rattle.reader.specs.Due.{HasRecords, kindAt, tailZeroAt, floatsAt, DueAt, kind-unknown, no-height, not-finite, tail-not-zero, out-of-range}
-use Rattle.reader.proofs.Vertices.{shape, shape-is}
-use Rattle.reader.proofs.Floats.{UpTo, every-fails, every-not, numbers-most, finite-code, range-code}
+use Rattle.rim_file.proofs.Vertices.{tests, vertex-number}
+use Rattle.rim_file.proofs.Floats.{UpTo, every-fails, every-not, numbers-most, finite-code, range-code}
 use Rattle.reader.proofs.Heights.{height-unknown, no-height-known}
-
-number-unless : (k : ℕ) (p : GridPoint) → numberOf (vertexUnless k p) ≡ k
-number-unless zero p = refl
-number-unless (suc k) p = refl
-
--- the number by the tests of the kind, of the height before, of the bytes that a level point does not use, and of three floats or two
-abbrev pub tests : (one two kn tail : Bool) (three-floats two-floats : List Float) → ℕ
-tests one two kn tail three-floats two-floats = cond one (numbersCode three-floats) (cond two (cond kn (cond tail (numbersCode two-floats) 8) 7) 6)
-
-shape-number : (one two kn tail : Bool) (x y z : Float) (h : ℤ) → numberOf (shape one two kn tail x y z h) ≡ tests one two kn tail (x ∷ y ∷ z ∷ []) (x ∷ y ∷ [])
-unfolding shape
-shape-number true two kn tail x y z h = number-unless (numbersCode (x ∷ y ∷ z ∷ [])) (point (roundEighths x) (roundEighths y) (roundEighths z))
-shape-number false true true true x y z h = number-unless (numbersCode (x ∷ y ∷ [])) (point (roundEighths x) (roundEighths y) h)
-shape-number false true true false x y z h = refl
-shape-number false true false tail x y z h = refl
-shape-number false false kn tail x y z h = refl
 
 module _ (s : List ℕ) (i : ℕ) where
   abbrev pub pointFloats : List Float
@@ -46,9 +30,7 @@ module _ (s : List ℕ) (i : ℕ) where
   levelFloats = firstNumber s (offset s (chain.link s i)) ∷ secondNumber s (offset s (chain.link s i)) ∷ []
 
   pub record-number : numberOf (vertexAt s i) ≡ tests (eqb (kindAt s i) 1) (eqb (kindAt s i) 2) (known (heightBefore s i)) (tailZeroAt s i) pointFloats levelFloats
-  record-number =
-      ap numberOf (shape-is (eqb (kindAt s i) 1) (eqb (kindAt s i) 2) (known (heightBefore s i)) (tailZeroAt s i) s (offset s (chain.link s i)) (heightOf (heightBefore s i)) refl refl refl)
-      ∙ shape-number (eqb (kindAt s i) 1) (eqb (kindAt s i) 2) (known (heightBefore s i)) (tailZeroAt s i) (firstNumber s (offset s (chain.link s i))) (secondNumber s (offset s (chain.link s i))) (thirdNumber s (offset s (chain.link s i))) (heightOf (heightBefore s i))
+  record-number = vertex-number s (offset s (chain.link s i)) (known (heightBefore s i)) (heightOf (heightBefore s i))
 
   -- the numbers of a record come before 18
   pub record-most : numberOf (vertexAt s i) ≤ 9

@@ -17,16 +17,16 @@ use Rattle.polygon.specs.Polygon.{origin, samePoint, repeatedVertex}
 use Rattle.polygon.specs.Polygon as polygon
 use Rattle.polygon.proofs.Points.{point-equal}
 use Rattle.polygon.proofs.Validity.{repeated-none}
-use Rattle.reader.specs.File.{offset, firstNumber, secondNumber, thirdNumber}
-use Rattle.reader.specs.Record.{known, heightOf, numbersCode, vertexUnless}
-use Rattle.reader.specs.Chain.{heightBefore, vertexAt, numberOf, pointOf, verticesOf}
+use Rattle.rim_file.specs.File.{offset, firstNumber, secondNumber, thirdNumber}
+use Rattle.rim_file.specs.Record.{known, heightOf, numbersCode, vertexUnless, numberOf, pointOf}
+use Rattle.reader.specs.Chain.{heightBefore, vertexAt, verticesOf}
 use Rattle.reader.specs.Chain as chain
 use Rattle.reader.specs.Due.{kindAt, tailZeroAt, floatsAt, OnGridAt, xAt, yAt, heightAt, HasVertex, a-point, a-level-point}
 use Rattle.reader.proofs.Tables.{table-at}
-use Rattle.reader.proofs.Vertices.{shape, shape-is, numbers-fine}
-use Rattle.reader.proofs.Floats.{every-at, every-all, fine-code}
+use Rattle.rim_file.proofs.Vertices.{shape, shape-is, numbers-fine, tests}
+use Rattle.rim_file.proofs.Floats.{every-at, every-all, fine-code}
 use Rattle.reader.proofs.Heights.{height-of-last, last-point}
-use Rattle.reader.proofs.RecordNumbers.{tests, pointFloats, levelFloats, record-number}
+use Rattle.reader.proofs.RecordNumbers.{pointFloats, levelFloats, record-number}
 
 module _ (s : List ℕ) where
   -- the vertex by its tests

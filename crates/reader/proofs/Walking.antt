@@ -24,15 +24,15 @@ use Rattle.terms.proofs.Numbers.{due-here, due-on}
 use Rattle.grid.specs.declared.GridPoint.{GridPoint}
 use Rattle.grid.specs.Point.{OnGrid}
 use Rattle.grid.specs.Number.{roundEighths}
-use Rattle.reader.specs.File.{u16At, firstRecord, recordCount, maxRecords, recordNumbers, offset, kind, thirdNumber}
-use Rattle.reader.specs.Record.{known, heightOf, recordAt, vertexOf, normalIn}
-use Rattle.reader.specs.Chain.{link, metBefore, heightBefore, vertexAt, numberOf, normalAt, overLimit, linkCode, recordCode, positionCode}
+use Rattle.rim_file.specs.File.{u16At, firstRecord, recordCount, maxRecords, recordNumbers, offset, kind, thirdNumber}
+use Rattle.rim_file.specs.Record.{known, heightOf, recordAt, vertexOf, normalIn, numberOf}
+use Rattle.reader.specs.Chain.{link, metBefore, heightBefore, vertexAt, normalAt, overLimit, linkCode, recordCode, positionCode}
 use Rattle.reader.specs.Steps.{Walking, Stepped}
 use Rattle.reader.specs.declared.Progress.{Progress}
-use Rattle.reader.specs.declared.Height.{Height}
-use Rattle.reader.specs.declared.Height.the-variants.{Unknown, Known}
-use Rattle.reader.specs.declared.Vertex.the-variants.{At, Refused}
-use Rattle.reader.proofs.Vertices.{Vertexed, vertexed, refused-positive}
+use Rattle.rim_file.specs.declared.Height.{Height}
+use Rattle.rim_file.specs.declared.Height.the-variants.{Unknown, Known}
+use Rattle.rim_file.specs.declared.Vertex.the-variants.{At, Refused}
+use Rattle.rim_file.proofs.Vertices.{Vertexed, vertexed, refused-positive}
 use Rattle.reader.proofs.Answers.{over-least}
 
 pub positive : (k : ℕ) → (k ≡ 0 → ⊥) → 0 < k

@@ -12,12 +12,11 @@ use Rattle.polygon.specs.Polygon.{origin}
 use Rattle.terms.specs.Numbers.{firstDue}
 use Rattle.polygon.specs.declared.normal.Normal.{Normal}
 use Rattle.grid.specs.declared.GridPoint.{GridPoint}
-use Rattle.reader.specs.File.{firstRecord, recordCount, offset, nextRecord, kind, thirdNumber}
-use Rattle.reader.specs.Record.{known, heightOf, recordAt, vertexOf, normalIn}
-use Rattle.reader.specs.declared.Height.{Height}
-use Rattle.reader.specs.declared.Height.the-variants.{Unknown, Known}
-use Rattle.reader.specs.declared.Vertex.{Vertex}
-use Rattle.reader.specs.declared.Vertex.the-variants.{At, Refused}
+use Rattle.rim_file.specs.File.{firstRecord, recordCount, offset, nextRecord, kind, thirdNumber}
+use Rattle.rim_file.specs.Record.{known, heightOf, recordAt, vertexOf, numberOf, pointOf, normalIn}
+use Rattle.rim_file.specs.declared.Height.{Height}
+use Rattle.rim_file.specs.declared.Height.the-variants.{Unknown, Known}
+use Rattle.rim_file.specs.declared.Vertex.{Vertex}
 
 -- the link that leads to position i (rule 1.5): the header's first record, or the next record of the one before
 unfoldable pub link : List ℕ → ℕ → ℕ
@@ -38,14 +37,6 @@ heightBefore s (suc i) =
 -- the vertex at position i, or the first number due on its record (rule 1.8)
 abbrev pub vertexAt : List ℕ → ℕ → Vertex
 vertexAt s i = vertexOf (recordAt s (offset s (link s i)) (known (heightBefore s i))) (heightOf (heightBefore s i))
-
-abbrev pub numberOf : Vertex → ℕ
-numberOf (At p) = 0
-numberOf (Refused k) = k
-
-abbrev pub pointOf : Vertex → GridPoint
-pointOf (At p) = p
-pointOf (Refused k) = origin
 
 -- the normal of the record at position i (rule 1.13)
 abbrev pub normalAt : List ℕ → ℕ → Normal

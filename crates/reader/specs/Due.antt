@@ -1,10 +1,9 @@
 -- The numbers 1 to 11, 14, 18 and 20 of a file read with a limit, each by itself, at its place, and only of what there is (rules 4.1 to 4.11, 4.14, 4.18,
 -- 4.20 and 4.31). Definitions only.
 use mathlib.Core.Path.{_≡_}
-use mathlib.Core.Bool.{Bool, true, false, cond}
-use mathlib.Core.List.{List, [], _∷_, List·Memᴰ}
+use mathlib.Core.Bool.{Bool, true, false}
+use mathlib.Core.List.{List, List·Memᴰ}
 use Prim.Native.Nat.{ℕ, suc, _+_, _≤_, _<_}
-use lib.Dec.{eqb}
 use lib.IntN.{ℤ}
 use lib.Ieee.{Float}
 use lib.ListN.{length}
@@ -14,8 +13,8 @@ use Rattle.grid.specs.declared.GridPoint.{GridPoint}
 use Rattle.polygon.specs.Normal.{noNormal, NormalInRange}
 use Rattle.polygon.specs.declared.normal.Normal.{Normal}
 use Rattle.terms.specs.Limits.{minVertices, maxVertices, maxAreaFactor, countFits}
-use Rattle.reader.specs.File.{isEdition2, headerSize, headerStart, recordSize, areaFactor, recordCount, lengthWrong, offset, kind, firstNumber, secondNumber, thirdNumber, tailZero}
-use Rattle.reader.specs.Record.{heldNormal}
+use Rattle.rim_file.specs.File.{isEdition2, headerSize, headerStart, recordSize, areaFactor, recordCount, lengthWrong, offset, kind, firstNumber, secondNumber, thirdNumber, tailZero}
+use Rattle.rim_file.specs.Record.{floatsOf, heldNormal, normalNumbersOf}
 use Rattle.reader.specs.Chain.{link}
 use Rattle.reader.specs.Order.{Place, request, header, link-to, record-at, rim}
 
@@ -43,19 +42,11 @@ kindAt s i = kind s (offset s (link s i))
 abbrev pub tailZeroAt : List ℕ → ℕ → Bool
 tailZeroAt s i = tailZero s (offset s (link s i))
 
--- the floats of the record at position i (rules 1.6, 1.7): a point has three, a level point two
-abbrev pub floatsOf : List ℕ → ℕ → List Float
-floatsOf s at =
-    cond (eqb (kind s at) 1) (firstNumber s at ∷ secondNumber s at ∷ thirdNumber s at ∷ [])
-    (cond (eqb (kind s at) 2) (firstNumber s at ∷ secondNumber s at ∷ []) [])
-
+-- the floats of the record at position i (rules 1.6, 1.7)
 abbrev pub floatsAt : List ℕ → ℕ → List Float
 floatsAt s i = floatsOf s (offset s (link s i))
 
--- the numbers of the normal of the record at position i (rule 1.13): three in edition 2, none in edition 1
-abbrev pub normalNumbersOf : List ℕ → ℕ → List ℤ
-normalNumbersOf s at = cond (isEdition2 s) (heldNormal s at .x ∷ heldNormal s at .y ∷ heldNormal s at .z ∷ []) []
-
+-- the numbers of the normal of the record at position i (rule 1.13)
 abbrev pub normalNumbersAt : List ℕ → ℕ → List ℤ
 normalNumbersAt s i = normalNumbersOf s (offset s (link s i))
 

@@ -1,9 +1,6 @@
-pub mod File
-pub mod Record
 pub mod Chain
 pub mod Reading
 pub mod Order
 pub mod Due
 pub mod Rounded
-pub mod Editions
 pub mod Steps

@@ -8,7 +8,7 @@ use Rattle.terms.specs.Limits.{minVertices, maxAreaFactor, countFits}
 use Rattle.polygon.specs.Polygon.{emptyPolygon, repeatedVertex}
 use Rattle.terms.specs.Numbers.{firstDue}
 use Rattle.polygon.specs.declared.Polygon.{Polygon}
-use Rattle.reader.specs.File.{areaFactor, bendFactor, lengthWrong}
+use Rattle.rim_file.specs.File.{areaFactor, bendFactor, lengthWrong}
 use Rattle.reader.specs.Chain.{chainCode, vertexCount, verticesOf, normalsOf}
 use Rattle.reader.specs.declared.Status.{Status}
 use Rattle.reader.specs.declared.Status.the-variants.{Complete, Refused}

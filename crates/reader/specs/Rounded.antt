@@ -7,7 +7,7 @@ use lib.IntN.{ℤ}
 use lib.Ieee.{Float}
 use Rattle.grid.specs.Number.{finite, inRange, HalfStep, EvenHalf}
 use Rattle.grid.specs.declared.GridPoint.{GridPoint}
-use Rattle.reader.specs.File.{offset, kind, firstNumber, secondNumber, thirdNumber}
+use Rattle.rim_file.specs.File.{offset, kind, firstNumber, secondNumber, thirdNumber}
 use Rattle.reader.specs.Chain.{link}
 
 -- rules 1.9 and 1.10: the float v is in range, and g is the whole number nearest to 8v, at a half the even one

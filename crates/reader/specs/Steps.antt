@@ -1,50 +1,20 @@
 -- What the reader's private functions return, in terms of the definitions beside this file. What functions say to each other; nobody has to believe it.
 use mathlib.Core.Path.{_≡_}
 use Prim.Native.Nat.{ℕ, zero, suc, _+_, _≤_, _<_}
-use mathlib.Core.Bool.{Bool, true, false, cond}
+use mathlib.Core.Bool.{false}
 use mathlib.Core.List.{List}
-use lib.IntN.{ℤ, pos}
 use lib.ListN.{length, getD, replicate}
-use Rattle.lists.specs.Lists.{both}
-use Rattle.grid.specs.Point.{point, OnGrid}
+use Rattle.grid.specs.Point.{OnGrid}
 use Rattle.terms.specs.Limits.{maxVertices}
 use Rattle.polygon.specs.Normal.{noNormal}
 use Rattle.polygon.specs.Polygon.{origin}
-use Rattle.grid.specs.declared.GridNumber.{GridNumber}
-use Rattle.grid.specs.declared.GridNumber.the-variants.{Value, NotFinite, OutOfRange}
-use Rattle.reader.specs.File.{recordNumbers}
-use Rattle.reader.specs.Record.{heightOf}
+use Rattle.rim_file.specs.File.{recordNumbers}
+use Rattle.rim_file.specs.Record.{heightOf}
 use Rattle.reader.specs.Chain.{link, metBefore, heightBefore, vertexAt, normalAt, positionCode, chainCode, vertexCount, verticesOf, normalsOf}
 use Rattle.reader.specs.declared.Chain.{Chain}
 use Rattle.reader.specs.declared.Progress.{Progress}
-use Rattle.reader.specs.declared.Vertex.{Vertex}
-use Rattle.reader.specs.declared.Vertex.the-variants.{At, Refused}
+use Rattle.rim_file.specs.declared.Vertex.the-variants.{At}
 
-abbrev pub isFinite : GridNumber → Bool
-isFinite (Value g) = true
-isFinite NotFinite = false
-isFinite OutOfRange = true
-
-abbrev pub isValue : GridNumber → Bool
-isValue (Value g) = true
-isValue NotFinite = false
-isValue OutOfRange = false
-
-abbrev pub valueOf : GridNumber → ℤ
-valueOf (Value g) = g
-valueOf NotFinite = pos 0
-valueOf OutOfRange = pos 0
-
--- the vertex of three grid numbers, or 8, or 9
-unfoldable pub placed : GridNumber → GridNumber → GridNumber → Vertex
-placed x y z =
-    cond (both (isFinite x) (both (isFinite y) (isFinite z)))
-    (cond (both (isValue x) (both (isValue y) (isValue z)))
-    (At (point (valueOf x) (valueOf y) (valueOf z)))
-    (Refused 9))
-    (Refused 8)
-
--- ---- the walk
 -- no number is due before position n of the chain, and the walk w is there: its marks, its height and its link are those of the positions before n
 pub record Walking (limit : ℕ) (s : List ℕ) (w : Progress) : Type 0 where
   pub here : w .link ≡ link s (w .n)

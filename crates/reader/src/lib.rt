@@ -1,8 +1,4 @@
 // The rim reader: from the bytes of a rim file to its polygon, of no more vertices than a limit, or the first number due.
-mod bytes;
-pub mod edition;
-pub mod normal;
-mod records;
 mod walk;
 
 ghost use mathlib.Core.Path.{_≡_};
@@ -13,43 +9,12 @@ use codes::Refusal;
 use grid::GridPoint;
 use polygon::Polygon;
 use polygon::normal::Normal;
+use rim_file::Height;
+use rim_file::bytes;
+use rim_file::edition;
 
-// The most records of a file (rule 1.4). Marks go by record number, from 0, which names none.
-const MAX_RECORDS: usize = 256;
-
-const MARKS: usize = MAX_RECORDS + 1;
-
-// Where the header's four numbers start, and how many bytes a record has (rule 1.12).
-pub struct Layout {
-    pub header: usize,
-    pub record_size: usize,
-}
-
-// The coordinates of a point, in millimetres.
-struct Coordinates {
-    pub x: f32,
-    pub y: f32,
-    pub z: f32,
-}
-
-// A record as it stands in the file: a point, a level point with no height of its own, or a number.
-enum Record {
-    Point(Coordinates),
-    Level(f32, f32),
-    Refused(u32),
-}
-
-// The grid height of the last point before, which a level point takes.
-enum Height {
-    Unknown,
-    Known(i64),
-}
-
-// A record's vertex, or a number.
-enum Vertex {
-    At(GridPoint),
-    Refused(u32),
-}
+// Marks go by record number, from 0, which names none.
+const MARKS: usize = rim_file::MAX_RECORDS + 1;
 
 // How far the walk along the chain has come, carried by value from position to position. Vertices and normals are listed beside it: no step copies them.
 struct Progress {

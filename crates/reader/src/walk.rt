@@ -3,20 +3,20 @@ ghost use mathlib.Core.Path.{_≡_};
 ghost use mathlib.Core.Bool.{false};
 ghost use Prim.Native.Nat.{ℕ, _≤_};
 ghost use Rattle.terms.specs.Limits.{maxVertices};
-ghost use Rattle.reader.specs.File.{layoutOf, lengthWrong};
+ghost use Rattle.rim_file.specs.File.{layoutOf, lengthWrong};
 ghost use Rattle.reader.specs.Chain.{overLimit};
 ghost use Rattle.reader.specs.Steps.{Walking, Stepped, chainOf, stoppedAt};
 use crate::Chain;
-use crate::Height;
-use crate::Layout;
 use crate::Progress;
-use crate::Vertex;
-use crate::bytes;
-use crate::edition;
-use crate::normal;
-use crate::records;
 use grid::GridPoint;
 use polygon::normal::Normal;
+use rim_file::Height;
+use rim_file::Layout;
+use rim_file::Vertex;
+use rim_file::bytes;
+use rim_file::edition;
+use rim_file::normal;
+use rim_file::records;
 
 fn stopped(code: u32) -> Chain
     ensures { λ r. ⌜ r ≡ stoppedAt code ⌝ }

@@ -8,8 +8,8 @@ use lib.Dec.{ltb}
 use lib.Seq.{sets}
 use borrow.Author.Tests.{ltb-false}
 use denote.Ref.{now}
-use Rattle.reader.specs.File.{headerSize, recordCount}
-use Rattle.reader.proofs.Lengths.{whole}
+use Rattle.rim_file.specs.File.{headerSize, recordCount}
+use Rattle.rim_file.proofs.Lengths.{whole}
 use Rattle.converter.specs.Call.{conversionCode, conversionNumber}
 use Rattle.converter.specs.Converted.{converted, normalLost}
 use Rattle.converter.specs.Steps.{targetOf}

@@ -2,8 +2,8 @@
 use mathlib.Core.Path.{sym, ap, _∙_}
 use borrow.Author.Tests.{eq-eqb, ne-eqb}
 use Rattle.lists.proofs.Choice.{yes, no}
-use Rattle.reader.specs.declared.Layout.{Layout}
-use Rattle.reader.specs.File.{recordSize1}
+use Rattle.rim_file.specs.declared.Layout.{Layout}
+use Rattle.rim_file.specs.File.{recordSize1}
 use borrow.Author.Needs.{needs}
 use Rattle.converter.proofs.target_of.Statement.{statement}
 use Rattle.converter.proofs.target_of.Tie as tie

@@ -2,8 +2,8 @@
 use mathlib.Core.Path.{sym, _∙_}
 use native.Mathlib.Omega.{arith}
 use denote.Ref.{now}
-use Rattle.reader.proofs.Layouts.{bounds, header-as, number-as}
-use Rattle.reader.proofs.Lengths.{whole}
+use Rattle.rim_file.proofs.Layouts.{bounds, header-as, number-as}
+use Rattle.rim_file.proofs.Lengths.{whole}
 use Rattle.reader.proofs.Walking.{positive}
 use Rattle.reader.proofs.Answers.{answer-refused, answer-complete, length-due, area-due, chain-due, few-due, repeated-due, none-due, followed-code, followed-count, followed-vertices, followed-normals, followed-within, repeated-as-found, limit-most}
 use borrow.Author.Needs.{needs}

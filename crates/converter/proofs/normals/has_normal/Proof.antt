@@ -9,10 +9,10 @@ use Rattle.lists.specs.Lists.{some}
 use Rattle.lists.proofs.Ranges.{some-on, some-stop, some-end}
 use Rattle.polygon.specs.Normal.{isNone}
 use Rattle.polygon.specs.declared.normal.Normal.{Normal}
-use Rattle.reader.specs.File.{recordCount, offset}
-use Rattle.reader.specs.Record.{normalIn}
-use Rattle.reader.proofs.Layouts.{bounds, header-as, size-as, start-as}
-use Rattle.reader.proofs.Lengths.{whole, record-held}
+use Rattle.rim_file.specs.File.{recordCount, offset}
+use Rattle.rim_file.specs.Record.{normalIn}
+use Rattle.rim_file.proofs.Layouts.{bounds, header-as, size-as, start-as}
+use Rattle.rim_file.proofs.Lengths.{whole, record-held}
 use Rattle.converter.specs.Converted.{normalLost}
 use Rattle.converter.proofs.normals.has_normal.Statement.{statement}
 use Rattle.converter.proofs.normals.has_normal.Tie as tie

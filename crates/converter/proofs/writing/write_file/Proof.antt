@@ -4,8 +4,8 @@ use native.Mathlib.Omega.{arith}
 use lib.ListN.{length}
 use lib.Seq.{length-sets}
 use denote.Ref.{now}
-use Rattle.reader.proofs.Layouts.{header-as}
-use Rattle.reader.proofs.Lengths.{whole}
+use Rattle.rim_file.proofs.Layouts.{header-as}
+use Rattle.rim_file.proofs.Lengths.{whole}
 use Rattle.converter.proofs.Targets.{file-stored}
 use borrow.Author.Needs.{needs}
 use Rattle.converter.proofs.writing.write_file.Statement.{statement}

@@ -7,9 +7,9 @@ use lib.ListN.{length, length-replicate}
 use lib.Seq.{sets, length-sets}
 use denote.Ref.{now}
 use Rattle.lists.specs.Lists.{upFrom, over}
-use Rattle.reader.specs.File.{headerSize, recordSize1, recordCount, offset}
-use Rattle.reader.proofs.Layouts.{bounds, header-as, size-as, start-as, record-within}
-use Rattle.reader.proofs.Lengths.{whole}
+use Rattle.rim_file.specs.File.{headerSize, recordSize1, recordCount, offset}
+use Rattle.rim_file.proofs.Layouts.{bounds, header-as, size-as, start-as, record-within}
+use Rattle.rim_file.proofs.Lengths.{whole}
 use Rattle.converter.specs.Converted.{recordBytes}
 use Rattle.converter.specs.Steps.{endingIn}
 use Rattle.converter.proofs.Records.{piece-end, record-stored}

@@ -4,9 +4,9 @@ use native.Mathlib.Omega.{arith}
 use mathlib.Core.Path.{refl, ap, _∙_}
 use Prim.Native.Nat.{ℕ}
 use denote.Ref.{now}
-use Rattle.reader.specs.File.{u16At}
-use Rattle.reader.proofs.Layouts.{header-as}
-use Rattle.reader.proofs.Lengths.{whole}
+use Rattle.rim_file.specs.File.{u16At}
+use Rattle.rim_file.proofs.Layouts.{header-as}
+use Rattle.rim_file.proofs.Lengths.{whole}
 use Rattle.reader.proofs.Walking.{walking-start}
 use Rattle.reader.proofs.walk.start.Statement.{statement}
 use Rattle.reader.proofs.walk.start.Tie as tie

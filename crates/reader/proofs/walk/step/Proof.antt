@@ -6,8 +6,8 @@ use denote.Ref.{now}
 use Rattle.lists.proofs.Choice.{fails-via, holds-via}
 use Rattle.reader.specs.Chain.{overLimit}
 use Rattle.reader.proofs.Answers.{over-least}
-use Rattle.reader.proofs.Layouts.{bounds, header-as, size-as, start-as}
-use Rattle.reader.proofs.Lengths.{whole, record-held}
+use Rattle.rim_file.proofs.Layouts.{bounds, header-as, size-as, start-as}
+use Rattle.rim_file.proofs.Lengths.{whole, record-held}
 use Rattle.reader.proofs.Walking.{positive, below-limit, stopped-by, link-due, repeated-due, over-due, record-stops, normal-stops, record-passes}
 use Rattle.reader.proofs.walk.step.Statement.{statement}
 use Rattle.reader.proofs.walk.step.Tie as tie

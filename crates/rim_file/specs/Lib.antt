@@ -1,0 +1,5 @@
+pub mod File
+pub mod Record
+pub mod Layouts
+pub mod Editions
+pub mod Steps
