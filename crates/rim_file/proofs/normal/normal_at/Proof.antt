@@ -1,4 +1,4 @@
--- `reader::normal::normal_at` meets its contract. Assumes nothing.
+-- `rim_file::normal::normal_at` meets its contract. Assumes nothing.
 use borrow.Author.Needs.{needs}
 use native.Mathlib.Omega.{arith}
 use mathlib.Core.Path.{sym, _∙_}

@@ -1,4 +1,4 @@
--- `reader::records::decode` meets its contract. Assumes nothing.
+-- `rim_file::records::decode` meets its contract. Assumes nothing.
 use borrow.Author.Tests.{not-true, not-false}
 use Rattle.lists.proofs.Choice.{eq-via, ne-via}
 use Rattle.rim_file.specs.Record.{recordAt}
