@@ -62,8 +62,8 @@ pub record Waits (stack : List Part) (height : ℕ) (l : List Part) : Type 0 whe
   pub parts : waiting stack height ≡ l
   pub places : length stack ≡ mostParts
 
--- the loop before its first turn and after each (rule 3.12): `count` triangles of l are listed in the table, which held `before`, and `height` parts
--- of the stack wait
+-- the loop where turn `count` starts, and after the last turn (rule 3.12): the first `count` triangles of l are listed in the table, which held
+-- `before`, and `height` parts of the stack wait
 pub record Listing (job : Job) (l before : List ℕ) (stack : List Part) (height count : ℕ) (table : List ℕ) : Type 0 where
   pub listed : table ≡ filled (take count l) before
   pub waits : Waits stack height (partsAfter job l count)

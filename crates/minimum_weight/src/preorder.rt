@@ -48,10 +48,9 @@ pub fn write_preorder(
     let whole = Part::new(candidates.len(), 0, last);
     let mut stack = [whole; MOST_PARTS];
     let mut height: usize = 1;
-    let mut count: usize = 0;
-    // Each turn lists one triangle, and after it no more parts wait than triangles are still to be listed: `no-more-wait` of `Listing` in
-    // specs/Preorder.
-    while 0 < height {
+    // Turn `count` lists one triangle, at place `count`, and after it no more parts wait than triangles are still to be listed: `Listing` in
+    // specs/Preorder. As long as a triangle is to be listed, a part waits.
+    for count in 0..n - 2 {
         height -= 1;
         let part = stack[height];
         let t = part.outer;
@@ -62,7 +61,6 @@ pub fn write_preorder(
         let triangle = candidates[u];
         let b = triangle[1];
         triangles[count] = u as u16;
-        count += 1;
         // The right part first, so that the left one is the next to be taken.
         if 1 < j - b {
             stack[height] = Part::new(u, b, j);
