@@ -10,11 +10,11 @@ use lib.Seq.{getD-set-same, getD-set-other, length-take-le, take-suc, take-all}
 use Rattle.lists.specs.Lists.{filled}
 use Rattle.lists.proofs.Writing.{filled-length, filled-next}
 use Rattle.triangulation.specs.Triangulations.{Job}
-use Rattle.minimum_weight.specs.declared.preorder.Part.{Part}
-use Rattle.minimum_weight.specs.Preorder.{partUnder, waiting, beneath, mostParts, halves, turn, partsAfter, Waits, Listing}
-use Rattle.minimum_weight.proofs.Beneath.{one-beneath, none-beneath}
-use Rattle.minimum_weight.proofs.Turns.{HasTriangulation, Whole, AllWhole, part-and, pending, firstTriangle, patchOf, patch-length, next-part, going}
-use Rattle.minimum_weight.proofs.Waiting.{no-more-wait, few-wait}
+use Rattle.preorder.specs.declared.Part.{Part}
+use Rattle.preorder.specs.Preorder.{partUnder, waiting, beneath, mostParts, halves, turn, partsAfter, Waits, Listing}
+use Rattle.preorder.proofs.Beneath.{one-beneath, none-beneath}
+use Rattle.preorder.proofs.Turns.{HasTriangulation, Whole, AllWhole, part-and, pending, firstTriangle, patchOf, patch-length, next-part, going}
+use Rattle.preorder.proofs.Waiting.{no-more-wait, few-wait}
 
 -- the part that is taken from a stack
 abbrev pub top : List Part → ℕ → Part

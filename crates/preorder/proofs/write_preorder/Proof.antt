@@ -11,14 +11,14 @@ use Rattle.lists.proofs.Writing.{filled-length}
 use Rattle.triangulation.specs.Triangulations.{Job}
 use Rattle.triangulation.specs.Jobs.{jobOf}
 use Rattle.triangulation.specs.Recursion.{bestUnder, costOf, restOf}
-use Rattle.minimum_weight.specs.declared.preorder.Part.{Part}
-use Rattle.minimum_weight.specs.Preorder.{waiting, beneath, mostParts, Waits, Listing}
+use Rattle.preorder.specs.declared.Part.{Part}
+use Rattle.preorder.specs.Preorder.{waiting, beneath, mostParts, Waits, Listing}
 use Rattle.minimum_weight.proofs.Edges.{found-far}
-use Rattle.minimum_weight.proofs.Turns.{HasTriangulation, Whole, Down, firstTriangle, patchOf, patch-length, down-first, found-first}
+use Rattle.preorder.proofs.Turns.{HasTriangulation, Whole, Down, firstTriangle, patchOf, patch-length, down-first, found-first}
 use Rattle.minimum_weight.proofs.Answer.{answer-whole}
-use Rattle.minimum_weight.proofs.Listing.{top, put, skip, start, part-waits, top-whole, table-long, top-place, rest-waits, left-place, one-turn, end}
-use Rattle.minimum_weight.proofs.preorder.write_preorder.Statement.{statement}
-use Rattle.minimum_weight.proofs.preorder.write_preorder.Tie as tie
+use Rattle.preorder.proofs.Listing.{top, put, skip, start, part-waits, top-whole, table-long, top-place, rest-waits, left-place, one-turn, end}
+use Rattle.preorder.proofs.write_preorder.Statement.{statement}
+use Rattle.preorder.proofs.write_preorder.Tie as tie
 
 abbrev Inv-loop : tie.InvT-loop
 Inv-loop n starts candidates weights rows work triangles₀ last stack₀ height₀ count₀ count-end triangles stack height count = Listing (jobOf n candidates weights rows) (restOf (bestUnder (jobOf n candidates weights rows) n (length candidates) 0 (n - 1))) triangles₀ stack height count triangles

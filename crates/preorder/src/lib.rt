@@ -1,5 +1,5 @@
 // Writing the triangles of the best triangulation in preorder: a loop over the parts still to be listed.
-use crate::choice::best_in_block;
+use minimum_weight::choice::best_in_block;
 ghost use mathlib.Core.Path.{_≡_};
 ghost use Prim.Native.Nat.{_+_, _<_, _≤_};
 ghost use lib.ListN.{length};
@@ -8,8 +8,8 @@ ghost use Rattle.triangulation.specs.Triangulations.{bestKey};
 ghost use Rattle.triangulation.specs.Jobs.{jobOf};
 ghost use Rattle.triangulation.specs.Recursion.{costOf, restOf, noTotal};
 ghost use Rattle.blocks.specs.Blocks.{Starts};
 ghost use Rattle.minimum_weight.specs.Tables.{WellFormed, AllReady};
-ghost use Rattle.minimum_weight.specs.Preorder.{partUnder};
+ghost use Rattle.preorder.specs.Preorder.{partUnder};
 
 // The part of the polygon from vertex `first` to vertex `last`, under the triangle `outer`. It has a vertex between them: a rim edge
 // (i, i + 1) is no part.

@@ -7,7 +7,7 @@ use lib.Dec.{ltb}
 use Rattle.terms.specs.Limits.{maxVertices}
 use Rattle.lists.specs.Lists.{filled, when}
 use Rattle.triangulation.specs.Triangulations.{Job}
-use Rattle.minimum_weight.specs.declared.preorder.Part.{Part}
+use Rattle.preorder.specs.declared.Part.{Part}
 
 -- the part of the polygon from vertex i to vertex j, under triangle t (rule 3.12)
 abbrev pub partUnder : ℕ → ℕ → ℕ → Part
