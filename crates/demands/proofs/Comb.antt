@@ -7,7 +7,7 @@ use Rattle.lists.specs.Lists.{everyFrom}
 use Rattle.terms.specs.Limits.{maxVertices}
 use Rattle.triangulation.specs.Triangulations.{patch, answerOf, best}
 use Rattle.triangulation.specs.Recursion.{bestUnder}
-use Rattle.minimum_weight.specs.Preorder.{partsAfter, mostParts}
+use Rattle.preorder.specs.Preorder.{partsAfter, mostParts}
 use Rattle.minimum_weight.proofs.Answer.{answer-whole}
 use Rattle.jobs.specs.Job.{jobCode, listsCode, candidateFits, before, ascends}
 use Rattle.jobs.specs.Due.{Accepted}

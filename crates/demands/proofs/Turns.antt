@@ -11,8 +11,8 @@ use Rattle.triangulation.specs.Jobs.{jobOf}
 use Rattle.triangulation.specs.Demand3.{Demand3}
 use Rattle.triangulation.proofs.Demand3.{demand3-unique}
 use Rattle.minimum_weight.specs.Tables.{WellFormed}
-use Rattle.minimum_weight.specs.Preorder.{TurnByTurn}
-use Rattle.minimum_weight.proofs.TurnByTurn.{turn-by-turn}
+use Rattle.preorder.specs.Preorder.{TurnByTurn}
+use Rattle.preorder.proofs.TurnByTurn.{turn-by-turn}
 use Rattle.jobs.specs.Due.{Accepted}
 use Rattle.jobs.proofs.Acceptance.{accepted-zero}
 use Rattle.triangulator.specs.Call.{triangulated}

@@ -2,9 +2,4 @@ pub mod Picks
 pub mod Edges
 pub mod Runs
 pub mod Filling
-pub mod Beneath
-pub mod Turns
-pub mod Waiting
-pub mod Listing
 pub mod Answer
-pub mod TurnByTurn

@@ -1,18 +1,15 @@
-// The triangulation of least total, by dynamic programming over the candidates.
-// work[t] is the least total of a part that starts with candidate t.
-// The solver has three steps, which callers may take one by one: the totals (`least_total`), the triangles (`preorder::write_preorder`), and the work
-// table left with zeros (`clear`).
-mod choice;
+// The least total of all triangulations, by dynamic programming over the candidates.
+// work[t] is the least total of a part that starts with candidate t. From it the crate `preorder` lists the triangles; `clear` leaves zeros in its place.
+pub mod choice;
 mod costs;
-pub mod preorder;
 
 ghost use mathlib.Core.Path.{_≡_};
-ghost use Prim.Native.Nat.{_+_, _≤_};
+ghost use Prim.Native.Nat.{_≤_};
 ghost use lib.ListN.{length, replicate};
 ghost use Rattle.lists.specs.Lists.{filled};
 ghost use Rattle.triangulation.specs.Triangulations.{bestKey};
 ghost use Rattle.triangulation.specs.Jobs.{jobOf};
-ghost use Rattle.triangulation.specs.Recursion.{costOf, restOf};
+ghost use Rattle.triangulation.specs.Recursion.{costOf};
 ghost use Rattle.blocks.specs.Blocks.{Starts};
 ghost use Rattle.minimum_weight.specs.Tables.{WellFormed, Filled};
 
@@ -46,30 +43,4 @@ pub fn clear(table: &mut [u64], n: usize)
     for i in 0..n {
         table[i] = 0;
     }
-}
-
-// The least total, or NONE, with the triangles of the first such triangulation written in preorder; the work table is zero in one place per candidate.
-pub fn solve(
-    n: usize,
-    candidates: &[[u8; 3]],
-    weights: &[u32],
-    rows: &[[u32; 3]],
-    triangles: &mut [u16],
-    work: &mut [u64],
-) -> u64
-    requires { ⌜ WellFormed n (now candidates) (now weights) (now rows) × (length (now candidates) ≤ length (now work)) × (n ≤ length (now triangles) + 2) ⌝ }
-    ensures total { λ r. ⌜ r ≡ costOf (bestKey (jobOf n (now (candidates .entry)) (now (weights .entry)) (now (rows .entry)))) ⌝ }
-    ensures triangles { λ _. ⌜ now (triangles .exit) ≡ filled (restOf (bestKey (jobOf n (now (candidates .entry)) (now (weights .entry)) (now (rows .entry))))) (now (triangles .entry)) ⌝ }
-    ensures work { λ _. ⌜ now (work .exit) ≡ filled (replicate (length (now (candidates .entry))) 0) (now (work .entry)) ⌝ }
-{
-    let count = candidates.len();
-    let starts = blocks::block_starts(candidates);
-    let least = least_total(n, &starts, candidates, weights, rows, work);
-    if NONE <= least {
-        clear(work, count);
-        return NONE;
-    }
-    preorder::write_preorder(n, &starts, candidates, weights, rows, work, triangles);
-    clear(work, count);
-    least
 }

@@ -1,4 +1,6 @@
 // The tiler: the best triangulation of a direct job, or the first number that is due.
+mod solver;
+
 use codes::Refusal;
 ghost use mathlib.Core.Path.{_≡_};
 ghost use Prim.Native.Nat.{_+_, _≤_};
@@ -73,7 +75,7 @@ pub fn best_triangulation(
     ensures { λ r. ⌜ result r (now (triangles .exit)) (now (work .exit)) ≡ settled (best (jobOf n (now (candidates .entry)) (now (weights .entry)) (now (rows .entry)))) (length (now (candidates .entry))) (now (triangles .entry)) (now (work .entry)) ⌝ }
     ensures { λ r. ⌜ valuesOf r ≡ answerValues n (best (jobOf n (now (candidates .entry)) (now (weights .entry)) (now (rows .entry)))) ⌝ }
 {
-    let least = minimum_weight::solve(n, candidates, weights, rows, triangles, work);
+    let least = solver::solve(n, candidates, weights, rows, triangles, work);
     if minimum_weight::NONE <= least {
         return Outcome::None;
     }

@@ -5,7 +5,7 @@ use mathlib.Core.List.{[], _∷_}
 use lib.Dec.{ltb}
 use borrow.Author.Tests.{ltb-true, ltb-false, lt-ltb, le-ltb}
 use Rattle.lists.proofs.Choice.{Truth, holds, fails, truth, yes, no}
-use Rattle.minimum_weight.specs.Preorder.{partUnder, beneath}
+use Rattle.preorder.specs.Preorder.{partUnder, beneath}
 
 module _ (u i j : ℕ) where
   pub one-beneath : i + 1 < j → beneath u i j ≡ partUnder u i j ∷ []

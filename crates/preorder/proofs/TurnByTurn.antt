@@ -9,12 +9,12 @@ use lib.ListN.{length, drop, length-drop}
 use Rattle.triangulation.specs.Triangulations.{Job, patch, answerOf, bestKey, best}
 use Rattle.triangulation.specs.Jobs.{jobOf}
 use Rattle.triangulation.specs.Recursion.{restOf, costOf, noTotal}
-use Rattle.minimum_weight.specs.declared.preorder.Part.{Part}
+use Rattle.preorder.specs.declared.Part.{Part}
 use Rattle.minimum_weight.specs.Tables.{WellFormed}
-use Rattle.minimum_weight.specs.Preorder.{partsAfter, NextListed, TurnByTurn}
-use Rattle.minimum_weight.proofs.Turns.{HasTriangulation, AllWhole, part-and, Whole, pending, patchOf, down-first, next-part, going}
-use Rattle.minimum_weight.proofs.Waiting.{no-more-wait}
+use Rattle.preorder.specs.Preorder.{partsAfter, NextListed, TurnByTurn}
+use Rattle.preorder.proofs.Turns.{HasTriangulation, AllWhole, part-and, Whole, pending, patchOf, down-first, next-part, going}
+use Rattle.preorder.proofs.Waiting.{no-more-wait}
 use Rattle.minimum_weight.proofs.Answer.{answer-whole, answer-light}
 
 module _ {job : Job} (t : HasTriangulation job) where
   -- a turn takes a part as long as a triangle is to be listed

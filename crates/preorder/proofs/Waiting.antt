@@ -5,10 +5,10 @@ use mathlib.Core.List.{List, [], _∷_}
 use native.Mathlib.Omega.{arith}
 use lib.ListN.{length, getD, length-append, length-drop}
 use Rattle.triangulation.specs.Triangulations.{Job}
-use Rattle.minimum_weight.specs.declared.preorder.Part.{Part}
-use Rattle.minimum_weight.specs.Preorder.{beneath, halves, turn, partsAfter, mostParts}
-use Rattle.minimum_weight.proofs.Beneath.{Beneath, one, none, either-beneath}
-use Rattle.minimum_weight.proofs.Turns.{HasTriangulation, patchOf, patch-length, going, parts-few}
+use Rattle.preorder.specs.declared.Part.{Part}
+use Rattle.preorder.specs.Preorder.{beneath, halves, turn, partsAfter, mostParts}
+use Rattle.preorder.proofs.Beneath.{Beneath, one, none, either-beneath}
+use Rattle.preorder.proofs.Turns.{HasTriangulation, patchOf, patch-length, going, parts-few}
 
 -- a turn puts two parts at most for the one that it takes
 beneath-length : (u i j : ℕ) → length (beneath u i j) ≤ 1

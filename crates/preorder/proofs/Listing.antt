@@ -10,11 +10,11 @@ use lib.Seq.{getD-set-same, getD-set-other, length-take-le, take-suc, take-all}
 use Rattle.lists.specs.Lists.{filled}
 use Rattle.lists.proofs.Writing.{filled-length, filled-next}
 use Rattle.triangulation.specs.Triangulations.{Job}
-use Rattle.minimum_weight.specs.declared.preorder.Part.{Part}
-use Rattle.minimum_weight.specs.Preorder.{partUnder, waiting, beneath, mostParts, halves, turn, partsAfter, Waits, Listing}
-use Rattle.minimum_weight.proofs.Beneath.{one-beneath, none-beneath}
-use Rattle.minimum_weight.proofs.Turns.{HasTriangulation, Whole, AllWhole, part-and, pending, firstTriangle, patchOf, patch-length, next-part, going}
-use Rattle.minimum_weight.proofs.Waiting.{no-more-wait, few-wait}
+use Rattle.preorder.specs.declared.Part.{Part}
+use Rattle.preorder.specs.Preorder.{partUnder, waiting, beneath, mostParts, halves, turn, partsAfter, Waits, Listing}
+use Rattle.preorder.proofs.Beneath.{one-beneath, none-beneath}
+use Rattle.preorder.proofs.Turns.{HasTriangulation, Whole, AllWhole, part-and, pending, firstTriangle, patchOf, patch-length, next-part, going}
+use Rattle.preorder.proofs.Waiting.{no-more-wait, few-wait}
 
 -- the part that is taken from a stack
 abbrev pub top : List Part → ℕ → Part
@@ -53,13 +53,17 @@ module _ {job : Job} (t : HasTriangulation job) where
   unfolding partsAfter
   start p before e = record { listed = refl; waits = record { parts = ap (λ q. q ∷ []) e; places = length-replicate mostParts p }; no-more-wait = omega (arith, t .valid .n3, patch-length t) }
 
-  module _ {before : List ℕ} {stack : List Part} {height count : ℕ} {table : List ℕ} (e : Listing job (patchOf t) before stack height count table) (z : 0 < height) where
-    -- a triangle is still to be listed
-    pub turn-due : count < length (patchOf t)
-    turn-due = omega (arith, e .no-more-wait)
+  module _ {before : List ℕ} {stack : List Part} {height count : ℕ} {table : List ℕ} (e : Listing job (patchOf t) before stack height count table) (turn-due : count < length (patchOf t)) where
+    -- a part waits: the triangles that are still to be listed are those of the parts
+    pub part-waits : 0 < height
+    part-waits = go height refl
+      where
+        go : (k : ℕ) → height ≡ k → 0 < height
+        go zero z = absurd (omega (arith, length-drop count (patchOf t), ap length (going t count .left ∙ ap (pending job) (sym (e .waits .parts) ∙ ap (waiting stack) z))))
+        go (suc k) z = omega arith
 
     due-parts : partsAfter job (patchOf t) count ≡ top stack height ∷ waiting stack (height - 1)
-    due-parts = sym (e .waits .parts) ∙ waiting-top stack height z
+    due-parts = sym (e .waits .parts) ∙ waiting-top stack height part-waits
 
     pub top-whole : Whole job (top stack height)
     top-whole = go (subst (AllWhole job) due-parts (going t count .whole))
@@ -71,12 +75,13 @@ module _ {job : Job} (t : HasTriangulation job) where
     next-triangle : getD (patchOf t) count 0 ≡ firstTriangle job (top stack height)
     next-triangle = next-part t count (top stack height) (waiting stack (height - 1)) top-whole (going t count .left ∙ ap (pending job) due-parts) .0
 
-    -- the triangle has its place, and so has the part that it comes from
-    pub turn-place : length (patchOf t) ≤ length before → count < length table
-    turn-place r = omega (arith, turn-due, ap length (e .listed), filled-length (take count (patchOf t)) before (omega (arith, turn-due, length-take-le count (patchOf t) (omega (arith, turn-due)))))
+    -- the table has all its places still
+    pub table-long : length (patchOf t) ≤ length before → length table ≡ length before
+    table-long r = ap length (e .listed) ∙ filled-length (take count (patchOf t)) before (omega (arith, length-take-le count (patchOf t) (omega arith)))
 
+    -- the part that the triangle comes from has its place
     pub top-place : height - 1 < mostParts
-    top-place = omega (arith, few-wait t count, ap length (e .waits .parts), waiting-length stack height)
+    top-place = omega (arith, part-waits, few-wait t count, ap length (e .waits .parts), waiting-length stack height)
 
     -- the stack without that part
     pub rest-waits : Waits stack (height - 1) (waiting stack (height - 1))
@@ -109,15 +114,12 @@ module _ {job : Job} (t : HasTriangulation job) where
           → Listing job (patchOf t) before new m (count + 1) (set table count u)
       one-turn {new} {m} r w = record {
         listed = ap₂ (λ x v. set x count v) (e .listed) (first ∙ sym next-triangle)
-            ∙ filled-next (take count (patchOf t)) before (getD (patchOf t) count 0) count (sym (length-take-le count (patchOf t) (omega (arith, turn-due)))) (omega (arith, turn-due))
+            ∙ filled-next (take count (patchOf t)) before (getD (patchOf t) count 0) count (sym (length-take-le count (patchOf t) (omega arith))) (omega arith)
             ∙ ap (λ l. filled l before) (sym (ap (λ k. take k (patchOf t)) (add-one count) ∙ take-suc (patchOf t) count 0 turn-due));
         waits = record { parts = w .parts ∙ next-parts; places = w .places };
         no-more-wait = omega (arith, no-more-wait t (count + 1), ap length (w .parts ∙ next-parts), waiting-length new m);
       }
 
-  -- no part waits: all is listed
-  pub end : {before : List ℕ} {stack : List Part} {height count : ℕ} {table : List ℕ} → Listing job (patchOf t) before stack height count table → height ≤ 0 → table ≡ filled (patchOf t) before
-  end {before} {stack} {height} {count} e z =
-      let l : partsAfter job (patchOf t) count ≡ [] = sym (e .waits .parts) ∙ ap (waiting stack) (let o : height ≡ 0 = omega arith in o) in
-      let d : drop count (patchOf t) ≡ [] = going t count .left ∙ ap (pending job) l in
-      e .listed ∙ ap (λ x. filled x before) (take-all count (patchOf t) (omega (arith, length-drop count (patchOf t), ap length d)))
+  -- after the last turn all is listed
+  pub end : {before : List ℕ} {stack : List Part} {height count : ℕ} {table : List ℕ} → Listing job (patchOf t) before stack height count table → length (patchOf t) ≤ count → table ≡ filled (patchOf t) before
+  end {before} {count = count} e h = e .listed ∙ ap (λ x. filled x before) (take-all count (patchOf t) h)

@@ -1,12 +1,12 @@
--- `minimum_weight::solve` meets its contract, step by step. Assumes nothing.
+-- `triangulator::solver::solve` meets its contract, step by step. Assumes nothing.
 use mathlib.Core.Path.{sym, ap}
 use native.Mathlib.Omega.{arith}
 use Rattle.lists.specs.Lists.{filled}
 use Rattle.triangulation.specs.Recursion.{costOf, restOf}
 use Rattle.minimum_weight.proofs.Answer.{no-key, cleared}
 use borrow.Author.Needs.{needs}
-use Rattle.minimum_weight.proofs.solve.Statement.{statement}
-use Rattle.minimum_weight.proofs.solve.Tie as tie
+use Rattle.triangulator.proofs.solver.solve.Statement.{statement}
+use Rattle.triangulator.proofs.solver.solve.Tie as tie
 
 -- after the totals: the call, and the totals
 module _ (g : tie.After-slice-known3) where

@@ -13,12 +13,12 @@ use Rattle.triangulation.proofs.Parts.{part-length}
 use Rattle.triangulation.proofs.Recursion as R
 use Rattle.triangulation.proofs.Recursion.{Best, edge-best, edge-step}
 use Rattle.triangulation.proofs.Bounds.{edge-light}
 use Rattle.minimum_weight.specs.declared.choice.Pick.{Pick}
-use Rattle.minimum_weight.specs.declared.preorder.Part.{Part}
+use Rattle.preorder.specs.declared.Part.{Part}
 use Rattle.minimum_weight.specs.Tables.{Found}
-use Rattle.minimum_weight.specs.Preorder.{partUnder, beneath, halves, turn, partsAfter}
+use Rattle.preorder.specs.Preorder.{partUnder, beneath, halves, turn, partsAfter}
 use Rattle.minimum_weight.proofs.Edges.{found-below}
-use Rattle.minimum_weight.proofs.Beneath.{Beneath, one, none, either-beneath}
+use Rattle.preorder.proofs.Beneath.{Beneath, one, none, either-beneath}
 
 -- the parts of a joined key that is no 'none'
 split-key : (w u r : ℕ) (k k′ : List ℕ) → costOf (addRow r (join w u k k′)) < noTotal → (k ≢ []) × (k′ ≢ []) × (restOf (addRow r (join w u k k′)) ≡ u ∷ (restOf k ++ restOf k′))

@@ -1,5 +1,4 @@
--- The triangles are written in preorder: the stack is the list of parts that the count names (`Listing`), and each turn leaves one triangle fewer to be
--- listed.
+-- The triangles are written in preorder: at each turn the stack is the list of parts that the turn's number names (`Listing`).
 use Prim.Native.Nat.{ℕ, _+_, _-_, _≤_, _<_}
 use mathlib.Core.Path.{_≡_, refl, sym, ap, _∙_, subst}
 use mathlib.Core.Logic.{⊎-elim}
@@ -12,20 +11,20 @@ use Rattle.lists.proofs.Writing.{filled-length}
 use Rattle.triangulation.specs.Triangulations.{Job}
 use Rattle.triangulation.specs.Jobs.{jobOf}
 use Rattle.triangulation.specs.Recursion.{bestUnder, costOf, restOf}
-use Rattle.minimum_weight.specs.declared.preorder.Part.{Part}
-use Rattle.minimum_weight.specs.Preorder.{waiting, beneath, mostParts, Waits, Listing}
+use Rattle.preorder.specs.declared.Part.{Part}
+use Rattle.preorder.specs.Preorder.{waiting, beneath, mostParts, Waits, Listing}
 use Rattle.minimum_weight.proofs.Edges.{found-far}
-use Rattle.minimum_weight.proofs.Turns.{HasTriangulation, Whole, Down, firstTriangle, patchOf, patch-length, down-first, found-first}
+use Rattle.preorder.proofs.Turns.{HasTriangulation, Whole, Down, firstTriangle, patchOf, patch-length, down-first, found-first}
 use Rattle.minimum_weight.proofs.Answer.{answer-whole}
-use Rattle.minimum_weight.proofs.Listing.{top, put, skip, start, turn-due, top-whole, turn-place, top-place, rest-waits, left-place, one-turn, end}
-use Rattle.minimum_weight.proofs.preorder.write_preorder.Statement.{statement}
-use Rattle.minimum_weight.proofs.preorder.write_preorder.Tie as tie
+use Rattle.preorder.proofs.Listing.{top, put, skip, start, part-waits, top-whole, table-long, top-place, rest-waits, left-place, one-turn, end}
+use Rattle.preorder.proofs.write_preorder.Statement.{statement}
+use Rattle.preorder.proofs.write_preorder.Tie as tie
 
 abbrev Inv-loop : tie.InvT-loop
-Inv-loop n starts candidates weights rows work triangles₀ last stack₀ height₀ count₀ triangles stack height count = Listing (jobOf n candidates weights rows) (restOf (bestUnder (jobOf n candidates weights rows) n (length candidates) 0 (n - 1))) triangles₀ stack height count triangles
+Inv-loop n starts candidates weights rows work triangles₀ last stack₀ height₀ count₀ count-end triangles stack height count = Listing (jobOf n candidates weights rows) (restOf (bestUnder (jobOf n candidates weights rows) n (length candidates) 0 (n - 1))) triangles₀ stack height count triangles
 
 abbrev μ-loop : tie.MeasureT-loop
-μ-loop n starts candidates weights rows work triangles₀ last stack₀ height₀ count₀ triangles stack height count = n - 2 - count
+μ-loop n starts candidates weights rows work triangles₀ last stack₀ height₀ count₀ count-end triangles stack height count = n - 2 - count
 
 abbrev job : tie.Start Inv-loop μ-loop → Job
 job s = jobOf (s .args .n) (s .args .candidates .now) (s .args .weights .now) (s .args .rows .now)
@@ -45,15 +44,15 @@ module _ (c : tie.In-loop Inv-loop μ-loop) where
   abbrev taken : Part
   taken = top (c .before .loop .stack) (c .before .loop .height)
 
+  -- a triangle is still to be listed
+  due : c .before .loop .count < length (patchOf (tiled call))
+  due = omega (arith, c .loop-test .taken, patch-length (tiled call))
+
   whole : Whole (job call) taken
-  whole = top-whole (tiled call) (c .before .loop .inv) (c .loop-test .taken)
+  whole = top-whole (tiled call) (c .before .loop .inv) due
 
   place : c .before .loop .height - 1 < mostParts
-  place = top-place (tiled call) (c .before .loop .inv) (c .loop-test .taken)
-
-  -- a triangle is still to be listed
-  due : c .before .loop .count < call .args .n - 2
-  due = omega (arith, turn-due (tiled call) (c .before .loop .inv) (c .loop-test .taken), patch-length (tiled call))
+  place = top-place (tiled call) (c .before .loop .inv) due
 
 module _ (c : tie.After-best-in-block Inv-loop μ-loop) where
   -- the triangle that it lists, and what is beneath it
@@ -78,31 +77,25 @@ module _ (c : tie.Joined1 Inv-loop μ-loop) where
   abbrev inside : tie.In-loop Inv-loop μ-loop
   inside = c .before .before .before .before
 
-  -- what waits once the right part is put, and once the left part is too
+  -- what waits once the right part is put
   abbrev with-right : List Part
   with-right = beneath (triangle (c .before .before)) (job (call inside) .b (triangle (c .before .before))) (taken inside .last) ++ waiting (inside .before .loop .stack) (inside .before .loop .height - 1)
-
-  abbrev with-both : List Part
-  with-both = beneath (triangle (c .before .before)) (taken inside .first) (job (call inside) .b (triangle (c .before .before))) ++ with-right
 
   right : Waits (c .if1 .stack) (c .if1 .height) with-right
   right =
       let u = triangle (c .before .before) in
       let b = job (call inside) .b u in
-      let w = rest-waits (tiled (call inside)) (inside .before .loop .inv) (inside .loop-test .taken) in
+      let w = rest-waits (tiled (call inside)) (inside .before .loop .inv) (due inside) in
       ⊎-elim
       (λ z. put u b (taken inside .last) w (place inside) (omega (arith, z .0 .taken)) (z .1 .ensures) (z .2) (z .3))
       (λ z. skip u b (taken inside .last) w (omega (arith, z .0 .left)) (z .1) (z .2))
       (c .if1 .came)
 
-  turned : {new : List Part} {m : ℕ} → Waits new m with-both → Listing (job (call inside)) (patchOf (tiled (call inside))) (call inside .args .triangles .now) new m (inside .before .loop .count + 1) (set (inside .before .loop .triangles) (inside .before .loop .count) (triangle (c .before .before)))
-  turned w = one-turn (tiled (call inside)) (inside .before .loop .inv) (inside .loop-test .taken) (triangle (c .before .before)) (first (c .before .before)) (room (call inside)) w
-
 -- the left part has a place above the right part
 left : (c : tie.Then2 Inv-loop μ-loop) → c .before .if1 .height < mostParts
 left c =
     let i = inside (c .before) in
-    left-place (tiled (call i)) (i .before .loop .inv) (i .loop-test .taken) (triangle (c .before .before .before)) (first (c .before .before .before)) (omega (arith, c .if2 .taken)) (right (c .before))
+    left-place (tiled (call i)) (i .before .loop .inv) (due i) (triangle (c .before .before .before)) (first (c .before .before .before)) (omega (arith, c .if2 .taken)) (right (c .before))
 
 sub-last : tie.Need-sub-last Inv-loop μ-loop
 sub-last c = omega (arith, c .before .before .before .pre .0 .0 .valid .n3)
@@ -113,11 +106,14 @@ cast-last c = omega (arith, c .before .before .before .pre .0 .0 .bounded .few)
 new-requires : tie.Need-new-requires Inv-loop μ-loop
 new-requires c κs = search needs
 
+sub-count-end : tie.Need-sub-count-end Inv-loop μ-loop
+sub-count-end c = omega (arith, c .before .before .before .before .pre .0 .0 .valid .n3)
+
 loop-holds : tie.Need-loop-holds Inv-loop μ-loop
 loop-holds c = let s = c .before .before .before .before in start (tiled s) (c .new .result) (s .args .triangles .now) (c .new .ensures)
 
 sub-height : tie.Need-sub-height Inv-loop μ-loop
-sub-height c = search needs
+sub-height c = part-waits (tiled (call c)) (c .before .loop .inv) (due c)
 
 mul-part : tie.Need-mul-part Inv-loop μ-loop
 mul-part c = omega (arith, place c)
@@ -144,13 +140,13 @@ cast-triangles : tie.Need-cast-triangles Inv-loop μ-loop
 cast-triangles c = omega (arith, call (c .before .before .before) .pre .0 .0 .few, down (c .before) .valid)
 
 mul-triangles : tie.Need-mul-triangles Inv-loop μ-loop
-mul-triangles c = omega (arith, call (c .before .before .before) .pre .0 .0 .bounded .few, due (c .before .before .before))
+mul-triangles c = let i = c .before .before .before in omega (arith, call i .pre .0 .0 .bounded .few, i .loop-test .taken, place i)
 
 slice-write-triangles : tie.Need-slice-write-triangles Inv-loop μ-loop
-slice-write-triangles c = let i = c .before .before .before in turn-place (tiled (call i)) (i .before .loop .inv) (i .loop-test .taken) (room (call i))
-
-add-count : tie.Need-add-count Inv-loop μ-loop
-add-count c = omega (arith, call (c .before .before .before) .pre .0 .0 .bounded .few, due (c .before .before .before))
+slice-write-triangles c =
+    let i = c .before .before .before in
+    let l = i .before .loop .inv in
+    omega (arith, table-long (tiled (call i)) l (due i) (room (call i)), due i, room (call i), l .no-more-wait, part-waits (tiled (call i)) l (due i))
 
 sub-if1 : tie.Need-sub-if1 Inv-loop μ-loop
 sub-if1 c = let d = down (c .before) in omega (arith, d .left, d .right)
@@ -182,33 +178,33 @@ array-set-from-stack-2 c = left (c .before .before)
 add-height-2 : tie.Need-add-height-2 Inv-loop μ-loop
 add-height-2 c = omega (arith, left (c .before .before))
 
+add-count : tie.Need-add-count Inv-loop μ-loop
+add-count c = let i = inside (c .before) in omega (arith, i .loop-test .taken, call i .pre .0 .0 .bounded .few)
+
 loop-less : tie.Need-loop-less Inv-loop μ-loop
-loop-less c = omega (arith, due (inside (c .before .before .before)))
+loop-less c = omega (arith, inside (c .before) .loop-test .taken)
 
 loop-again : tie.Need-loop-again Inv-loop μ-loop
 loop-again c =
-    let j = c .before .before .before in
-    let u = triangle (j .before .before) in
-    turned j (put u (taken (inside j) .first) (job (call (inside j)) .b u) (right j) (left (c .before .before)) (omega (arith, c .before .before .if2 .taken)) (c .before .new3 .ensures) refl refl)
-
-loop-less-2 : tie.Need-loop-less-2 Inv-loop μ-loop
-loop-less-2 c = omega (arith, due (inside (c .before)))
-
-loop-again-2 : tie.Need-loop-again-2 Inv-loop μ-loop
-loop-again-2 c =
     let j = c .before in
+    let i = inside j in
     let u = triangle (j .before .before) in
-    turned j (skip u (taken (inside j) .first) (job (call (inside j)) .b u) (right j) (omega (arith, c .if2 .left)) refl refl)
+    let b = job (call i) .b u in
+    one-turn (tiled (call i)) (i .before .loop .inv) (due i) u (first (j .before .before)) (room (call i))
+    (⊎-elim
+    (λ z. put u (taken i .first) b (right j) (left (record { before = j; if2 = z .0 })) (omega (arith, z .0 .taken)) (z .1 .ensures) (z .3) (z .4))
+    (λ z. skip u (taken i .first) b (right j) (omega (arith, z .0 .left)) (z .1) (z .2))
+    (c .if2 .came))
 
 same-length : tie.Need-same-length Inv-loop μ-loop
 same-length c =
     let s = c .before .before .before .before .before .before in
-    ap length (end (tiled s) (c .before .loop .inv) (c .loop-test .left)) ∙ filled-length (patchOf (tiled s)) (s .args .triangles .now) (room s)
+    ap length (end (tiled s) (c .before .loop .inv) (omega (arith, c .loop-test .left, patch-length (tiled s)))) ∙ filled-length (patchOf (tiled s)) (s .args .triangles .now) (room s)
 
 returns : tie.Need-returns Inv-loop μ-loop
 returns c =
     let s = c .before .before .before .before .before .before in
-    end (tiled s) (c .before .loop .inv) (c .loop-test .left)
+    end (tiled s) (c .before .loop .inv) (omega (arith, c .loop-test .left, patch-length (tiled s)))
     ∙ ap (λ k. filled (restOf k) (s .args .triangles .now)) (sym (answer-whole (s .args .n) _ _ _ (s .pre .0 .0)))
 
 pub write-preorder-spec : {M : Type 1} → statement M
@@ -220,6 +216,7 @@ write-preorder-spec =
     sub-last
     cast-last
     new-requires
+    sub-count-end
     loop-holds
     sub-height
     mul-part
@@ -231,7 +228,6 @@ write-preorder-spec =
     cast-triangles
     mul-triangles
     slice-write-triangles
-    add-count
     sub-if1
     new-requires-2
     mul-stack
@@ -242,9 +238,8 @@ write-preorder-spec =
     mul-stack-2
     array-set-from-stack-2
     add-height-2
+    add-count
     loop-less
     loop-again
-    loop-less-2
-    loop-again-2
     same-length
     returns)

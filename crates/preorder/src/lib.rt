@@ -1,5 +1,5 @@
 // Writing the triangles of the best triangulation in preorder: a loop over the parts still to be listed.
-use crate::choice::best_in_block;
+use minimum_weight::choice::best_in_block;
 ghost use mathlib.Core.Path.{_≡_};
 ghost use Prim.Native.Nat.{_+_, _<_, _≤_};
 ghost use lib.ListN.{length};
@@ -8,8 +8,8 @@ ghost use Rattle.triangulation.specs.Triangulations.{bestKey};
 ghost use Rattle.triangulation.specs.Jobs.{jobOf};
 ghost use Rattle.triangulation.specs.Recursion.{costOf, restOf, noTotal};
 ghost use Rattle.blocks.specs.Blocks.{Starts};
 ghost use Rattle.minimum_weight.specs.Tables.{WellFormed, AllReady};
-ghost use Rattle.minimum_weight.specs.Preorder.{partUnder};
+ghost use Rattle.preorder.specs.Preorder.{partUnder};
 
 // The part of the polygon from vertex `first` to vertex `last`, under the triangle `outer`. It has a vertex between them: a rim edge
 // (i, i + 1) is no part.
@@ -48,10 +48,9 @@ pub fn write_preorder(
     let whole = Part::new(candidates.len(), 0, last);
     let mut stack = [whole; MOST_PARTS];
     let mut height: usize = 1;
-    let mut count: usize = 0;
-    // Each turn lists one triangle, and after it no more parts wait than triangles are still to be listed: `no-more-wait` of `Listing` in
-    // specs/Preorder.
-    while 0 < height {
+    // Turn `count` lists one triangle, at place `count`, and after it no more parts wait than triangles are still to be listed: `Listing` in
+    // specs/Preorder. As long as a triangle is to be listed, a part waits.
+    for count in 0..n - 2 {
         height -= 1;
         let part = stack[height];
         let t = part.outer;
@@ -62,7 +61,6 @@ pub fn write_preorder(
         let triangle = candidates[u];
         let b = triangle[1];
         triangles[count] = u as u16;
-        count += 1;
         // The right part first, so that the left one is the next to be taken.
         if 1 < j - b {
             stack[height] = Part::new(u, b, j);

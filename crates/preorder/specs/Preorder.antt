@@ -7,7 +7,7 @@ use lib.Dec.{ltb}
 use Rattle.terms.specs.Limits.{maxVertices}
 use Rattle.lists.specs.Lists.{filled, when}
 use Rattle.triangulation.specs.Triangulations.{Job}
-use Rattle.minimum_weight.specs.declared.preorder.Part.{Part}
+use Rattle.preorder.specs.declared.Part.{Part}
 
 -- the part of the polygon from vertex i to vertex j, under triangle t (rule 3.12)
 abbrev pub partUnder : ℕ → ℕ → ℕ → Part
@@ -62,8 +62,8 @@ pub record Waits (stack : List Part) (height : ℕ) (l : List Part) : Type 0 whe
   pub parts : waiting stack height ≡ l
   pub places : length stack ≡ mostParts
 
--- the loop before its first turn and after each (rule 3.12): `count` triangles of l are listed in the table, which held `before`, and `height` parts
--- of the stack wait
+-- the loop where turn `count` starts, and after the last turn (rule 3.12): the first `count` triangles of l are listed in the table, which held
+-- `before`, and `height` parts of the stack wait
 pub record Listing (job : Job) (l before : List ℕ) (stack : List Part) (height count : ℕ) (table : List ℕ) : Type 0 where
   pub listed : table ≡ filled (take count l) before
   pub waits : Waits stack height (partsAfter job l count)
