@@ -4,6 +4,7 @@ use mathlib.Core.List.{List}
 use Prim.Native.Nat.{ℕ, _-_, _≤_}
 use native.Mathlib.Omega.{arith}
 use lib.ListN.{length, take, replicate}
+use Rattle.jobs.specs.Job.{jobOf}
 use Rattle.lists.specs.Lists.{filled}
 use Rattle.polygon.specs.declared.Polygon.{Polygon}
 use Rattle.polygon.specs.Polygon.{ValidPolygon}
@@ -28,9 +29,9 @@ use Rattle.demands.proofs.Demands.{file-handed}
 use Rattle.demands.proofs.Patched.{first-candidates, first-weights, first-rows}
 
 -- none of 13 to 17 is due on the lists of a rim beside a work table that is long enough (rule 4.36)
-pub rim-job-accepted : (p : Polygon) → ValidPolygon p → (workPlaces : ℕ) → length (candidatesOf p) ≤ workPlaces → JobAccepted (p .n) (candidatesOf p) (weightsIn p) (rowsIn p) workPlaces
+pub rim-job-accepted : (p : Polygon) → ValidPolygon p → (workPlaces : ℕ) → length (candidatesOf p) ≤ workPlaces → JobAccepted (jobOf (p .n) (candidatesOf p) (weightsIn p) (rowsIn p)) workPlaces
 rim-job-accepted p v workPlaces h =
-    fitting-accepted (p .n) (candidatesOf p) (weightsIn p) (rowsIn p) (p .n - 2) workPlaces
+    fitting-accepted (jobOf (p .n) (candidatesOf p) (weightsIn p) (rowsIn p)) (p .n - 2) workPlaces
     (record { at-least = v .least; at-most = v .most; triangle-room = omega arith; work-room = h; lists = lists-accepted p v })
 
 module _ (limit : ℕ) (file : List ℕ) (bytes : Bytes file) (t : Tables) where
@@ -52,7 +53,7 @@ module _ (limit : ℕ) (file : List ℕ) (bytes : Bytes file) (t : Tables) where
   file-patch-accepted count total work room e =
       let none : None = taken-only-when limit file bytes t (subst Taken (sym e) a-patch) in
       let is = accepted limit file bytes t none .call-is in
-      (λ i. judged (p .n) (first-candidates p t is i) (first-weights p t is i) (first-rows p t is i) (partOf (Patch count total) (left .triangles)) total work)
-      ∙ handed-accepted (p .n) (candidatesOf p) (weightsIn p) (rowsIn p) total (partOf (Patch count total) (left .triangles)) work
+      (λ i. judged (jobOf (p .n) (first-candidates p t is i) (first-weights p t is i) (first-rows p t is i)) (partOf (Patch count total) (left .triangles)) total work)
+      ∙ handed-accepted (jobOf (p .n) (candidatesOf p) (weightsIn p) (rowsIn p)) total (partOf (Patch count total) (left .triangles)) work
       (rim-job-accepted p (accepted limit file bytes t none .polygon-valid) (length work) room)
       (patch-handed (subst (λ (o : Outcome). Handed (problemIn p) (partOf o (left .triangles)) o) e (file-handed limit file bytes t none)))

@@ -3,6 +3,7 @@ use Prim.Native.Nat.{ℕ}
 use mathlib.Core.Path.{_≡_, sym, _∙_}
 use mathlib.Core.List.{List}
 use lib.ListN.{length}
+use Rattle.jobs.specs.Job.{jobOf}
 use Rattle.rim_file.specs.File.{Bytes}
 use Rattle.reader.specs.Order.{NoneDue}
 use Rattle.delaunay.specs.Candidates.{candidatesOf}
@@ -31,11 +32,11 @@ module _ (n : ℕ) (candidates : List (List ℕ)) (weights : List ℕ) (rows : L
   right-answer ok a d total l e = turn-by-turn n candidates weights rows ok total l (sym (demand3-unique (problemFrom n candidates weights rows) (ok .valid) a d) ∙ e)
 
   -- of every patch that the call for direct jobs gives
-  pub job-turn-by-turn : (triangles work : List ℕ) → Accepted n candidates weights rows (length triangles) (length work) → (total : ℕ) (l : List ℕ)
-      → stated (triangulated n candidates weights rows triangles work .outcome) (triangulated n candidates weights rows triangles work .triangles) ≡ patch total l → TurnByTurn (problemFrom n candidates weights rows) l
+  pub job-turn-by-turn : (triangles work : List ℕ) → Accepted job (length triangles) (length work) → (total : ℕ) (l : List ℕ)
+      → stated (triangulated job triangles work .outcome) (triangulated job triangles work .triangles) ≡ patch total l → TurnByTurn (problemFrom n candidates weights rows) l
   job-turn-by-turn triangles work a =
-      right-answer (accepted-well-formed n candidates weights rows (length triangles) (length work) (accepted-zero n candidates weights rows (length triangles) (length work) a) .0)
-      _ (job-demand3 n candidates weights rows triangles work a)
+      right-answer (accepted-well-formed job (length triangles) (length work) (accepted-zero job (length triangles) (length work) a) .0)
+      _ (job-demand3 job triangles work a)
 
 -- and of every patch that the one call gives
 pub file-turn-by-turn : (limit : ℕ) (file : List ℕ) → Bytes file → (t : Tables) → NoneDue (CallDue limit file t) → (total : ℕ) (l : List ℕ)
@@ -43,5 +44,5 @@ pub file-turn-by-turn : (limit : ℕ) (file : List ℕ) → Bytes file → (t : 
 file-turn-by-turn limit file bytes t none =
     let p = polygonIn limit file in
     let v = accepted limit file bytes t none .polygon-valid in
-    right-answer (p .n) (candidatesOf p) (weightsIn p) (rowsIn p) (well-formed (p .n) (candidatesOf p) (weightsIn p) (rowsIn p) (v .least) (v .most) (lists-accepted p v))
+    right-answer (p .n) (candidatesOf p) (weightsIn p) (rowsIn p) (well-formed (jobOf (p .n) (candidatesOf p) (weightsIn p) (rowsIn p)) (v .least) (v .most) (lists-accepted p v))
     _ (file-demand3 limit file bytes t none)

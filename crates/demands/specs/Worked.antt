@@ -21,7 +21,8 @@ use Rattle.reader.specs.Reading.{polygonOf}
 use Rattle.triangulation.specs.Triangulations.{Problem, triangulations, totalWeight}
 use Rattle.triangulator.specs.declared.Outcome.the-variants.{Patch, None, Refused}
 use Rattle.triangulator.specs.Call.{Result, result}
-use Rattle.triangulator.specs.Cases.{Lists, lists, answered, single, listsP, ties}
+use Rattle.jobs.specs.Job.{Job, jobOf}
+use Rattle.triangulator.specs.Cases.{answered, single, jobP, ties}
 use Rattle.judge.specs.declared.Judgement.the-variants as judgement
 use Rattle.judge.specs.Call as judge
 use Rattle.judge.specs.Cases.{judgedOn, accepted, refused}
@@ -111,7 +112,7 @@ abbrev pub rounds : ℕ → ℤ → Case
 rounds bits number = case (of-float (gridNumberOf (ofBits binary32 bits))) (of-float (grid-number.Value number))
 
 -- the judge's answer to a list and a total
-abbrev pub judges : Lists → List ℕ → ℕ → judge.Result → Case
+abbrev pub judges : Job → List ℕ → ℕ → judge.Result → Case
 judges job list stated expected = case (of-judge (judgedOn job list stated)) (of-judge expected)
 
 abbrev pub worked : List Case
@@ -151,25 +152,25 @@ worked =
     ∷ case (of-rim (patchPolygon (rimOf line []) (lent 2 0 0))) (of-rim (patching None (lent 2 0 0)))
     -- rule 6.2: a candidate of weight 5; no candidate
     ∷ case (of-job (answered single)) (of-job (result (Patch 1 5) (0 ∷ 9 ∷ []) (0 ∷ 9 ∷ [])))
-    ∷ case (of-job (answered (lists 3 [] [] []))) (of-job (result None (9 ∷ 9 ∷ []) (9 ∷ [])))
+    ∷ case (of-job (answered (jobOf 3 [] [] []))) (of-job (result None (9 ∷ 9 ∷ []) (9 ∷ [])))
     -- rule 6.3: four candidates of weight 1 without rows, with a row, with the row of a pair that does not hang
     ∷ case (of-job (answered (ties []))) (of-job (result (Patch 2 2) (1 ∷ 3 ∷ 9 ∷ []) (0 ∷ 0 ∷ 0 ∷ 0 ∷ 9 ∷ [])))
     ∷ case (of-job (answered (ties (triple 1 3 1 ∷ [])))) (of-job (result (Patch 2 2) (2 ∷ 0 ∷ 9 ∷ []) (0 ∷ 0 ∷ 0 ∷ 0 ∷ 9 ∷ [])))
     ∷ case (of-job (answered (ties (triple 1 0 1 ∷ [])))) (of-job (result (Refused (refusal 16)) (9 ∷ 9 ∷ 9 ∷ []) (9 ∷ 9 ∷ 9 ∷ 9 ∷ 9 ∷ [])))
     -- rule 6.4: two candidates that leave a hole
-    ∷ case (of-job (answered (lists 5 (triple 0 1 2 ∷ triple 0 2 4 ∷ []) (1 ∷ 1 ∷ []) []))) (of-job (result None (9 ∷ 9 ∷ 9 ∷ 9 ∷ []) (0 ∷ 0 ∷ 9 ∷ [])))
+    ∷ case (of-job (answered (jobOf 5 (triple 0 1 2 ∷ triple 0 2 4 ∷ []) (1 ∷ 1 ∷ []) []))) (of-job (result None (9 ∷ 9 ∷ 9 ∷ 9 ∷ []) (0 ∷ 0 ∷ 9 ∷ [])))
     -- rule 6.9: the lists of P judged, both tilings in any order, with another total, and what is no tiling; other jobs
-    ∷ judges listsP (1 ∷ 3 ∷ []) 469 (accepted 0)
-    ∷ judges listsP (3 ∷ 1 ∷ []) 469 (accepted 0)
-    ∷ judges listsP (0 ∷ 2 ∷ []) 520 (accepted 51)
-    ∷ judges listsP (0 ∷ 2 ∷ []) 469 (refused 22)
-    ∷ judges listsP (1 ∷ 3 ∷ 3 ∷ []) 469 (refused 21)
-    ∷ judges listsP (1 ∷ 1 ∷ []) 469 (refused 21)
-    ∷ judges listsP (1 ∷ []) 469 (refused 21)
-    ∷ judges listsP (1 ∷ 4 ∷ []) 469 (refused 21)
+    ∷ judges jobP (1 ∷ 3 ∷ []) 469 (accepted 0)
+    ∷ judges jobP (3 ∷ 1 ∷ []) 469 (accepted 0)
+    ∷ judges jobP (0 ∷ 2 ∷ []) 520 (accepted 51)
+    ∷ judges jobP (0 ∷ 2 ∷ []) 469 (refused 22)
+    ∷ judges jobP (1 ∷ 3 ∷ 3 ∷ []) 469 (refused 21)
+    ∷ judges jobP (1 ∷ 1 ∷ []) 469 (refused 21)
+    ∷ judges jobP (1 ∷ []) 469 (refused 21)
+    ∷ judges jobP (1 ∷ 4 ∷ []) 469 (refused 21)
     ∷ judges (ties (triple 1 0 1 ∷ [])) (1 ∷ 1 ∷ []) 0 (refused 16)
     ∷ judges single (0 ∷ []) 5 (judge.result (judgement.Accepted 0) (0 ∷ 9 ∷ []))
-    ∷ judges (lists 3 [] [] []) [] 0 (judge.result (judgement.Refused (refusal 21)) (9 ∷ []))
+    ∷ judges (jobOf 3 [] [] []) [] 0 (judge.result (judgement.Refused (refusal 21)) (9 ∷ []))
     -- rule 6.5: equal, perpendicular and opposite normals; a dot product of -1
     ∷ case (of-bend (bendBetween upward upward)) (of-bend 0)
     ∷ case (of-bend (bendBetween upward sideward)) (of-bend 1000)

@@ -8,6 +8,7 @@ use judge::Judgement;
 use reader::Status;
 use triangulator::Outcome;
 ghost use mathlib.Core.Path.{_≡_};
+ghost use Rattle.jobs.specs.Job.{jobOf};
 ghost use Rattle.terms.specs.Limits.{maxVertices};
 ghost use Rattle.reader.specs.Reading.{readingOf};
 ghost use Rattle.converter.specs.Call.{convertCall};
@@ -128,7 +129,7 @@ pub extern "C" fn patch_box_job(
     triangles: &mut [u16],
     work: &mut [u64],
 ) -> PatchAnswer
-    ensures { λ r. ⌜ jobPatch r (now (triangles .exit)) (now (work .exit)) ≡ jobPatchOf (triangulated n (now (candidates .entry)) (now (weights .entry)) (now (rows .entry)) (now (triangles .entry)) (now (work .entry))) ⌝ }
+    ensures { λ r. ⌜ jobPatch r (now (triangles .exit)) (now (work .exit)) ≡ jobPatchOf (triangulated (jobOf n (now (candidates .entry)) (now (weights .entry)) (now (rows .entry))) (now (triangles .entry)) (now (work .entry))) ⌝ }
 {
     let outcome = triangulator::triangulate(n, candidates, weights, rows, triangles, work);
     patch_answer(outcome)
@@ -153,7 +154,7 @@ pub extern "C" fn patch_box_judge(
     stated: u64,
     work: &mut [u64],
 ) -> JudgeAnswer
-    ensures { λ r. ⌜ jobJudgement r (now (work .exit)) ≡ jobJudgementOf (judged n (now (candidates .entry)) (now (weights .entry)) (now (rows .entry)) (now (list .entry)) stated (now (work .entry))) ⌝ }
+    ensures { λ r. ⌜ jobJudgement r (now (work .exit)) ≡ jobJudgementOf (judged (jobOf n (now (candidates .entry)) (now (weights .entry)) (now (rows .entry))) (now (list .entry)) stated (now (work .entry))) ⌝ }
 {
     let judgement = judge::judge(n, candidates, weights, rows, list, stated, work);
     judge_answer(judgement)

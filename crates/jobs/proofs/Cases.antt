@@ -6,7 +6,7 @@ use lib.ListN.{replicate, length}
 use Rattle.terms.specs.Limits.{minVertices, maxVertices, maxWeight}
 use Rattle.terms.specs.Entries.{triple}
 use Rattle.lists.specs.Lists.{everyFrom}
-use Rattle.jobs.specs.Job.{ascends, before, candidateFits, hangs, namesPair, rowBefore, rowFits, listsCode, jobCode}
+use Rattle.jobs.specs.Job.{jobOf, ascends, before, candidateFits, hangs, namesPair, rowBefore, rowFits, listsCode, jobCode}
 
 -- all triples of four vertices
 abbrev triples : List (List ℕ)
@@ -14,7 +14,7 @@ triples = triple 0 1 2 ∷ triple 0 1 3 ∷ triple 0 2 3 ∷ triple 1 2 3 ∷ []
 
 -- a job with all weights 1 and tables of just the places needed
 abbrev numberOf : ℕ → List (List ℕ) → List (List ℕ) → ℕ
-numberOf n candidates rows = jobCode n candidates (replicate (length candidates) 1) rows (n - 2) (length candidates)
+numberOf n candidates rows = jobCode (jobOf n candidates (replicate (length candidates) 1) rows) (n - 2) (length candidates)
 
 -- n below 3 and over 64; each table one place short, before a candidate out of order; a candidate twice; c = n; a row twice; a row to no candidate;
 -- weights at the limit, over it past the candidates, and over it
@@ -22,15 +22,15 @@ abbrev edges : List ℕ
 edges =
     numberOf (minVertices - 1) [] []
     ∷ numberOf (maxVertices + 1) [] []
-    ∷ jobCode 3 (triple 1 0 2 ∷ []) (1 ∷ []) [] 0 1
-    ∷ jobCode 3 (triple 1 0 2 ∷ []) (1 ∷ []) [] 1 0
-    ∷ jobCode 3 (triple 1 0 2 ∷ []) [] [] 1 1
+    ∷ jobCode (jobOf 3 (triple 1 0 2 ∷ []) (1 ∷ []) []) 0 1
+    ∷ jobCode (jobOf 3 (triple 1 0 2 ∷ []) (1 ∷ []) []) 1 0
+    ∷ jobCode (jobOf 3 (triple 1 0 2 ∷ []) [] []) 1 1
     ∷ numberOf 3 (triple 0 1 2 ∷ triple 0 1 2 ∷ []) []
     ∷ numberOf 3 (triple 0 1 3 ∷ []) []
     ∷ numberOf 4 triples (triple 1 3 1 ∷ triple 1 3 1 ∷ [])
     ∷ numberOf 4 triples (triple 1 4 1 ∷ [])
-    ∷ jobCode 3 (triple 0 1 2 ∷ []) (maxWeight ∷ (maxWeight + 1) ∷ []) [] 1 1
-    ∷ jobCode 3 (triple 0 1 2 ∷ []) ((maxWeight + 1) ∷ []) [] 1 1
+    ∷ jobCode (jobOf 3 (triple 0 1 2 ∷ []) (maxWeight ∷ (maxWeight + 1) ∷ []) []) 1 1
+    ∷ jobCode (jobOf 3 (triple 0 1 2 ∷ []) ((maxWeight + 1) ∷ []) []) 1 1
     ∷ numberOf 4 triples (triple 1 3 (maxWeight + 1) ∷ [])
     ∷ []
 

@@ -14,7 +14,7 @@ use Rattle.lists.proofs.Bools.{both-no}
 use Rattle.lists.proofs.Ranges.{every-at}
 use Rattle.terms.specs.Limits.{minVertices, maxVertices, countFits, maxWeight}
 use Rattle.terms.specs.Entries.{entryAt, outer, inner, vertexA, vertexB, vertexC, rowWeight}
-use Rattle.jobs.specs.Job.{enough, ascends, before, candidateFits, candidatesFit, namesPair, rowBefore, rowFits, rowsFit, weightsFit, rowWeightsFit}
+use Rattle.jobs.specs.Job.{Job, enough, ascends, before, candidateFits, candidatesFit, namesPair, rowBefore, rowFits, rowsFit, weightsFit, rowWeightsFit}
 use Rattle.jobs.specs.Due.{order, Due, few-vertices, many-vertices, few-triangles, little-work, few-weights, no-triangle, candidate-not-after, no-pair, row-not-after, heavy, heavy-row}
 
 -- a number below a bound at which a test fails
@@ -73,7 +73,19 @@ in-16 = List·Memᴰ·tail (List·Memᴰ·tail (List·Memᴰ·tail (List·Memᴰ
 pub in-17 : List·Memᴰ 17 order
 in-17 = List·Memᴰ·tail (List·Memᴰ·tail (List·Memᴰ·tail (List·Memᴰ·tail (List·Memᴰ·head refl))))
 
-module _ (n : ℕ) (candidates : List (List ℕ)) (weights : List ℕ) (rows : List (List ℕ)) (tp wp : ℕ) where
+module _ (job : Job) (tp wp : ℕ) where
+  abbrev n : ℕ
+  n = job .n
+
+  abbrev candidates : List (List ℕ)
+  candidates = job .candidates
+
+  abbrev weights : List ℕ
+  weights = job .weights
+
+  abbrev rows : List (List ℕ)
+  rows = job .rows
+
   abbrev pub placesFit : Bool
   placesFit = both (enough (n - 2) tp) (both (enough (length candidates) wp) (enough (length candidates) (length weights)))
 
@@ -90,7 +102,7 @@ module _ (n : ℕ) (candidates : List (List ℕ)) (weights : List ℕ) (rows : L
       (cond (eqb k 17) weightTests true))))
 
   abbrev D : ℕ → Type 0
-  D k = Due n candidates weights rows tp wp k
+  D k = Due job tp wp k
 
   abbrev own : ℕ → Bool
   own i = ascends n (vertexA (entryAt candidates i)) (vertexB (entryAt candidates i)) (vertexC (entryAt candidates i))

@@ -10,7 +10,7 @@ use borrow.Author.Tests.{eqb-true, eqb-false, eq-eqb, le-leb}
 use Rattle.lists.specs.Lists.{both}
 use Rattle.lists.proofs.Choice.{Truth, truth, holds, fails, yes, no, true-not-false, not-false-true}
 use Rattle.terms.specs.Limits.{countFits}
-use Rattle.jobs.specs.Job.{unless, jobCode}
+use Rattle.jobs.specs.Job.{Job, unless, jobCode}
 use Rattle.jobs.specs.Due.{upTo, First}
 
 -- no number: the test holds, and so do all after it
@@ -29,11 +29,11 @@ unless-both true t number next = refl
 unless-both false t number next = refl
 
 -- of a triangle table that is long enough the length does not matter
-pub long-enough : (n : ℕ) (candidates : List (List ℕ)) (weights : List ℕ) (rows : List (List ℕ)) (trianglePlaces workPlaces : ℕ) → n - 2 ≤ trianglePlaces
-    → jobCode n candidates weights rows trianglePlaces workPlaces ≡ jobCode n candidates weights rows (n - 2) workPlaces
+pub long-enough : (job : Job) (trianglePlaces workPlaces : ℕ) → job .n - 2 ≤ trianglePlaces
+    → jobCode job trianglePlaces workPlaces ≡ jobCode job (job .n - 2) workPlaces
 unfolding jobCode
-long-enough n candidates weights rows trianglePlaces workPlaces h =
-    ap (unless (countFits n) 14) (yes _ _ (le-leb (n - 2) trianglePlaces h) ∙ sym (yes _ _ (le-leb (n - 2) (n - 2) (omega arith))))
+long-enough job trianglePlaces workPlaces h =
+    ap (unless (countFits (job .n)) 14) (yes _ _ (le-leb (job .n - 2) trianglePlaces h) ∙ sym (yes _ _ (le-leb (job .n - 2) (job .n - 2) (omega arith))))
 
 -- what stands before a number in a list stands in the list
 pub up-listed : (k : ℕ) (ks : List ℕ) (j : ℕ) → List·Memᴰ j (upTo k ks) → List·Memᴰ j ks

@@ -7,7 +7,7 @@ use lib.ListN.{length, getD}
 use lib.Dec.{eqb}
 use Rattle.terms.specs.Limits.{minVertices, maxVertices, maxWeight}
 use Rattle.terms.specs.Entries.{entryAt, vertexA, vertexB, vertexC, outer, inner, rowWeight}
-use Rattle.jobs.specs.Job.{ascends, before, namesPair, rowBefore}
+use Rattle.jobs.specs.Job.{Job, ascends, before, namesPair, rowBefore}
 
 -- the order of the numbers (rule 4.32)
 abbrev pub order : List ℕ
@@ -23,26 +23,32 @@ pub record First (D : ℕ → Type 0) (order : List ℕ) (k : ℕ) : Type 0 wher
   pub due : D k
   pub none-before : (j : ℕ) → List·Memᴰ j (upTo k order) → D j → ⊥
 
--- of a job's n and lists, and the places of its triangle and work tables
-module _ (n : ℕ) (candidates : List (List ℕ)) (weights : List ℕ) (rows : List (List ℕ)) (trianglePlaces workPlaces : ℕ) where
+-- of a job, and the places of its triangle and work tables
+module _ (job : Job) (trianglePlaces workPlaces : ℕ) where
+  abbrev candidate : ℕ → List ℕ
+  candidate i = entryAt (job .candidates) i
+
+  abbrev row : ℕ → List ℕ
+  row i = entryAt (job .rows) i
+
   -- number k is due (rules 4.13 to 4.17)
   pub data Due : ℕ → Type 0 where
     -- n is not from 3 to 64 (rule 4.14)
-    few-vertices : n < minVertices → Due 14
-    many-vertices : maxVertices < n → Due 14
+    few-vertices : job .n < minVertices → Due 14
+    many-vertices : maxVertices < job .n → Due 14
     -- a lent table has too few places (rule 4.13)
-    few-triangles : trianglePlaces < n - 2 → Due 13
-    little-work : workPlaces < length candidates → Due 13
-    few-weights : length weights < length candidates → Due 13
+    few-triangles : trianglePlaces < job .n - 2 → Due 13
+    little-work : workPlaces < length (job .candidates) → Due 13
+    few-weights : length (job .weights) < length (job .candidates) → Due 13
     -- a candidate is not a < b < c < n, or does not come strictly after the one before it (rule 4.15)
-    no-triangle : (i : ℕ) → i < length candidates → ascends n (vertexA (entryAt candidates i)) (vertexB (entryAt candidates i)) (vertexC (entryAt candidates i)) ≡ false → Due 15
-    candidate-not-after : (i : ℕ) → i + 1 < length candidates → before (entryAt candidates i) (entryAt candidates (i + 1)) ≡ false → Due 15
+    no-triangle : (i : ℕ) → i < length (job .candidates) → ascends (job .n) (vertexA (candidate i)) (vertexB (candidate i)) (vertexC (candidate i)) ≡ false → Due 15
+    candidate-not-after : (i : ℕ) → i + 1 < length (job .candidates) → before (candidate i) (candidate (i + 1)) ≡ false → Due 15
     -- a row names a candidate that there is not, or a pair that does not hang, or does not come strictly after the row before it (rule 4.16)
-    no-pair : (i : ℕ) → i < length rows → namesPair candidates (outer (entryAt rows i)) (inner (entryAt rows i)) ≡ false → Due 16
-    row-not-after : (i : ℕ) → i + 1 < length rows → rowBefore (entryAt rows i) (entryAt rows (i + 1)) ≡ false → Due 16
+    no-pair : (i : ℕ) → i < length (job .rows) → namesPair (job .candidates) (outer (row i)) (inner (row i)) ≡ false → Due 16
+    row-not-after : (i : ℕ) → i + 1 < length (job .rows) → rowBefore (row i) (row (i + 1)) ≡ false → Due 16
     -- a weight of a candidate or of a row is over 2,000,000,000 (rule 4.17)
-    heavy : (i : ℕ) → i < length candidates → maxWeight < getD weights i 0 → Due 17
-    heavy-row : (i : ℕ) → i < length rows → maxWeight < rowWeight (entryAt rows i) → Due 17
+    heavy : (i : ℕ) → i < length (job .candidates) → maxWeight < getD (job .weights) i 0 → Due 17
+    heavy-row : (i : ℕ) → i < length (job .rows) → maxWeight < rowWeight (row i) → Due 17
 
   -- the first number due on a job (rule 4.32)
   abbrev pub FirstDue : ℕ → Type 0

@@ -1,5 +1,4 @@
--- The tests of a direct job (rules 4.13 to 4.17), and the number that they give. Definitions only.
--- A job is n, its candidates [a, b, c], a table of weights that begins with theirs, and its rows [outer, inner, weight] (rule 3.1).
+-- A job, the tests of a direct one (rules 4.13 to 4.17), and the number that they give. Definitions only.
 use mathlib.Core.Bool.{Bool, cond}
 use mathlib.Core.List.{List}
 use Prim.Native.Nat.{ℕ, _-_}
@@ -8,6 +7,16 @@ use lib.Dec.{eqb, ltb, leb}
 use Rattle.lists.specs.Lists.{every, both, either}
 use Rattle.terms.specs.Limits.{countFits, maxWeight}
 use Rattle.terms.specs.Entries.{entryAt, vertexA, vertexB, vertexC, outer, inner, rowWeight}
+
+-- a job (rule 3.1): n vertices, candidates [a, b, c], a table of weights that begins with theirs, and rows [outer, inner, weight]
+pub record Job : Type 0 where
+  pub n : ℕ
+  pub candidates : List (List ℕ)
+  pub weights : List ℕ
+  pub rows : List (List ℕ)
+
+abbrev pub jobOf : ℕ → List (List ℕ) → List ℕ → List (List ℕ) → Job
+jobOf n candidates weights rows = record { n = n; candidates = candidates; weights = weights; rows = rows }
 
 -- a lent table has the places needed (rule 4.13)
 abbrev pub enough : ℕ → ℕ → Bool
@@ -83,21 +92,21 @@ abbrev pub countCode : ℕ → ℕ
 countCode n = unless (countFits n) 14 0
 
 -- 13 for the weights, 15, 16 and 17: all that a job's lists are tested for (rule 4.32)
-unfoldable pub listsCode : ℕ → List (List ℕ) → List ℕ → List (List ℕ) → ℕ
-listsCode n candidates weights rows =
-    unless (enough (length candidates) (length weights)) 13
-    (unless (candidatesFit n candidates) 15
-    (unless (rowsFit candidates rows) 16
-    (unless (both (weightsFit weights (length candidates)) (rowWeightsFit rows)) 17 0)))
+unfoldable pub listsCode : Job → ℕ
+listsCode job =
+    unless (enough (length (job .candidates)) (length (job .weights))) 13
+    (unless (candidatesFit (job .n) (job .candidates)) 15
+    (unless (rowsFit (job .candidates) (job .rows)) 16
+    (unless (both (weightsFit (job .weights) (length (job .candidates))) (rowWeightsFit (job .rows))) 17 0)))
 
 -- the number of a job and of the places lent with it, 0 where it is accepted: that it is the first number due is proved (Due.antt) (rule 4.32)
-unfoldable pub jobCode : ℕ → List (List ℕ) → List ℕ → List (List ℕ) → ℕ → ℕ → ℕ
-jobCode n candidates weights rows trianglePlaces workPlaces =
-    unless (countFits n) 14
-    (unless (enough (n - 2) trianglePlaces) 13
-    (unless (enough (length candidates) workPlaces) 13
-    (listsCode n candidates weights rows)))
+unfoldable pub jobCode : Job → ℕ → ℕ → ℕ
+jobCode job trianglePlaces workPlaces =
+    unless (countFits (job .n)) 14
+    (unless (enough (job .n - 2) trianglePlaces) 13
+    (unless (enough (length (job .candidates)) workPlaces) 13
+    (listsCode job)))
 
 -- the number where no triangle table is lent: as beside one that has its n - 2 places (rule 4.36)
-abbrev pub codeWithoutTriangles : ℕ → List (List ℕ) → List ℕ → List (List ℕ) → ℕ → ℕ
-codeWithoutTriangles n candidates weights rows workPlaces = jobCode n candidates weights rows (n - 2) workPlaces
+abbrev pub codeWithoutTriangles : Job → ℕ → ℕ
+codeWithoutTriangles job workPlaces = jobCode job (job .n - 2) workPlaces

@@ -6,8 +6,8 @@ use Rattle.codes.specs.Refusals.{refusal}
 use Rattle.lists.specs.Lists.{filled}
 use Rattle.terms.specs.Numbers.{firstDue}
 use Rattle.triangulation.specs.Triangulations.{Answer, none, patch, best}
-use Rattle.triangulation.specs.Problems.{problemFrom}
-use Rattle.jobs.specs.Job.{codeWithoutTriangles}
+use Rattle.triangulation.specs.Problems.{problemOf}
+use Rattle.jobs.specs.Job.{Job, codeWithoutTriangles}
 use Rattle.validation.specs.Validation.{listCode}
 use Rattle.judge.specs.declared.Judgement.{Judgement}
 use Rattle.judge.specs.declared.Judgement.the-variants.{Accepted, Refused}
@@ -43,10 +43,8 @@ excessOver none stated = 0
 excessOver (patch least triangles) stated = stated - least
 
 -- the number of the job, with no triangle table, and then that of the list (rule 4.36)
-unfoldable pub judgeCode : ℕ → List (List ℕ) → List ℕ → List (List ℕ) → List ℕ → ℕ → ℕ → ℕ
-judgeCode n candidates weights rows list stated workPlaces =
-    firstDue (codeWithoutTriangles n candidates weights rows workPlaces)
-    (listCode (problemFrom n candidates weights rows) list stated)
+unfoldable pub judgeCode : Job → List ℕ → ℕ → ℕ → ℕ
+judgeCode job list stated workPlaces = firstDue (codeWithoutTriangles job workPlaces) (listCode (problemOf job) list stated)
 
 -- a judgement, and what the work table holds after the call (rule 5.10)
 pub record Result : Type 0 where
@@ -62,6 +60,6 @@ settled zero excess count work = result (Accepted excess) (filled (replicate cou
 settled (suc k) excess count work = result (Refused (refusal (suc k))) work
 
 -- the call, by the first number due on it (rules 3.14, 4.36)
-unfoldable pub judged : ℕ → List (List ℕ) → List ℕ → List (List ℕ) → List ℕ → ℕ → List ℕ → Result
-judged n candidates weights rows list stated work =
-    settled (judgeCode n candidates weights rows list stated (length work)) (excessOver (best (problemFrom n candidates weights rows)) stated) (length candidates) work
+unfoldable pub judged : Job → List ℕ → ℕ → List ℕ → Result
+judged job list stated work =
+    settled (judgeCode job list stated (length work)) (excessOver (best (problemOf job)) stated) (length (job .candidates)) work

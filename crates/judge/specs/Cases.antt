@@ -3,13 +3,13 @@ use Prim.Native.Nat.{ℕ, _+_}
 use mathlib.Core.List.{List, [], _∷_}
 use lib.ListN.{length, replicate}
 use Rattle.codes.specs.Refusals.{refusal}
-use Rattle.triangulator.specs.Cases.{Lists}
+use Rattle.jobs.specs.Job.{Job}
 use Rattle.judge.specs.declared.Judgement.the-variants.{Accepted, Refused}
 use Rattle.judge.specs.Call.{Result, result, judged}
 
 -- the call on such a table
-abbrev pub judgedOn : Lists → List ℕ → ℕ → Result
-judgedOn l list stated = judged (l .n) (l .candidates) (l .weights) (l .rows) list stated (replicate (length (l .candidates) + 1) 9)
+abbrev pub judgedOn : Job → List ℕ → ℕ → Result
+judgedOn l list stated = judged l list stated (replicate (length (l .candidates) + 1) 9)
 
 -- what it should answer and leave, of four candidates
 abbrev pub accepted : ℕ → Result

@@ -4,12 +4,13 @@ use mathlib.Core.Path.{_≡_}
 use mathlib.Core.List.{List}
 use Rattle.triangulation.specs.Triangulations.{Problem, totalWeight}
 use Rattle.triangulation.specs.Demand3.{Triangulates, NamesOnce}
+use Rattle.jobs.specs.Job.{Job}
 use Rattle.jobs.specs.Due.{Accepted}
 use Rattle.validation.specs.Validation.{times}
 
 -- the job is accepted beside a work table of so many places, where no triangle table is lent (rule 4.36)
-abbrev pub JobAccepted : ℕ → List (List ℕ) → List ℕ → List (List ℕ) → ℕ → Type 0
-JobAccepted n candidates weights rows workPlaces = Accepted n candidates weights rows (n - 2) workPlaces
+abbrev pub JobAccepted : Job → ℕ → Type 0
+JobAccepted job workPlaces = Accepted job (job .n - 2) workPlaces
 
 -- the list is the tiling `set`, in whatever order and without repeats (rule 3.13)
 pub record IsTiling (job : Problem) (list set : List ℕ) : Type 0 where

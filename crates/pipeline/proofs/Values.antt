@@ -4,6 +4,7 @@ use mathlib.Core.List.{List}
 use Prim.Native.Nat.{ℕ, zero, suc}
 use native.Mathlib.Omega.{arith}
 use lib.ListN.{length}
+use Rattle.jobs.specs.Job.{jobOf}
 use Rattle.polygon.specs.declared.Polygon.{Polygon}
 use Rattle.polygon.specs.Polygon.{ValidPolygon}
 use Rattle.terms.specs.Numbers.{firstDue}
@@ -22,7 +23,7 @@ use Rattle.pipeline.specs.Patching.{Tables, Patching, patching, weightsI
 use Rattle.pipeline.proofs.Accepted.{lists-accepted}
 
 pub valid-job : (p : Polygon) → ValidPolygon p → triangulations.Valid (problemIn p)
-valid-job p v = well-formed (p .n) (candidatesOf p) (weightsIn p) (rowsIn p) (v .least) (v .most) (lists-accepted p v) .valid
+valid-job p v = well-formed (jobOf (p .n) (candidatesOf p) (weightsIn p) (rowsIn p)) (v .least) (v .most) (lists-accepted p v) .valid
 
 module _ (p : Polygon) (t : Tables) where
   by-number : (n : ℕ) → (n ≡ 0 → ValidPolygon p) → valuesOf (patchBy n p t .outcome) ≡ dueValues n (p .n) (best (problemIn p))

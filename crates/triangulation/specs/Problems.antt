@@ -1,4 +1,4 @@
--- The job that lists state (rule 3.1), and the limits that an accepted one keeps. Definitions only.
+-- The problem that a job states (rule 3.1), and the limits that an accepted one keeps. Definitions only.
 use Prim.Native.Nat.{ℕ, _≤_, _<_}
 use mathlib.Core.Bool.{cond, _&&_}
 use mathlib.Core.List.{List, [], _∷_}
@@ -6,6 +6,7 @@ use lib.ListN.{length, getD}
 use lib.Dec.{eqb}
 use Rattle.terms.specs.Limits.{maxVertices, maxWeight}
 use Rattle.terms.specs.Entries.{entryAt, vertexA, vertexB, vertexC, outer, inner, rowWeight}
+use Rattle.jobs.specs.Job.{Job}
 use Rattle.triangulation.specs.Triangulations.{Problem}
 
 -- the weight of the row with outer o and inner i, 0 where there is none (rule 3.4)
@@ -24,6 +25,9 @@ problemFrom n candidates weights rows = record {
   weight = λ k. getD weights k 0;
   row = pairWeight rows;
 }
+
+abbrev pub problemOf : Job → Problem
+problemOf job = problemFrom (job .n) (job .candidates) (job .weights) (job .rows)
 
 -- what rules 4.14 and 4.17 leave: the vertices and every weight within their limits
 pub record Bounded (job : Problem) : Type 0 where

@@ -13,7 +13,7 @@ use Rattle.triangulation.specs.Demand3.{Demand3}
 use Rattle.triangulation.proofs.Demand3.{demand3}
 use Rattle.terms.specs.Limits.{maxVertices, maxWeight}
 use Rattle.terms.specs.Entries.{entryAt, vertexA, vertexB, outer, inner, rowWeight}
-use Rattle.jobs.specs.Job.{jobCode}
+use Rattle.jobs.specs.Job.{Job, jobCode}
 use Rattle.jobs.proofs.Order.{Before, by-a, by-b, by-c, RowBefore, by-outer, by-inner}
 use Rattle.jobs.proofs.Count.{candidates-bounded}
 use Rattle.jobs.proofs.Acceptance.{ListsAccepted, fitting}
@@ -43,8 +43,20 @@ row-up : {r s : List ℕ} → RowBefore r s → rowIsBefore r (outer s) (inner s
 row-up {r} {s} (by-outer h) = is-before (outer r) (inner r) (outer s) (inner s) (inl h)
 row-up {r} {s} (by-inner e h) = is-before (outer r) (inner r) (outer s) (inner s) (inr (e, h))
 
-module _ (n : ℕ) (candidates : List (List ℕ)) (weights : List ℕ) (rows : List (List ℕ)) where
-  pub well-formed : 3 ≤ n → n ≤ maxVertices → ListsAccepted n candidates weights rows → WellFormed n candidates weights rows
+module _ (job : Job) where
+  abbrev n : ℕ
+  n = job .n
+
+  abbrev candidates : List (List ℕ)
+  candidates = job .candidates
+
+  abbrev weights : List ℕ
+  weights = job .weights
+
+  abbrev rows : List (List ℕ)
+  rows = job .rows
+
+  pub well-formed : 3 ≤ n → n ≤ maxVertices → ListsAccepted job → WellFormed n candidates weights rows
   well-formed low high ok =
       let c = ok .candidates-are in
       let r = ok .rows-are in
@@ -59,11 +71,11 @@ module _ (n : ℕ) (candidates : List (List ℕ)) (weights : List ℕ) (rows : L
         no-row = λ u. none (length candidates) u rows (λ k h. names-false _ _ (length candidates) u (λ e f. omega (arith, r .named k h .outer-is, e)));
       }
 
-  pub accepted-well-formed : (places work-places : ℕ) → jobCode n candidates weights rows places work-places ≡ 0 → WellFormed n candidates weights rows × (length candidates ≤ work-places) × (n ≤ places + 2)
+  pub accepted-well-formed : (places work-places : ℕ) → jobCode job places work-places ≡ 0 → WellFormed n candidates weights rows × (length candidates ≤ work-places) × (n ≤ places + 2)
   accepted-well-formed places work-places e =
-      let a = fitting n candidates weights rows places work-places e in
+      let a = fitting job places work-places e in
       (well-formed (a .at-least) (a .at-most) (a .lists), a .work-room, omega (arith, a .triangle-room))
 
   -- Demand 3 for every direct job on which no number is due.
-  pub accepted-demand3 : (places work-places : ℕ) → jobCode n candidates weights rows places work-places ≡ 0 → Demand3 (problemFrom n candidates weights rows) (best (problemFrom n candidates weights rows))
+  pub accepted-demand3 : (places work-places : ℕ) → jobCode job places work-places ≡ 0 → Demand3 (problemFrom n candidates weights rows) (best (problemFrom n candidates weights rows))
   accepted-demand3 places work-places e = demand3 (problemFrom n candidates weights rows) (accepted-well-formed places work-places e .0 .valid)

@@ -9,10 +9,10 @@ use Rattle.codes.specs.Refusals.{refusal}
 use Rattle.lists.proofs.Choice.{yes, no}
 use Rattle.lists.proofs.Writing.{filled-take}
 use Rattle.triangulation.specs.Triangulations.{Problem, ValidProblem, Answer, none, patch, best}
-use Rattle.triangulation.specs.Problems.{problemFrom}
+use Rattle.triangulation.specs.Problems.{problemOf}
 use Rattle.triangulation.specs.Demand3.{Optimal, Demand3, HandedBack}
 use Rattle.triangulation.proofs.Demand3.{demand3, handed-back}
-use Rattle.jobs.specs.Job.{jobCode}
+use Rattle.jobs.specs.Job.{Job, jobCode}
 use Rattle.jobs.specs.Due.{Due, FirstDue, Accepted}
 use Rattle.jobs.proofs.Acceptance.{accepted-zero, zero-accepted, code-due, due-code}
 use Rattle.triangulator.specs.declared.Outcome.{Outcome}
@@ -53,14 +53,14 @@ refused-handed job number triangles = with-refusal (part-empty (Refused (refusal
 pub patch-handed : {job : Problem} {part : List ℕ} {count total : ℕ} → Handed job part (Patch count total) → HandedBack job total part
 patch-handed (with-patch c h) = h
 
-module _ (n : ℕ) (candidates : List (List ℕ)) (weights : List ℕ) (rows : List (List ℕ)) (triangles work : List ℕ) where
+module _ (job : Job) (triangles work : List ℕ) where
   call : Result
-  call = triangulated n candidates weights rows triangles work
+  call = triangulated job triangles work
 
   number : ℕ
-  number = jobCode n candidates weights rows (length triangles) (length work)
+  number = jobCode job (length triangles) (length work)
 
-  settled-call : number ≡ 0 → call ≡ settled (best (problemFrom n candidates weights rows)) (length candidates) triangles work
+  settled-call : number ≡ 0 → call ≡ settled (best (problemOf job)) (length (job .candidates)) triangles work
   unfolding call number triangulated
   settled-call e = yes _ _ (eq-eqb number 0 e)
 
@@ -69,57 +69,57 @@ module _ (n : ℕ) (candidates : List (List ℕ)) (weights : List ℕ) (rows : L
   refused-call k e = no _ _ (ne-eqb number 0 (λ z. omega (arith, e, z))) ∙ ap (λ (j : ℕ). result (Refused (refusal j)) triangles work) e
 
   -- an accepted job ends in a patch or 'none', and no other does (rule 4.33)
-  pub job-taken : Accepted n candidates weights rows (length triangles) (length work) → Taken (triangulated n candidates weights rows triangles work .outcome)
+  pub job-taken : Accepted job (length triangles) (length work) → Taken (triangulated job triangles work .outcome)
   unfolding call number
   job-taken a =
-      subst (λ (r : Result). Taken (r .outcome)) (sym (settled-call (accepted-zero n candidates weights rows (length triangles) (length work) a)))
-      (settled-taken (best (problemFrom n candidates weights rows)) (length candidates) triangles work)
+      subst (λ (r : Result). Taken (r .outcome)) (sym (settled-call (accepted-zero job (length triangles) (length work) a)))
+      (settled-taken (best (problemOf job)) (length (job .candidates)) triangles work)
 
-  pub job-taken-only : Taken (triangulated n candidates weights rows triangles work .outcome) → Accepted n candidates weights rows (length triangles) (length work)
+  pub job-taken-only : Taken (triangulated job triangles work .outcome) → Accepted job (length triangles) (length work)
   unfolding call number
   job-taken-only t = by number refl
     where
-      by : (k : ℕ) → number ≡ k → Accepted n candidates weights rows (length triangles) (length work)
-      by zero e = zero-accepted n candidates weights rows (length triangles) (length work) e
+      by : (k : ℕ) → number ≡ k → Accepted job (length triangles) (length work)
+      by zero e = zero-accepted job (length triangles) (length work) e
       by (suc k) e = absurd (not-taken (ap (λ (r : Result). r .outcome) (refused-call k e)) t)
 
   -- every other is refused with the first number due, and every table holds what it held (rules 4.30, 4.32)
-  pub job-refused : (k : ℕ) → FirstDue n candidates weights rows (length triangles) (length work) k →
-      triangulated n candidates weights rows triangles work ≡ result (Refused (refusal k)) triangles work
+  pub job-refused : (k : ℕ) → FirstDue job (length triangles) (length work) k →
+      triangulated job triangles work ≡ result (Refused (refusal k)) triangles work
   unfolding call number
-  job-refused k d = by k (due-code n candidates weights rows (length triangles) (length work) k d) (d .due)
+  job-refused k d = by k (due-code job (length triangles) (length work) k d) (d .due)
     where
-      by : (k : ℕ) → number ≡ k → Due n candidates weights rows (length triangles) (length work) k → call ≡ result (Refused (refusal k)) triangles work
-      by zero e d = absurd (zero-accepted n candidates weights rows (length triangles) (length work) e 0 d)
+      by : (k : ℕ) → number ≡ k → Due job (length triangles) (length work) k → call ≡ result (Refused (refusal k)) triangles work
+      by zero e d = absurd (zero-accepted job (length triangles) (length work) e 0 d)
       by (suc k) e d = refused-call k e
 
-  pub job-refused-only : (k : ℕ) → triangulated n candidates weights rows triangles work .outcome ≡ Refused (refusal k) → FirstDue n candidates weights rows (length triangles) (length work) k
+  pub job-refused-only : (k : ℕ) → triangulated job triangles work .outcome ≡ Refused (refusal k) → FirstDue job (length triangles) (length work) k
   unfolding call number
   job-refused-only k r = by number refl
     where
-      by : (j : ℕ) → number ≡ j → FirstDue n candidates weights rows (length triangles) (length work) k
-      by zero e = absurd (not-taken r (subst (λ (r : Result). Taken (r .outcome)) (sym (settled-call e)) (settled-taken (best (problemFrom n candidates weights rows)) (length candidates) triangles work)))
+      by : (j : ℕ) → number ≡ j → FirstDue job (length triangles) (length work) k
+      by zero e = absurd (not-taken r (subst (λ (r : Result). Taken (r .outcome)) (sym (settled-call e)) (settled-taken (best (problemOf job)) (length (job .candidates)) triangles work)))
       by (suc j) e =
           let q : suc j ≡ k = ap numberOf (sym (ap (λ (r : Result). r .outcome) (refused-call j e)) ∙ r) in
-          subst (λ (i : ℕ). FirstDue n candidates weights rows (length triangles) (length work) i) q (code-due n candidates weights rows (length triangles) (length work) j e)
+          subst (λ (i : ℕ). FirstDue job (length triangles) (length work) i) q (code-due job (length triangles) (length work) j e)
 
   -- the answer to an accepted job is the right one (rule 3.7)
-  pub job-demand3 : Accepted n candidates weights rows (length triangles) (length work) →
-      Demand3 (problemFrom n candidates weights rows) (stated (triangulated n candidates weights rows triangles work .outcome) (triangulated n candidates weights rows triangles work .triangles))
+  pub job-demand3 : Accepted job (length triangles) (length work) →
+      Demand3 (problemOf job) (stated (triangulated job triangles work .outcome) (triangulated job triangles work .triangles))
   unfolding call number
   job-demand3 a =
-      let e = accepted-zero n candidates weights rows (length triangles) (length work) a in
-      subst (λ (x : Answer). Demand3 (problemFrom n candidates weights rows) x)
-      (sym (ap (λ (r : Result). stated (r .outcome) (r .triangles)) (settled-call e) ∙ settled-states (best (problemFrom n candidates weights rows)) (length candidates) triangles work))
-      (accepted-demand3 n candidates weights rows (length triangles) (length work) e)
+      let e = accepted-zero job (length triangles) (length work) a in
+      subst (λ (x : Answer). Demand3 (problemOf job) x)
+      (sym (ap (λ (r : Result). stated (r .outcome) (r .triangles)) (settled-call e) ∙ settled-states (best (problemOf job)) (length (job .candidates)) triangles work))
+      (accepted-demand3 job (length triangles) (length work) e)
 
   -- what the caller is handed back, after every call (rules 3.8, 4.30)
-  pub job-handed : Handed (problemFrom n candidates weights rows) (partOf (triangulated n candidates weights rows triangles work .outcome) (triangulated n candidates weights rows triangles work .triangles)) (triangulated n candidates weights rows triangles work .outcome)
+  pub job-handed : Handed (problemOf job) (partOf (triangulated job triangles work .outcome) (triangulated job triangles work .triangles)) (triangulated job triangles work .outcome)
   unfolding call number
   job-handed = by number refl
     where
-      by : (k : ℕ) → number ≡ k → Handed (problemFrom n candidates weights rows) (partOf (call .outcome) (call .triangles)) (call .outcome)
-      by zero e = subst (λ (r : Result). Handed (problemFrom n candidates weights rows) (partOf (r .outcome) (r .triangles)) (r .outcome)) (sym (settled-call e))
-          (settled-handed (problemFrom n candidates weights rows) (accepted-well-formed n candidates weights rows (length triangles) (length work) e .0 .valid) (length candidates) triangles work)
-      by (suc k) e = subst (λ (r : Result). Handed (problemFrom n candidates weights rows) (partOf (r .outcome) (r .triangles)) (r .outcome)) (sym (refused-call k e))
-          (refused-handed (problemFrom n candidates weights rows) (suc k) triangles)
+      by : (k : ℕ) → number ≡ k → Handed (problemOf job) (partOf (call .outcome) (call .triangles)) (call .outcome)
+      by zero e = subst (λ (r : Result). Handed (problemOf job) (partOf (r .outcome) (r .triangles)) (r .outcome)) (sym (settled-call e))
+          (settled-handed (problemOf job) (accepted-well-formed job (length triangles) (length work) e .0 .valid) (length (job .candidates)) triangles work)
+      by (suc k) e = subst (λ (r : Result). Handed (problemOf job) (partOf (r .outcome) (r .triangles)) (r .outcome)) (sym (refused-call k e))
+          (refused-handed (problemOf job) (suc k) triangles)

@@ -7,8 +7,8 @@ use lib.Dec.{eqb}
 use Rattle.codes.specs.Refusals.{refusal}
 use Rattle.lists.specs.Lists.{filled, firstPlaces}
 use Rattle.triangulation.specs.Triangulations.{Answer, none, patch, best}
-use Rattle.triangulation.specs.Problems.{problemFrom}
-use Rattle.jobs.specs.Job.{jobCode}
+use Rattle.triangulation.specs.Problems.{problemOf}
+use Rattle.jobs.specs.Job.{Job, jobCode}
 use Rattle.triangulator.specs.declared.Outcome.{Outcome}
 use Rattle.triangulator.specs.declared.Outcome.the-variants.{Patch, None, Refused}
 
@@ -73,7 +73,7 @@ abbrev pub refusedOr : ℕ → List ℕ → List ℕ → Result → Result
 refusedOr number triangles work otherwise = cond (eqb number 0) otherwise (result (Refused (refusal number)) triangles work)
 
 -- the call for a direct job, by the first number due on it (rule 4.32)
-unfoldable pub triangulated : ℕ → List (List ℕ) → List ℕ → List (List ℕ) → List ℕ → List ℕ → Result
-triangulated n candidates weights rows triangles work =
-    refusedOr (jobCode n candidates weights rows (length triangles) (length work)) triangles work
-    (settled (best (problemFrom n candidates weights rows)) (length candidates) triangles work)
+unfoldable pub triangulated : Job → List ℕ → List ℕ → Result
+triangulated job triangles work =
+    refusedOr (jobCode job (length triangles) (length work)) triangles work
+    (settled (best (problemOf job)) (length (job .candidates)) triangles work)

@@ -3,34 +3,25 @@ use Prim.Native.Nat.{ℕ, _+_, _-_}
 use mathlib.Core.List.{List, [], _∷_}
 use lib.ListN.{length, replicate}
 use Rattle.terms.specs.Entries.{triple}
+use Rattle.jobs.specs.Job.{Job, jobOf}
 use Rattle.triangulator.specs.Call.{Result, triangulated}
 
--- a direct job's lists (rule 3.1)
-pub record Lists : Type 0 where
-  pub n : ℕ
-  pub candidates : List (List ℕ)
-  pub weights : List ℕ
-  pub rows : List (List ℕ)
-
-abbrev pub lists : ℕ → List (List ℕ) → List ℕ → List (List ℕ) → Lists
-lists n candidates weights rows = record { n = n; candidates = candidates; weights = weights; rows = rows }
-
 -- the call on such tables
-abbrev pub answered : Lists → Result
-answered l = triangulated (l .n) (l .candidates) (l .weights) (l .rows) (replicate (l .n - 1) 9) (replicate (length (l .candidates) + 1) 9)
+abbrev pub answered : Job → Result
+answered l = triangulated l (replicate (l .n - 1) 9) (replicate (length (l .candidates) + 1) 9)
 
 -- one candidate, of weight 5 (rule 6.2)
-abbrev pub single : Lists
-single = lists 3 (triple 0 1 2 ∷ []) (5 ∷ []) []
+abbrev pub single : Job
+single = jobOf 3 (triple 0 1 2 ∷ []) (5 ∷ []) []
 
 -- four vertices with all four triples (rule 6.3)
-abbrev pub quadrilateral : List ℕ → List (List ℕ) → Lists
-quadrilateral weights rows = lists 4 (triple 0 1 2 ∷ triple 0 1 3 ∷ triple 0 2 3 ∷ triple 1 2 3 ∷ []) weights rows
+abbrev pub quadrilateral : List ℕ → List (List ℕ) → Job
+quadrilateral weights rows = jobOf 4 (triple 0 1 2 ∷ triple 0 1 3 ∷ triple 0 2 3 ∷ triple 1 2 3 ∷ []) weights rows
 
 -- two tilings of equal total; and one where a row makes the earlier dearer, or names a pair that does not hang (rule 6.3)
-abbrev pub ties : List (List ℕ) → Lists
+abbrev pub ties : List (List ℕ) → Job
 ties rows = quadrilateral (1 ∷ 1 ∷ 1 ∷ 1 ∷ []) rows
 
 -- the lists that rim file P gives (rule 6.1)
-abbrev pub listsP : Lists
-listsP = quadrilateral (80 ∷ 64 ∷ 80 ∷ 93 ∷ []) (triple 1 3 312 ∷ triple 2 0 360 ∷ [])
+abbrev pub jobP : Job
+jobP = quadrilateral (80 ∷ 64 ∷ 80 ∷ 93 ∷ []) (triple 1 3 312 ∷ triple 2 0 360 ∷ [])

@@ -5,14 +5,15 @@ use Rattle.codes.specs.Refusals.{refusal}
 use Rattle.terms.specs.Entries.{triple}
 use Rattle.triangulator.specs.declared.Outcome.the-variants.{Patch, None, Refused}
 use Rattle.triangulator.specs.Call.{Result, result}
-use Rattle.triangulator.specs.Cases.{Lists, single, listsP, ties}
+use Rattle.jobs.specs.Job.{Job}
+use Rattle.triangulator.specs.Cases.{single, jobP, ties}
 
 -- a job, and what a program answers and leaves
 pub record Call : Type 0 where
-  pub direct : Lists
+  pub direct : Job
   pub leaves : Result
 
-abbrev pub call : Lists → Result → Call
+abbrev pub call : Job → Result → Call
 call l r = record { direct = l; leaves = r }
 
 -- the work table of four candidates, cleared
@@ -28,7 +29,7 @@ wrongCalls =
     -- a total of its own
     ∷ call single (result (Patch 1 4) (0 ∷ 9 ∷ []) (0 ∷ 9 ∷ []))
     -- a fan around vertex 0, with its own true total
-    ∷ call listsP (result (Patch 2 520) (2 ∷ 0 ∷ 9 ∷ []) cleared)
+    ∷ call jobP (result (Patch 2 520) (2 ∷ 0 ∷ 9 ∷ []) cleared)
     -- the first triangle twice
     ∷ call (ties []) (result (Patch 2 2) (1 ∷ 1 ∷ 9 ∷ []) cleared)
     -- the later of two equal tilings

@@ -8,7 +8,7 @@ ghost use lib.ListN.{length};
 ghost use Rattle.triangulation.specs.Triangulations.{best};
 ghost use Rattle.triangulation.specs.Problems.{problemFrom};
 ghost use Rattle.minimum_weight.specs.Tables.{WellFormed};
-ghost use Rattle.jobs.specs.Job.{jobCode};
+ghost use Rattle.jobs.specs.Job.{jobOf, jobCode};
 ghost use Rattle.triangulator.specs.Call.{numberOf, trianglesOf, totalOf, valuesOf, answerValues, dueValues, partOf, result, settled, triangulated};
 
 // A patch with the number of its triangles and its total, 'none', or a refusal.
@@ -94,8 +94,8 @@ pub fn triangulate(
     triangles: &mut [u16],
     work: &mut [u64],
 ) -> Outcome
-    ensures { λ r. ⌜ result r (now (triangles .exit)) (now (work .exit)) ≡ triangulated n (now (candidates .entry)) (now (weights .entry)) (now (rows .entry)) (now (triangles .entry)) (now (work .entry)) ⌝ }
-    ensures { λ r. ⌜ valuesOf r ≡ dueValues (jobCode n (now (candidates .entry)) (now (weights .entry)) (now (rows .entry)) (length (now (triangles .entry))) (length (now (work .entry)))) n (best (problemFrom n (now (candidates .entry)) (now (weights .entry)) (now (rows .entry)))) ⌝ }
+    ensures { λ r. ⌜ result r (now (triangles .exit)) (now (work .exit)) ≡ triangulated (jobOf n (now (candidates .entry)) (now (weights .entry)) (now (rows .entry))) (now (triangles .entry)) (now (work .entry)) ⌝ }
+    ensures { λ r. ⌜ valuesOf r ≡ dueValues (jobCode (jobOf n (now (candidates .entry)) (now (weights .entry)) (now (rows .entry))) (length (now (triangles .entry))) (length (now (work .entry)))) n (best (problemFrom n (now (candidates .entry)) (now (weights .entry)) (now (rows .entry)))) ⌝ }
 {
     let number = jobs::job_code(n, candidates, weights, rows, triangles.len(), work.len());
     if number != 0 {

@@ -10,7 +10,7 @@ job-code-requires : tie.Need-job-code-requires
 job-code-requires c κs = search needs
 
 returns : tie.Need-returns
-returns c = c .job-code .ensures ∙ long-enough _ _ _ _ _ _ (omega arith)
+returns c = c .job-code .ensures ∙ long-enough _ _ _ (omega arith)
 
 pub code-without-triangles-spec : {M : Type 1} → statement M
 code-without-triangles-spec = tie.close (tie.spec job-code-requires returns)

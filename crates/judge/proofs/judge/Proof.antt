@@ -3,6 +3,7 @@ use Prim.Native.Nat.{_+_, _-_, _≤_}
 use mathlib.Core.Path.{_≡_, sym, _∙_}
 use native.Mathlib.Omega.{arith}
 use lib.ListN.{length}
+use Rattle.jobs.specs.Job.{jobOf}
 use Rattle.terms.proofs.Numbers.{due-here, due-on}
 use Rattle.triangulation.specs.Triangulations.{Problem}
 use Rattle.triangulation.specs.Problems.{problemFrom}
@@ -40,7 +41,7 @@ module _ (g : tie.Else1) where
   call = g .before .before .before .before .before
 
   formed : WellFormed (call .args .n) (call .args .candidates .now) (call .args .weights .now) (call .args .rows .now) × (length (call .args .candidates .now) ≤ length (call .args .work .now)) × (call .args .n ≤ call .args .n - 2 + 2)
-  formed = accepted-well-formed (call .args .n) _ _ _ (call .args .n - 2) (length (call .args .work .now)) (sym (g .before .code-without-triangles .ensures) ∙ g .if1 .left)
+  formed = accepted-well-formed (jobOf (call .args .n) _ _ _) (call .args .n - 2) (length (call .args .work .now)) (sym (g .before .code-without-triangles .ensures) ∙ g .if1 .left)
 
 -- so is the list
 module _ (g : tie.Else2) where

@@ -2,6 +2,7 @@
 use Prim.Native.Nat.{ℕ}
 use mathlib.Core.Path.{sym, ap, _∙_}
 use borrow.Author.Tests.{eq-eqb, ne-eqb}
+use Rattle.jobs.specs.Job.{jobOf}
 use Rattle.codes.specs.declared.Refusal.{Refusal}
 use Rattle.codes.specs.Refusals.{refusal}
 use Rattle.lists.proofs.Choice.{yes, no}
@@ -33,7 +34,7 @@ returns c =
     )
 
 best-triangulation-requires : tie.Need-best-triangulation-requires
-best-triangulation-requires c κs = let s = c .before .before .before .before .before .before .before in accepted-well-formed (s .args .n) _ _ _ _ _ (sym (c .before .before .before .job-code .ensures) ∙ c .before .before .if1 .left)
+best-triangulation-requires c κs = let s = c .before .before .before .before .before .before .before in accepted-well-formed (jobOf (s .args .n) _ _ _) _ _ (sym (c .before .before .before .job-code .ensures) ∙ c .before .before .if1 .left)
 
 same-length : tie.Need-same-length
 same-length c = search needs
