@@ -3,6 +3,7 @@ use mathlib.Core.Path.{sym, ap, _∙_, subst}
 use mathlib.Core.List.{List}
 use Prim.Native.Nat.{ℕ}
 use lib.ListN.{length}
+use Rattle.rim_file.specs.File.{Bytes}
 use Rattle.reader.specs.Order.{NoneDue}
 use Rattle.delaunay.specs.Candidates.{candidatesOf}
 use Rattle.triangulation.specs.Triangulations.{Answer, best}
@@ -13,7 +14,6 @@ use Rattle.triangulator.specs.Demands.{stated, Handed}
 use Rattle.triangulator.proofs.Demands.{settled-states, settled-handed}
 use Rattle.pipeline.specs.Patching.{Tables, Patching, rowsIn, problemIn, patchFile}
 use Rattle.pipeline.proofs.Values.{valid-job}
-use Rattle.rim_file.specs.File.{Bytes}
 use Rattle.demands.specs.Demand1.{polygonIn, CallDue}
 use Rattle.demands.specs.Demand2.{TablesHold}
 use Rattle.demands.proofs.Demand1.{accepted}

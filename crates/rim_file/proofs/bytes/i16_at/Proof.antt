@@ -1,4 +1,4 @@
--- `reader::bytes::i16_at` meets its contract. Assumes nothing.
+-- `rim_file::bytes::i16_at` meets its contract. Assumes nothing.
 use borrow.Author.Needs.{needs}
 use mathlib.Core.Path.{ap, _∙_}
 use Rattle.rim_file.specs.File.{signed16}

@@ -1,4 +1,4 @@
--- `reader::edition::is_edition_2` meets its contract. Assumes nothing.
+-- `rim_file::edition::is_edition_2` meets its contract. Assumes nothing.
 use borrow.Author.Needs.{needs}
 use borrow.Author.Tests.{ne-eqb}
 use native.Mathlib.Omega.{arith}

@@ -1,4 +1,4 @@
--- `reader::edition::layout` meets its contract. Assumes nothing.
+-- `rim_file::edition::layout` meets its contract. Assumes nothing.
 use mathlib.Core.Path.{sym, _∙_}
 use borrow.Author.Needs.{needs}
 use Rattle.rim_file.proofs.Layouts.{edition1, edition2}

@@ -1,4 +1,4 @@
--- `reader::edition::length_wrong` meets its contract. Assumes nothing.
+-- `rim_file::edition::length_wrong` meets its contract. Assumes nothing.
 use mathlib.Core.Path.{sym, ap, _∙_}
 use mathlib.Core.Bool.{not}
 use Prim.Native.Nat.{ℕ}

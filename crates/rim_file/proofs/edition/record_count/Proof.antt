@@ -1,4 +1,4 @@
--- `reader::edition::record_count` meets its contract. Assumes nothing.
+-- `rim_file::edition::record_count` meets its contract. Assumes nothing.
 use mathlib.Core.Path.{_∙_}
 use native.Mathlib.Omega.{arith}
 use denote.Ref.{now}

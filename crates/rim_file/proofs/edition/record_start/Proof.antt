@@ -1,4 +1,4 @@
--- `reader::edition::record_start` meets its contract. Assumes nothing.
+-- `rim_file::edition::record_start` meets its contract. Assumes nothing.
 use Prim.Native.Nat.{_-_}
 use native.Mathlib.Omega.{arith}
 use native.Mathlib.Nat.{mul-le-mul-right}

@@ -1,4 +1,4 @@
--- `reader::records::float_at` meets its contract. Assumes nothing.
+-- `rim_file::records::float_at` meets its contract. Assumes nothing.
 use mathlib.Core.Path.{ap, _∙_}
 use Prim.Native.Nat.{ℕ}
 use lib.Ieee.{binary32, ofBits}

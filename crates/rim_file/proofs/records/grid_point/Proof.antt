@@ -1,4 +1,4 @@
--- `reader::records::grid_point` meets its contract. Assumes nothing.
+-- `rim_file::records::grid_point` meets its contract. Assumes nothing.
 use mathlib.Core.Path.{sym, subst, _∙_}
 use Rattle.grid.specs.Point.{OnGrid}
 use Rattle.rim_file.specs.Record.{vertexOf}

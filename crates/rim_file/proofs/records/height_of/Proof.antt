@@ -1,4 +1,4 @@
--- `reader::records::height_of` meets its contract. Assumes nothing.
+-- `rim_file::records::height_of` meets its contract. Assumes nothing.
 use mathlib.Core.Path.{sym, ap}
 use Rattle.rim_file.specs.Record.{heightOf}
 use borrow.Author.Needs.{needs}

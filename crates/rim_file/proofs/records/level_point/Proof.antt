@@ -1,4 +1,4 @@
--- `reader::records::level_point` meets its contract. Assumes nothing.
+-- `rim_file::records::level_point` meets its contract. Assumes nothing.
 use mathlib.Core.Path.{sym, subst, _∙_}
 use mir.Facts.{toZ-ofZ}
 use Rattle.grid.specs.Point.{OnGrid}

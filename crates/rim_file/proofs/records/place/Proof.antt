@@ -1,4 +1,4 @@
--- `reader::records::place` meets its contract. Assumes nothing.
+-- `rim_file::records::place` meets its contract. Assumes nothing.
 use mathlib.Core.Path.{sym, subst, ap, _∙_}
 use Rattle.lists.proofs.Choice.{holds-via, fails-via}
 use Rattle.grid.specs.Point.{OnGrid}

@@ -1,4 +1,4 @@
--- `reader::records::value_of` meets its contract. Assumes nothing.
+-- `rim_file::records::value_of` meets its contract. Assumes nothing.
 use mathlib.Core.Path.{sym, ap}
 use Rattle.rim_file.specs.Steps.{valueOf}
 use borrow.Author.Needs.{needs}

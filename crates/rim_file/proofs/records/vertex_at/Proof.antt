@@ -1,4 +1,4 @@
--- `reader::records::vertex_at` meets its contract. Assumes nothing.
+-- `rim_file::records::vertex_at` meets its contract. Assumes nothing.
 use mathlib.Core.Path.{sym, ap, subst, _∙_}
 use denote.Ref.{now}
 use Rattle.grid.specs.Point.{OnGrid}
