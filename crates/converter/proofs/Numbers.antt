@@ -20,12 +20,12 @@ use Rattle.polygon.proofs.Normals.{none-is}
 use Rattle.terms.specs.Limits.{maxVertices}
 use Rattle.rim_file.specs.File.{isEdition2, recordCount, offset}
 use Rattle.rim_file.specs.Record.{heldNormal, normalIn}
-use Rattle.reader.specs.Order.{Place, rim, Precedes, by-number, First, NoneDue}
-use Rattle.reader.specs.Due.{InFile, DueAt, too-few, vertex-repeated}
-use Rattle.reader.specs.Reading as reader
 use Rattle.rim_file.proofs.Layouts.{record-within}
 use Rattle.rim_file.proofs.Lengths.{whole}
 use Rattle.rim_file.proofs.Normals.{normal-1, normal-2}
+use Rattle.reader.specs.Order.{Place, rim, Precedes, by-number, First, NoneDue}
+use Rattle.reader.specs.Due.{InFile, DueAt, too-few, vertex-repeated}
+use Rattle.reader.specs.Reading as reader
 use Rattle.reader.proofs.Order.{none-first, Verdict, first-due, none-due, verdict-either, verdict-first, verdict-given, verdict-zero, verdict-none}
 use Rattle.reader.proofs.FirstNumber.{number-first, no-number-read, read-none}
 use Rattle.converter.specs.Converted.{converted, otherEdition, normalLost}

@@ -15,11 +15,11 @@ use Rattle.polygon.proofs.Normals.{none-is}
 use Rattle.terms.specs.Limits.{maxVertices}
 use Rattle.rim_file.specs.File.{u16At, signed16, i16At, isEdition2, marker, recordSize1, headerStart, recordSize, firstRecord, recordCount, lengthWrong, offset}
 use Rattle.rim_file.specs.Record.{normalIn}
-use Rattle.reader.specs.Chain.{link}
 use Rattle.rim_file.specs.Editions.{SameRim}
 use Rattle.rim_file.proofs.Layouts.{start-1, start-2, size-1, size-2}
 use Rattle.rim_file.proofs.Lengths.{Whole, whole}
 use Rattle.rim_file.proofs.Normals.{normal-1, normal-2}
+use Rattle.reader.specs.Chain.{link}
 use Rattle.reader.proofs.FirstNumber.{Read, read-end}
 use Rattle.converter.specs.Converted.{laidOut, markerBytes, zeroNormal, converted, normalLost}
 use Rattle.converter.proofs.Places.{header-at, field, count-same, right-again, record-byte, after-record}

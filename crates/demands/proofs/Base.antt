@@ -13,15 +13,15 @@ use Rattle.polygon.specs.declared.normal.Normal.{Normal}
 use Rattle.terms.proofs.Numbers.{due-neither}
 use Rattle.polygon.specs.Normal.{noNormal, isNone}
 use Rattle.terms.specs.Entries.{vertexA, vertexB, vertexC}
-use Rattle.reader.specs.declared.Status.the-variants.{Complete}
 use Rattle.rim_file.specs.File.{isEdition2, offset}
+use Rattle.rim_file.specs.Editions.{SameRim}
+use Rattle.rim_file.proofs.Normals.{normal-1, normal-2}
+use Rattle.reader.specs.declared.Status.the-variants.{Complete}
 use Rattle.reader.specs.Due.{InFile, HasNormal, held, none}
 use Rattle.reader.specs.Chain.{link}
-use Rattle.rim_file.specs.Editions.{SameRim}
 use Rattle.reader.specs.Reading.{answer, polygonOf, readingOf}
 use Rattle.reader.specs.Reading as reader
 use Rattle.reader.proofs.Accepted.{read-normals, read-records}
-use Rattle.rim_file.proofs.Normals.{normal-1, normal-2}
 use Rattle.faces.proofs.Members.{triples-member}
 use Rattle.delaunay.specs.Candidates.{isCandidate, candidatesOf}
 use Rattle.dihedrals.specs.Dihedrals.{faceNormal}

@@ -16,8 +16,8 @@ use Rattle.polygon.specs.declared.Polygon.{Polygon}
 use Rattle.polygon.specs.Polygon.{codeOf, ValidPolygon, emptyPolygon}
 use Rattle.terms.specs.Numbers.{firstDue}
 use Rattle.polygon.proofs.Validity.{valid-code}
-use Rattle.reader.specs.declared.Status.the-variants.{Complete}
 use Rattle.rim_file.specs.File.{Bytes}
+use Rattle.reader.specs.declared.Status.the-variants.{Complete}
 use Rattle.reader.specs.Order.{Place, rim, Precedes, by-number, First, NoneDue}
 use Rattle.reader.specs.Due.{DueAt}
 use Rattle.reader.specs.Reading.{polygonOf, answer, readingOf}

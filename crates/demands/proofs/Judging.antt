@@ -8,8 +8,8 @@ use Rattle.jobs.specs.Job.{jobOf}
 use Rattle.lists.specs.Lists.{filled}
 use Rattle.polygon.specs.declared.Polygon.{Polygon}
 use Rattle.polygon.specs.Polygon.{ValidPolygon}
-use Rattle.reader.specs.Order.{NoneDue}
 use Rattle.rim_file.specs.File.{Bytes}
+use Rattle.reader.specs.Order.{NoneDue}
 use Rattle.delaunay.specs.Candidates.{candidatesOf}
 use Rattle.jobs.proofs.Acceptance.{fitting-accepted}
 use Rattle.triangulator.specs.declared.Outcome.{Outcome}

@@ -15,15 +15,15 @@ use Rattle.polygon.proofs.Normals.{normal-in-range}
 use Rattle.polygon.proofs.Validity.{repeated-none}
 use Rattle.rim_file.specs.File.{headerStart, offset}
 use Rattle.rim_file.specs.Record.{known, heightOf, numberOf, pointOf}
-use Rattle.reader.specs.Chain.{link, heightBefore, vertexAtPosition, normalAtPosition, vertexCount, verticesOf, normalsOf}
-use Rattle.reader.specs.Due.{InFile, HasVertex, HasNormal}
-use Rattle.reader.specs.Reading.{numberDue, polygonOf, answer, readingOf}
 use Rattle.rim_file.specs.declared.Height.{Height}
 use Rattle.rim_file.specs.declared.Vertex.{Vertex}
 use Rattle.rim_file.specs.declared.Vertex.the-variants.{At, Refused}
-use Rattle.reader.specs.declared.Status.the-variants.{Complete}
 use Rattle.rim_file.proofs.Vertices.{Vertexed, vertexed, refused-positive}
 use Rattle.rim_file.proofs.Lengths.{whole}
+use Rattle.reader.specs.Chain.{link, heightBefore, vertexAtPosition, normalAtPosition, vertexCount, verticesOf, normalsOf}
+use Rattle.reader.specs.Due.{InFile, HasVertex, HasNormal}
+use Rattle.reader.specs.Reading.{numberDue, polygonOf, answer, readingOf}
+use Rattle.reader.specs.declared.Status.the-variants.{Complete}
 use Rattle.reader.proofs.Answers.{count-within, limit-most}
 use Rattle.reader.proofs.Ends.{no-number, in-range}
 use Rattle.reader.proofs.RimVertices.{has-vertex, vertex-in-table}

@@ -14,11 +14,11 @@ use Rattle.polygon.specs.Polygon.{repeatedVertex}
 use Rattle.terms.specs.Numbers.{firstDue}
 use Rattle.rim_file.specs.File.{areaFactor, lengthWrong}
 use Rattle.rim_file.specs.Record.{pointOf}
+use Rattle.rim_file.proofs.Lengths.{whole}
 use Rattle.reader.specs.Chain.{link, vertexAtPosition, linkCode, recordCode, positionCode, chainCode, vertexCount, verticesOf}
 use Rattle.reader.specs.Order.{Place, request, header, link-to, record-at, rim, request-header, request-link, request-record, request-rim, header-link, header-record, header-rim, link-link, link-record, record-link, record-record, link-rim, record-rim, Precedes, by-place, by-number, First, NoneDue}
 use Rattle.reader.specs.Due.{HasVertex, DueAt, limit-wrong, length-wrong, area-factor, too-few, vertex-repeated}
 use Rattle.reader.specs.Reading.{fileCode, numberDue}
-use Rattle.rim_file.proofs.Lengths.{whole}
 use Rattle.reader.proofs.Positions.{shorter, link-given, link-quiet, record-given, record-quiet, record-reached}
 use Rattle.reader.proofs.Ends.{Stops, on-link, on-record, Ends, stops, ends, before-end, no-link, no-record, no-number}
 use Rattle.reader.proofs.Answers.{limit-most}

@@ -9,9 +9,9 @@ use borrow.Author.Tests.{eqb-true, eqb-false, eq-eqb, ne-eqb}
 use lib.Dec.{eqb}
 use Rattle.lists.proofs.Choice.{yes, no, true-not-false, below-or-same}
 use Rattle.rim_file.specs.Record.{known}
+use Rattle.rim_file.specs.declared.Height.the-variants.{Known}
 use Rattle.reader.specs.Chain.{heightBefore}
 use Rattle.reader.specs.Due.{kindAt, heightAt, LastPoint}
-use Rattle.rim_file.specs.declared.Height.the-variants.{Known}
 
 module _ (s : List ℕ) where
   -- one position back

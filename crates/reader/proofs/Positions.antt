@@ -14,15 +14,14 @@ use Rattle.terms.specs.Numbers.{firstDue}
 use Rattle.terms.proofs.Numbers.{due-here, due-on, due-neither}
 use Rattle.rim_file.specs.File.{recordCount}
 use Rattle.rim_file.specs.Record.{numberOf}
+use Rattle.rim_file.proofs.Layouts.{record-within}
+use Rattle.rim_file.proofs.Lengths.{Whole}
+use Rattle.rim_file.proofs.Floats.{UpTo}
 use Rattle.reader.specs.Chain.{metBefore, vertexAtPosition, normalAtPosition, overLimit, linkCode, recordCode, positionCode}
 use Rattle.reader.specs.Chain as chain
 use Rattle.reader.specs.Order.{link-to, record-at}
 use Rattle.reader.specs.Due.{InFile, HasRecords, DueAt, link-over, met-again, too-many, over-limit, kind-unknown, no-height, not-finite, tail-not-zero, out-of-range, normal-out-of-range}
 use Rattle.reader.proofs.Answers.{over-least}
-use Rattle.reader.proofs.Walking.{below-limit}
-use Rattle.rim_file.proofs.Layouts.{record-within}
-use Rattle.rim_file.proofs.Lengths.{Whole}
-use Rattle.rim_file.proofs.Floats.{UpTo}
 use Rattle.reader.proofs.Normals.{normal-given, normal-due}
 use Rattle.reader.proofs.RecordNumbers.{record-most, kind-given, height-given, tail-given, finite-given, range-given, record-due}
 
@@ -174,7 +173,7 @@ module _ (limit : ℕ) (s : List ℕ) (whole : Whole s) (i : ℕ) (r : Reached s
 
       by : (b : Bool) → eqb limit maxVertices ≡ b → DueAt limit s (link-to i) (cond b 5 20)
       by true p = subst (λ (m : ℕ). DueAt limit s (link-to m) 5) (sym e) (too-many all (eqb-true limit maxVertices p))
-      by false p = subst (λ (m : ℕ). DueAt limit s (link-to m) 20) (sym e) (over-limit all (below-limit small (eqb-false limit maxVertices p)))
+      by false p = subst (λ (m : ℕ). DueAt limit s (link-to m) 20) (sym e) (over-limit all (omega (arith, small, eqb-false limit maxVertices p)))
 
   -- position i is at most the last that may be
   pub given-link : (c : ℕ) → limit ≤ maxVertices → i ≤ limit → linkCode limit s i ≡ suc c → DueAt limit s (link-to i) (suc c)

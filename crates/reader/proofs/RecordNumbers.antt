@@ -1,25 +1,22 @@
 -- The number of the record at a position, by its tests. Assumes nothing.
-use mathlib.Core.Path.{_≡_, refl, sym, ap, _∙_, subst}
+use mathlib.Core.Path.{_≡_, refl, sym, _∙_, subst}
 use mathlib.Core.Bool.{Bool, true, false, cond}
 use mathlib.Core.List.{List, [], _∷_, List·Memᴰ, List·Memᴰ·not-nil}
-use Prim.Native.Nat.{ℕ, zero, suc, _≤_, _<_}
+use Prim.Native.Nat.{ℕ, suc, _≤_, _<_}
 use native.Mathlib.Omega.{arith}
 use borrow.Author.Tests.{eqb-true, eqb-false, eq-eqb, ne-eqb}
-use lib.IntN.{ℤ}
 use lib.Dec.{eqb}
 use lib.Ieee.{Float}
 use Rattle.lists.proofs.Choice.{yes, no}
-use Rattle.grid.specs.declared.GridPoint.{GridPoint}
-use Rattle.grid.specs.Number.{finite, inRange, roundEighths}
-use Rattle.grid.specs.Point.{point}
+use Rattle.grid.specs.Number.{finite, inRange}
 use Rattle.rim_file.specs.File.{offset, firstNumber, secondNumber, thirdNumber}
-use Rattle.rim_file.specs.Record.{known, heightOf, everyNumber, numbersCode, vertexUnless, numberOf}
+use Rattle.rim_file.specs.Record.{known, heightOf, everyNumber, numbersCode, numberOf}
+use Rattle.rim_file.proofs.Vertices.{tests, vertex-number}
+use Rattle.rim_file.proofs.Floats.{UpTo, every-fails, every-not, numbers-most, finite-code, range-code}
 use Rattle.reader.specs.Chain.{heightBefore, vertexAtPosition}
 use Rattle.reader.specs.Chain as chain
 use Rattle.reader.specs.Order.{record-at}
 use Rattle.reader.specs.Due.{HasRecords, kindAt, tailZeroAt, floatsAt, DueAt, kind-unknown, no-height, not-finite, tail-not-zero, out-of-range}
-use Rattle.rim_file.proofs.Vertices.{tests, vertex-number}
-use Rattle.rim_file.proofs.Floats.{UpTo, every-fails, every-not, numbers-most, finite-code, range-code}
 use Rattle.reader.proofs.Heights.{height-unknown, no-height-known}
 
 module _ (s : List ℕ) (i : ℕ) where

@@ -19,12 +19,12 @@ use Rattle.polygon.proofs.Points.{point-equal}
 use Rattle.polygon.proofs.Validity.{repeated-none}
 use Rattle.rim_file.specs.File.{offset, firstNumber, secondNumber, thirdNumber}
 use Rattle.rim_file.specs.Record.{known, heightOf, numbersCode, vertexUnless, numberOf, pointOf}
+use Rattle.rim_file.proofs.Vertices.{shape, shape-is, numbers-fine, tests}
+use Rattle.rim_file.proofs.Floats.{every-at, every-all, fine-code}
 use Rattle.reader.specs.Chain.{heightBefore, vertexAtPosition, verticesOf}
 use Rattle.reader.specs.Chain as chain
 use Rattle.reader.specs.Due.{kindAt, tailZeroAt, floatsAt, OnGridAt, xAt, yAt, heightAt, HasVertex, a-point, a-level-point}
 use Rattle.reader.proofs.Tables.{table-at}
-use Rattle.rim_file.proofs.Vertices.{shape, shape-is, numbers-fine, tests}
-use Rattle.rim_file.proofs.Floats.{every-at, every-all, fine-code}
 use Rattle.reader.proofs.Heights.{height-of-last, last-point}
 use Rattle.reader.proofs.RecordNumbers.{pointFloats, levelFloats, record-number}
 

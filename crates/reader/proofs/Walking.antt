@@ -13,12 +13,10 @@ use mir.Facts.{toZ-ofZ}
 use lib.ListN.{getD, set, replicate, length-set, length-replicate}
 use lib.Seq.{getD-set-same, getD-set-other}
 use lib.Dec.{ltb, eqb}
-use mathlib.Core.Logic.{⊎-elim}
 use Rattle.lists.specs.Lists.{either}
-use Rattle.lists.proofs.Choice.{yes, no, below-or-same}
+use Rattle.lists.proofs.Choice.{yes, no}
 use Rattle.polygon.specs.Normal.{noNormal, normalInRange, normalCode}
 use Rattle.polygon.specs.Polygon.{origin}
-use Rattle.terms.specs.Numbers.{firstDue}
 use Rattle.polygon.specs.declared.normal.Normal.{Normal}
 use Rattle.terms.proofs.Numbers.{due-here, due-on}
 use Rattle.grid.specs.declared.GridPoint.{GridPoint}
@@ -26,21 +24,23 @@ use Rattle.grid.specs.Point.{OnGrid}
 use Rattle.grid.specs.Number.{roundEighths}
 use Rattle.rim_file.specs.File.{u16At, firstRecord, recordCount, maxRecords, recordNumbers, offset, kind, thirdNumber}
 use Rattle.rim_file.specs.Record.{known, heightOf, recordAt, vertexOf, normalIn, numberOf}
-use Rattle.reader.specs.Chain.{link, metBefore, heightBefore, vertexAtPosition, normalAtPosition, overLimit, linkCode, recordCode, positionCode}
-use Rattle.reader.specs.Steps.{Walking, Stepped}
-use Rattle.reader.specs.declared.Progress.{Progress}
 use Rattle.rim_file.specs.declared.Height.{Height}
 use Rattle.rim_file.specs.declared.Height.the-variants.{Unknown, Known}
 use Rattle.rim_file.specs.declared.Vertex.the-variants.{At, Refused}
 use Rattle.rim_file.proofs.Vertices.{Vertexed, vertexed, refused-positive}
+use Rattle.reader.specs.Chain.{link, metBefore, heightBefore, vertexAtPosition, normalAtPosition, overLimit, linkCode, recordCode, positionCode}
+use Rattle.reader.specs.Steps.{Walking, Stepped}
+use Rattle.reader.specs.declared.Progress.{Progress}
 use Rattle.reader.proofs.Answers.{over-least}
 
 pub positive : (k : ℕ) → (k ≡ 0 → ⊥) → 0 < k
 positive zero h = absurd (h refl)
 positive (suc k) h = omega arith
 
-pub below-limit : {n limit : ℕ} → n ≤ limit → (n ≡ limit → ⊥) → n < limit
-below-limit {n} {limit} h d = ⊎-elim (λ l. l) (λ e. absurd (d e)) (below-or-same n limit h)
+-- 0 is due on a normal on which 18 is not
+none-due : (b : Bool) → (_≡_ {A = ℕ} (cond b 0 18) 18 → ⊥) → _≡_ {A = ℕ} (cond b 0 18) 0
+none-due true h = refl
+none-due false h = absurd (h refl)
 
 abbrev progress : List Bool → Height → GridPoint → Normal → ℕ → ℕ → Progress
 progress met height vertex normal n next = record { code = 0; met = met; height = height; vertex = vertex; normal = normal; n = n; link = next }
@@ -109,7 +109,7 @@ module _ {limit : ℕ} {s : List ℕ} {w : Progress} (v : Walking limit s w) whe
           (no 3 _ link-fine ∙ no 4 _ (sym met-here ∙ new) ∙ yes (overLimit limit) _ (le-leb limit (w .n) (omega arith)))
 
       module _ (room : w .n < limit) (at : ℕ) (place : at ≡ offset s (w .link)) where
-        record-code : positionCode limit s (w .n) ≡ firstDue (numberOf (vertexAtPosition s (w .n))) (normalCode (normalAtPosition s (w .n)))
+        record-code : positionCode limit s (w .n) ≡ recordCode s (w .n)
         unfolding positionCode linkCode
         record-code = due-on (recordCode s (w .n)) (no 3 _ link-fine ∙ no 4 _ (sym met-here ∙ new) ∙ no (overLimit limit) _ (lt-leb limit (w .n) room))
 
@@ -125,7 +125,8 @@ module _ {limit : ℕ} {s : List ℕ} {w : Progress} (v : Walking limit s w) whe
         pub record-stops : {r : Progress} (k : ℕ) → vertexOf (recordAt s at (known (w .height))) (heightOf (w .height)) ≡ Refused k → r .code ≡ k → Stepped limit s w r
         record-stops k e c =
             let some = refused-positive s at (known (w .height)) (heightOf (w .height)) k e in
-            stopped-by k some (record-code ∙ due-here (normalCode (normalAtPosition s (w .n))) (sym (ap numberOf (sym vertex-here ∙ e))) (λ z. omega arith)) c
+            let due : recordCode s (w .n) ≡ k = due-here {j = numberOf (vertexAtPosition s (w .n))} (normalCode (normalAtPosition s (w .n))) (sym (ap numberOf (sym vertex-here ∙ e))) (λ z. omega arith) in
+            stopped-by k some (record-code ∙ due) c
 
         -- past the record here: it is marked, and its height is known
         marked-next : (k : ℕ) → k < recordNumbers → getD (set (w .met) (w .link) true) k false ≡ metBefore s (suc (w .n)) k
@@ -151,24 +152,23 @@ module _ {limit : ℕ} {s : List ℕ} {w : Progress} (v : Walking limit s w) whe
           normal-here : q ≡ normalAtPosition s (w .n)
           normal-here = has-normal ∙ ap (λ (i : ℕ). normalIn s i) starts
 
-          normal-code : {b : Bool} → normalInRange q ≡ b → positionCode limit s (w .n) ≡ cond b 0 18
-          normal-code f =
-              record-code ∙ due-on (normalCode (normalAtPosition s (w .n))) (ap numberOf (sym vertex-here ∙ has-vertex))
-              ∙ ap normalCode (sym normal-here) ∙ ap (λ (b : Bool). cond b 0 18) f
+          normal-code : positionCode limit s (w .n) ≡ normalCode q
+          normal-code =
+              record-code ∙ due-on {j = numberOf (vertexAtPosition s (w .n))} (normalCode (normalAtPosition s (w .n))) (ap numberOf (sym vertex-here ∙ has-vertex)) ∙ ap normalCode (sym normal-here)
 
           -- the normal is refused
-          pub normal-stops : {r : Progress} → normalInRange q ≡ false → r .code ≡ 18 → Stepped limit s w r
-          normal-stops f c = stopped-by 18 (omega arith) (normal-code f) c
+          pub normal-stops : {r : Progress} {k : ℕ} → k ≡ normalCode q → 0 < k → r .code ≡ k → Stepped limit s w r
+          normal-stops {k = k} e h c = stopped-by k h (normal-code ∙ sym e) c
 
           -- the walk goes on
-          pub record-passes : (next : ℕ) → normalInRange q ≡ true → next ≡ u16At s at →
+          pub record-passes : (next : ℕ) → (normalCode q ≡ 18 → ⊥) → next ≡ u16At s at →
               Stepped limit s w (progress (set (w .met) (w .link) true) (Known (toZ w64 (ofZ w64 (p .z)))) p q (w .n + 1) next)
           unfolding link
           record-passes next f d =
               let x : Vertexed s at (w .height) p = vertexed s at (w .height) p (v .on-grid) has-vertex in
               let same = held (p .z) (x .on-grid .z) in
               record {
-                number = sym (normal-code f);
+                number = sym (normal-code ∙ none-due (normalInRange q) f);
                 walking = λ _. record {
                   here = d ∙ ap (λ (i : ℕ). u16At s i) starts ∙ ap (λ (i : ℕ). link s i) (sym (add-one (w .n)));
                   marks = length-set (w .met) (w .link) true ∙ v .marks;

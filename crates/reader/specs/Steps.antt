@@ -10,10 +10,10 @@ use Rattle.polygon.specs.Normal.{noNormal}
 use Rattle.polygon.specs.Polygon.{origin}
 use Rattle.rim_file.specs.File.{recordNumbers}
 use Rattle.rim_file.specs.Record.{heightOf}
+use Rattle.rim_file.specs.declared.Vertex.the-variants.{At}
 use Rattle.reader.specs.Chain.{link, metBefore, heightBefore, vertexAtPosition, normalAtPosition, positionCode, chainCode, vertexCount, verticesOf, normalsOf}
 use Rattle.reader.specs.declared.Chain.{Chain}
 use Rattle.reader.specs.declared.Progress.{Progress}
-use Rattle.rim_file.specs.declared.Vertex.the-variants.{At}
 
 -- no number is due before position n of the chain, and the walk w is there: its marks, its height and its link are those of the positions before n
 pub record Walking (limit : ℕ) (s : List ℕ) (w : Progress) : Type 0 where

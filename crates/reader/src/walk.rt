@@ -73,10 +73,10 @@ fn step(limit: usize, file: &[u8], layout: Layout, walk: Progress) -> Progress
 {
     let link = walk.link;
     let n = walk.n;
+    let next = n + 1;
     let mut met = walk.met;
     let height = walk.height;
-    let count = edition::record_count(file, layout);
-    if count < link {
+    if edition::record_count(file, layout) < link {
         return stop(walk, codes::LINK);
     }
     if met[link] {
@@ -90,8 +90,9 @@ fn step(limit: usize, file: &[u8], layout: Layout, walk: Progress) -> Progress
         Vertex::Refused(code) => stop(walk, code),
         Vertex::At(vertex) => {
             let normal = normal::normal_at(file, layout, at);
-            if !normal.in_range() {
-                return stop(walk, codes::NORMAL);
+            let code = normal::normal_code(normal);
+            if 0 < code {
+                return stop(walk, code);
             }
             met[link] = true;
             Progress {
@@ -100,7 +101,7 @@ fn step(limit: usize, file: &[u8], layout: Layout, walk: Progress) -> Progress
                 height: Height::Known(vertex.z),
                 vertex,
                 normal,
-                n: n + 1,
+                n: next,
                 link: bytes::u16_at(file, at) as usize,
             }
         }

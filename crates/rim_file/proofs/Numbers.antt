@@ -64,7 +64,8 @@ numbers-placed : (fx fy fz rx ry rz : Bool) (gx gy gz : ℤ) →
     placed (number fx rx gx) (number fy ry gy) (number fz rz gz) ≡ vertexUnless (code (both fx (both fy fz)) (both rx (both ry rz))) (point gx gy gz)
 unfolding placed number code
 numbers-placed false fy fz rx ry rz gx gy gz = refl
-numbers-placed true false fz rx ry rz gx gy gz = rw (number-finite true rx gx)
+numbers-placed true false fz false ry rz gx gy gz = refl
+numbers-placed true false fz true ry rz gx gy gz = refl
 numbers-placed true true false rx ry rz gx gy gz = rw (number-finite true rx gx, number-finite true ry gy)
 numbers-placed true true true false ry rz gx gy gz = rw (number-finite true ry gy, number-finite true rz gz)
 numbers-placed true true true true false rz gx gy gz = rw (number-finite true rz gz)

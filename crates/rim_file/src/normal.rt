@@ -1,7 +1,8 @@
-// The normal of a record.
+// The normal of a record, and the number due on it.
 ghost use mathlib.Core.Path.{_≡_};
 ghost use Prim.Native.Nat.{_+_, _≤_};
 ghost use lib.ListN.{length};
+ghost use Rattle.polygon.specs.Normal.{normalCode};
 ghost use Rattle.rim_file.specs.File.{layoutOf, recordSize};
 ghost use Rattle.rim_file.specs.Record.{normalIn};
 use crate::Layout;
@@ -22,4 +23,14 @@ pub fn normal_at(s: &[u8], layout: Layout, at: usize) -> Normal
         y: bytes::i16_at(s, at + 18),
         z: bytes::i16_at(s, at + 20),
     }
+}
+
+// The number due on a normal, 0 where none is.
+pub fn normal_code(normal: Normal) -> u32
+    ensures { λ r. ⌜ r ≡ normalCode normal ⌝ }
+{
+    if normal.in_range() {
+        return 0;
+    }
+    codes::NORMAL
 }

@@ -3,14 +3,16 @@ use borrow.Author.Needs.{needs}
 use native.Mathlib.Omega.{arith}
 use mathlib.Core.Path.{sym, _∙_}
 use denote.Ref.{now}
-use Rattle.lists.proofs.Choice.{fails-via, holds-via}
-use Rattle.reader.specs.Chain.{overLimit}
-use Rattle.reader.proofs.Answers.{over-least}
 use Rattle.rim_file.proofs.Layouts.{bounds, header-as, size-as, start-as}
 use Rattle.rim_file.proofs.Lengths.{whole, record-held}
-use Rattle.reader.proofs.Walking.{positive, below-limit, stopped-by, link-due, repeated-due, over-due, record-stops, normal-stops, record-passes}
+use Rattle.reader.specs.Chain.{overLimit}
+use Rattle.reader.proofs.Answers.{over-least}
+use Rattle.reader.proofs.Walking.{positive, stopped-by, link-due, repeated-due, over-due, record-stops, normal-stops, record-passes}
 use Rattle.reader.proofs.walk.step.Statement.{statement}
 use Rattle.reader.proofs.walk.step.Tie as tie
+
+add-next : tie.Need-add-next
+add-next c = let s = c .before in record { fits = omega (arith, s .pre .2 .within, s .pre .4) }
 
 record-count-requires : tie.Need-record-count-requires
 record-count-requires c κs = let s = c .before .before in (s .pre .0, whole _ (s .pre .1) .header)
@@ -51,7 +53,8 @@ returns-3 c =
     let past = c .before .before .before .before in
     let s = past .before .before .before .before in
     stopped-by (s .pre .2) (overLimit (s .args .limit)) (omega (arith, over-least (s .args .limit)))
-    (over-due (s .pre .2) (omega (arith, past .before .record-count .ensures .0, past .if1 .left)) (whole _ (s .pre .1) .few) (c .before .before .before .if2 .left) (c .before .before .if3 .taken))
+    (over-due (s .pre .2) (omega (arith, past .before .record-count .ensures .0, past .if1 .left)) (whole _ (s .pre .1) .few) (c .before .before .before .if2 .left)
+    (omega (arith, c .before .before .if3 .taken, s .pre .2 .within, s .pre .4)))
     (c .stop3 .ensures ∙ c .before .over-limit .ensures)
 
 record-start-requires : tie.Need-record-start-requires
@@ -83,8 +86,8 @@ normal-at-requires c κs =
     let s = past .before .before .before .before in
     (s .pre .0, omega (arith, start .record-start .ensures, record-held _ (s .pre .0) (whole _ (s .pre .1)) (s .args .walk .link) (positive _ (s .pre .3)) (omega (arith, past .before .record-count .ensures .0, past .if1 .left))))
 
-in-range-requires : tie.Need-in-range-requires
-in-range-requires c κs = search needs
+normal-code-requires : tie.Need-normal-code-requires
+normal-code-requires c κs = search needs
 
 stop-requires-5 : tie.Need-stop-requires-5
 stop-requires-5 c κs = search needs
@@ -96,8 +99,8 @@ returns-4 c =
     let past = new .before .before in
     let s = past .before .before .before .before in
     normal-stops (s .pre .2) (omega (arith, past .before .record-count .ensures .0, past .if1 .left)) (whole _ (s .pre .1) .few) (new .before .if2 .left)
-    (below-limit (s .pre .2 .within) (new .if3 .left)) _ (read .before .record-start .ensures ∙ start-as _ (s .pre .0) (s .args .walk .link)) _ (sym (read .vertex-at .ensures) ∙ c .before .before .before .before .before .vertex .given .1)
-    _ (c .before .before .before .normal-at .ensures) (fails-via (c .before .before .in-range .ensures) (c .before .if4 .taken)) (c .stop5 .ensures)
+    (omega (arith, s .pre .2 .within, new .if3 .left)) _ (read .before .record-start .ensures ∙ start-as _ (s .pre .0) (s .args .walk .link)) _ (sym (read .vertex-at .ensures) ∙ c .before .before .before .before .before .vertex .given .1)
+    _ (c .before .before .before .normal-at .ensures) (c .before .before .normal-code .ensures) (omega (arith, c .before .if4 .taken)) (c .stop5 .ensures)
 
 array-write-met : tie.Need-array-write-met
 array-write-met c =
@@ -105,9 +108,6 @@ array-write-met c =
     let s = past .before .before .before .before in
     let w = whole _ (s .pre .1) in
     omega (arith, w .few, past .before .record-count .ensures .0, past .if1 .left)
-
-add-t27 : tie.Need-add-t27
-add-t27 c = search needs
 
 u16-at-requires : tie.Need-u16-at-requires
 u16-at-requires c κs =
@@ -125,7 +125,7 @@ returns-5 c =
     let past = new .before .before in
     let s = past .before .before .before .before in
     record-stops (s .pre .2) (omega (arith, past .before .record-count .ensures .0, past .if1 .left)) (whole _ (s .pre .1) .few) (new .before .if2 .left)
-    (below-limit (s .pre .2 .within) (new .if3 .left)) _ (read .before .record-start .ensures ∙ start-as _ (s .pre .0) (s .args .walk .link)) _ (sym (read .vertex-at .ensures) ∙ c .before .before .code .given .1) (c .stop4 .ensures)
+    (omega (arith, s .pre .2 .within, new .if3 .left)) _ (read .before .record-start .ensures ∙ start-as _ (s .pre .0) (s .args .walk .link)) _ (sym (read .vertex-at .ensures) ∙ c .before .before .code .given .1) (c .stop4 .ensures)
 
 returns-6 : tie.Need-returns-6
 returns-6 c =
@@ -134,13 +134,14 @@ returns-6 c =
     let past = new .before .before in
     let s = past .before .before .before .before in
     record-passes (s .pre .2) (omega (arith, past .before .record-count .ensures .0, past .if1 .left)) (whole _ (s .pre .1) .few) (new .before .if2 .left)
-    (below-limit (s .pre .2 .within) (new .if3 .left)) _ (read .before .record-start .ensures ∙ start-as _ (s .pre .0) (s .args .walk .link)) _ (sym (read .vertex-at .ensures) ∙ c .before .before .before .before .before .before .vertex .given .1)
-    _ (c .before .before .before .before .normal-at .ensures) _ (holds-via (c .before .before .before .in-range .ensures) (c .before .before .if4 .left)) (c .u16-at .ensures .0)
+    (omega (arith, s .pre .2 .within, new .if3 .left)) _ (read .before .record-start .ensures ∙ start-as _ (s .pre .0) (s .args .walk .link)) _ (sym (read .vertex-at .ensures) ∙ c .before .before .before .before .before .before .vertex .given .1)
+    _ (c .before .before .before .before .normal-at .ensures) _ (omega (arith, c .before .before .before .normal-code .ensures, c .before .before .if4 .left)) (c .u16-at .ensures .0)
 
 pub step-spec : {M : Type 1} → statement M
 step-spec =
     tie.close
     (tie.spec
+    add-next
     record-count-requires
     stop-requires
     returns
@@ -156,11 +157,10 @@ step-spec =
     stop-requires-4
     enum-known-vertex
     normal-at-requires
-    in-range-requires
+    normal-code-requires
     stop-requires-5
     returns-4
     array-write-met
-    add-t27
     u16-at-requires
     cast-t29
     returns-5

@@ -1,10 +1,12 @@
 -- `rim_file::normal::normal_at` meets its contract. Assumes nothing.
 use borrow.Author.Needs.{needs}
 use native.Mathlib.Omega.{arith}
-use mathlib.Core.Path.{sym, _∙_}
+use mathlib.Core.Path.{_≡_, sym, _∙_}
+use Prim.Native.Nat.{_+_}
 use denote.Ref.{now}
 use mir.Facts.{toZ-ofZ}
 use Rattle.polygon.specs.Normal.{normal}
+use Rattle.rim_file.specs.File.{i16At}
 use Rattle.rim_file.proofs.Layouts.{size-edition1, size-edition2, size-2}
 use Rattle.rim_file.proofs.Normals.{normal-1, normal-2}
 use Rattle.rim_file.proofs.normal.normal_at.Statement.{statement}
@@ -49,10 +51,13 @@ returns-2 : tie.Need-returns-2
 returns-2 c =
     let start = c .before .before .before .before .before .before in
     let s = now (start .args .s) in
-    let x = toZ-ofZ (record { sfits = c .before .before .i16-at .ok }) ∙ c .before .before .i16-at .ensures in
-    let y = toZ-ofZ (record { sfits = c .before .i16-at2 .ok }) ∙ c .before .i16-at2 .ensures in
-    let z = toZ-ofZ (record { sfits = c .i16-at3 .ok }) ∙ c .i16-at3 .ensures in
-    (λ i. normal (x i) (y i) (z i)) ∙ sym (normal-2 s (start .args .at) (size-edition2 s (start .pre .0) (c .before .before .before .if1 .left)))
+    let x : c .before .before .i16-at .result ≡ i16At s (start .args .at + 16) = c .before .before .i16-at .ensures in
+    let y : c .before .i16-at2 .result ≡ i16At s (start .args .at + 18) = c .before .i16-at2 .ensures in
+    let z : c .i16-at3 .result ≡ i16At s (start .args .at + 20) = c .i16-at3 .ensures in
+    let x′ = toZ-ofZ (record { sfits = c .before .before .i16-at .ok }) ∙ x in
+    let y′ = toZ-ofZ (record { sfits = c .before .i16-at2 .ok }) ∙ y in
+    let z′ = toZ-ofZ (record { sfits = c .i16-at3 .ok }) ∙ z in
+    (λ i. normal (x′ i) (y′ i) (z′ i)) ∙ sym (normal-2 s (start .args .at) (size-edition2 s (start .pre .0) (c .before .before .before .if1 .left)))
 
 pub normal-at-spec : {M : Type 1} → statement M
 normal-at-spec =

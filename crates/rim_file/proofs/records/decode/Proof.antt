@@ -3,6 +3,7 @@ use borrow.Author.Tests.{not-true, not-false}
 use Rattle.lists.proofs.Choice.{eq-via, ne-via}
 use Rattle.rim_file.specs.Record.{recordAt}
 use borrow.Author.Needs.{needs}
+use native.Mathlib.Omega.{arith}
 use Rattle.rim_file.proofs.records.decode.Statement.{statement}
 use Rattle.rim_file.proofs.records.decode.Tie as tie
 
@@ -34,7 +35,7 @@ returns : tie.Need-returns
 unfolding recordAt
 returns c =
     simp (
-      eq-via (c .before .before .before .before .u16-at .ensures .0) (c .before .before .before .if1 .taken),
+      eq-via {n = 1} (c .before .before .before .before .u16-at .ensures .0) (omega (arith, c .before .before .before .if1 .taken)),
       c .before .before .float-at .ensures,
       c .before .float-at2 .ensures,
       c .float-at3 .ensures,
@@ -69,7 +70,7 @@ returns-3 c =
       ne-via (c .before .before .before .before .before .before .before .u16-at .ensures .0) (c .before .before .before .before .before .before .if1 .left),
       eq-via (c .before .before .before .before .before .before .before .u16-at .ensures .0) (c .before .before .before .before .before .if2 .taken),
       not-false (c .before .before .before .before .before .before .before .before .before .args .height-known) (c .before .before .before .before .if3 .left),
-      eq-via (c .before .before .before .u32-at .ensures) (c .before .before .if4 .taken),
+      eq-via {n = 0} (c .before .before .before .u32-at .ensures) (omega (arith, c .before .before .if4 .taken)),
       c .before .float-at4 .ensures,
       c .float-at5 .ensures,
     )
