@@ -9,7 +9,7 @@ use lib.IntN.{pos}
 use lib.ListN.{getD}
 use borrow.Author.Tests.{not-true}
 use Rattle.polygon.specs.declared.Polygon.{Polygon}
-use Rattle.polygon.specs.Polygon.{ValidPolygon}
+use Rattle.polygon.specs.Polygon.{ValidPolygon, vertex}
 use Rattle.geometry.specs.declared.sphere.Lifted.{Lifted}
 use Rattle.integers.specs.Order.{equal}
 use Rattle.geometry.specs.Spheres.{coplanar}
@@ -19,8 +19,8 @@ use Rattle.planar.specs.Planes.{InOnePlane}
 use Rattle.planar.proofs.Planes.{fours-plane, plane-fours, pairs-plane}
 use Rattle.lists.proofs.Choice.{true-not-false, not-true-false, not-false-true, below-or-same}
 use Rattle.faces.proofs.Fours.{four-found, four-here}
-use Rattle.delaunay.specs.Candidates.{vertex, isFlat}
-use Rattle.delaunay.specs.Search.{Lifts, unlifted}
+use Rattle.delaunay.specs.Candidates.{isFlat}
+use Rattle.delaunay_search.specs.Search.{Lifts, unlifted}
 
 module _ (p : Polygon) where
   abbrev solid : ℕ → ℕ → ℕ → ℕ → Bool

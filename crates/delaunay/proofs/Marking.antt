@@ -1,109 +1,46 @@
--- A search over fours or threes: the triples that are marked, and those that the ones to come will give, make up all of them. Assumes nothing.
-use mathlib.Core.Path.{_≡_, refl, sym, _∙_, ap}
+-- What the two searches mark is the set of candidates, and what is marked in an empty set lists them. Assumes nothing.
+use mathlib.Core.Path.{_≡_, sym, _∙_, ap}
 use mathlib.Core.Bool.{Bool, true, false}
 use mathlib.Core.List.{List}
 use Prim.Native.Nat.{ℕ, _≤_, _<_}
 use native.Mathlib.Omega.{arith}
-use lib.ListN.{length}
 use Rattle.terms.specs.Limits.{maxVertices}
 use Rattle.polygon.specs.declared.Polygon.{Polygon}
 use Rattle.lists.specs.Lists.{either}
-use Rattle.lists.proofs.Choice.{true-not-false, yes, no}
-use Rattle.lists.proofs.Bools.{either-no, either-swap}
+use Rattle.lists.proofs.Choice.{yes, no}
 use Rattle.faces.specs.Faces.{triplesOf}
-use Rattle.faces.specs.Masks.{has, emptySet}
+use Rattle.faces.specs.Masks.{has}
 use Rattle.faces.proofs.Sets.{triples-same}
-use Rattle.delaunay.specs.Candidates.{isCandidate, candidatesOf, isFlat, isCountedThree, isFaceOfFour, cocircular, cospherical, degenerate}
-use Rattle.delaunay.specs.Search.{Put, Searched, Marked}
-
--- T is the type of tests, of fours or of threes: `gives x y z` asks whether one gives the triple, `due` whether it makes 12 due;
--- `left` says of a test whether it holds of one that is left. From one place of the search to a later one:
-pub record Kept {T : Type 0} (gives : ℕ → ℕ → ℕ → T) (due : T) (marks₀ marks : List ℕ) (left₀ left : T → Bool) : Type 0 where
-  pub faces : (x y z : ℕ) → x < maxVertices → y < maxVertices → z < maxVertices → either (has marks x y z) (left (gives x y z)) ≡ either (has marks₀ x y z) (left₀ (gives x y z))
-  pub twelve : left due ≡ left₀ due
-  pub long : length marks ≡ length marks₀
-
--- 12 is due
-pub put-due : {test : ℕ → ℕ → ℕ → Bool} {twelve : Bool} {marks₀ marks : List ℕ} → twelve ≡ true → Put test twelve marks₀ true marks
-put-due e = record { found = sym e; put = λ h. absurd (true-not-false refl h) }
-
-module _ {T : Type 0} {gives : ℕ → ℕ → ℕ → T} {due : T} where
-  pub kept-start : {marks : List ℕ} {left : T → Bool} → Kept gives due marks marks left left
-  kept-start = record { faces = λ x y z h k l. refl; twelve = refl; long = refl }
-
-  pub kept-then : {marks₀ marks marks′ : List ℕ} {left₀ left left′ : T → Bool} → Kept gives due marks₀ marks left₀ left → Kept gives due marks marks′ left left′ → Kept gives due marks₀ marks′ left₀ left′
-  kept-then k l = record {
-    faces = λ x y z h i j. l .faces x y z h i j ∙ k .faces x y z h i j;
-    twelve = l .twelve ∙ k .twelve;
-    long = l .long ∙ k .long;
-  }
-
-  -- what is left is the same, for the tests that matter
-  pub kept-leave : {marks₀ marks : List ℕ} {left₀ left left′ : T → Bool} → ((x y z : ℕ) → left (gives x y z) ≡ left′ (gives x y z)) → left due ≡ left′ due → Kept gives due marks₀ marks left₀ left → Kept gives due marks₀ marks left₀ left′
-  kept-leave {marks = m} e f k = record {
-    faces = λ x y z h i j. ap (λ (t : Bool). either (has m x y z) t) (sym (e x y z)) ∙ k .faces x y z h i j;
-    twelve = sym f ∙ k .twelve;
-    long = k .long;
-  }
-
-  pub kept-turn : {marks₀ marks : List ℕ} {left₀ left left′ : T → Bool} → ((P : T) → left P ≡ left′ P) → Kept gives due marks₀ marks left₀ left → Kept gives due marks₀ marks left₀ left′
-  kept-turn e k = kept-leave (λ x y z. e (gives x y z)) (e due) k
-
-  -- on to the next four or three: `at` says of a test whether it holds of this one
-  module _ {marks₀ marks : List ℕ} {left₀ left : T → Bool} (left′ : T → Bool) (at : T → Bool) (next : (P : T) → left P ≡ either (at P) (left′ P)) (k : Kept gives due marks₀ marks left₀ left) where
-    pub kept-skip : ((x y z : ℕ) → at (gives x y z) ≡ false) → at due ≡ false → Kept gives due marks₀ marks left₀ left′
-    kept-skip e f =
-        kept-leave (λ x y z. next (gives x y z) ∙ ap (λ (t : Bool). either t (left′ (gives x y z))) (e x y z)) (next due ∙ ap (λ (t : Bool). either t (left′ due)) f) k
-
-    pub kept-mark : (marks′ : List ℕ) → length marks′ ≡ length marks →
-        ((x y z : ℕ) → x < maxVertices → y < maxVertices → z < maxVertices → has marks′ x y z ≡ either (at (gives x y z)) (has marks x y z)) → at due ≡ false →
-        Kept gives due marks₀ marks′ left₀ left′
-    kept-mark marks′ long e f = record {
-      faces = λ x y z h i j.
-          ap (λ (t : Bool). either t (left′ (gives x y z))) (e x y z h i j)
-          ∙ either-swap (at (gives x y z)) (has marks x y z) (left′ (gives x y z))
-          ∙ ap (λ (t : Bool). either (has marks x y z) t) (sym (next (gives x y z)))
-          ∙ k .faces x y z h i j;
-      twelve = sym (next due ∙ ap (λ (t : Bool). either t (left′ due)) f) ∙ k .twelve;
-      long = long ∙ k .long;
-    }
-
-    pub kept-due : at due ≡ true → left₀ due ≡ true
-    kept-due e = sym (k .twelve) ∙ next due ∙ ap (λ (t : Bool). either t (left′ due)) e
-
-  -- all fours or threes are done
-  pub put-all : {marks₀ marks : List ℕ} {left₀ left : T → Bool} → ((P : T) → left P ≡ false) → Kept gives due marks₀ marks left₀ left → Put (λ x y z. left₀ (gives x y z)) (left₀ due) marks₀ false marks
-  put-all {marks = marks} none k = record {
-    found = sym (none due) ∙ k .twelve;
-    put = λ e x y z hx hy hz. sym (ap (λ (t : Bool). either (has marks x y z) t) (none (gives x y z)) ∙ either-no (has marks x y z)) ∙ k .faces x y z hx hy hz;
-  }
+use Rattle.delaunay_search.specs.Search.{Marked}
+use Rattle.delaunay_tetrahedra.specs.Tetrahedra.{isFaceOfFour, cospherical}
+use Rattle.delaunay_triangles.specs.Triangles.{isCountedThree, cocircular}
+use Rattle.delaunay.specs.Candidates.{isFlat, isCandidate, candidatesOf, degenerate}
 
 module _ (p : Polygon) {marks₀ marks : List ℕ} {due : Bool} where
-  -- of a flat polygon the threes that count were put into the set, of another the faces of the fours
-  pub searched-flat : isFlat p ≡ true → Put (isCountedThree p) (cocircular p) marks₀ due marks → Searched p marks₀ due marks
+  -- of a flat polygon the threes that count, of another the faces of the fours
+  pub marked-flat : isFlat p ≡ true → Marked (isCountedThree p) (cocircular p) marks₀ due marks → Marked (isCandidate p) (degenerate p) marks₀ due marks
   unfolding isCandidate degenerate
-  searched-flat e s = record {
-    found = s .found ∙ sym (yes (cocircular p) (cospherical p) e);
-    put = λ h x y z hx hy hz. s .put h x y z hx hy hz ∙ ap (λ (t : Bool). either (has marks₀ x y z) t) (sym (yes (isCountedThree p x y z) (isFaceOfFour p x y z) e));
+  marked-flat e s = record {
+    searched = record {
+      found = s .searched .found ∙ sym (yes (cocircular p) (cospherical p) e);
+      put = λ h x y z hx hy hz. s .searched .put h x y z hx hy hz ∙ ap (λ (t : Bool). either (has marks₀ x y z) t) (sym (yes (isCountedThree p x y z) (isFaceOfFour p x y z) e));
+    };
+    empty = s .empty;
   }
 
-  pub searched-solid : isFlat p ≡ false → Put (isFaceOfFour p) (cospherical p) marks₀ due marks → Searched p marks₀ due marks
+  pub marked-solid : isFlat p ≡ false → Marked (isFaceOfFour p) (cospherical p) marks₀ due marks → Marked (isCandidate p) (degenerate p) marks₀ due marks
   unfolding isCandidate degenerate
-  searched-solid e s = record {
-    found = s .found ∙ sym (no (cocircular p) (cospherical p) e);
-    put = λ h x y z hx hy hz. s .put h x y z hx hy hz ∙ ap (λ (t : Bool). either (has marks₀ x y z) t) (sym (no (isCountedThree p x y z) (isFaceOfFour p x y z) e));
+  marked-solid e s = record {
+    searched = record {
+      found = s .searched .found ∙ sym (no (cocircular p) (cospherical p) e);
+      put = λ h x y z hx hy hz. s .searched .put h x y z hx hy hz ∙ ap (λ (t : Bool). either (has marks₀ x y z) t) (sym (no (isCountedThree p x y z) (isFaceOfFour p x y z) e));
+    };
+    empty = s .empty;
   }
 
-module _ {p : Polygon} where
-  -- after the search: the set is emptied where 12 is due
-  pub marked-none : {marks₀ marks marks′ : List ℕ} {due : Bool} → Searched p marks₀ due marks → due ≡ true → marks′ ≡ emptySet → Marked p marks₀ true marks′
-  marked-none s e f = record { searched = put-due (sym (s .found) ∙ e); empty = λ h. f }
-
-  pub marked-all : {marks₀ marks : List ℕ} {due : Bool} → Searched p marks₀ due marks → due ≡ false → Marked p marks₀ false marks
-  marked-all s e = record { searched = record { found = sym e ∙ s .found; put = λ h. s .put e }; empty = λ h. absurd (true-not-false h refl) }
-
+module _ (p : Polygon) where
   -- what was marked in an empty set lists the candidates
-  pub listed-are : {marks₀ marks : List ℕ} {due : Bool} → p .n ≤ maxVertices → ((x y z : ℕ) → x < maxVertices → y < maxVertices → z < maxVertices → has marks₀ x y z ≡ false) → due ≡ false → Marked p marks₀ due marks → triplesOf (p .n) (has marks) ≡ candidatesOf p
+  pub listed-are : {marks₀ marks : List ℕ} {due : Bool} → p .n ≤ maxVertices → ((x y z : ℕ) → x < maxVertices → y < maxVertices → z < maxVertices → has marks₀ x y z ≡ false) → due ≡ false → Marked (isCandidate p) (degenerate p) marks₀ due marks → triplesOf (p .n) (has marks) ≡ candidatesOf p
   listed-are {marks₀} {marks} h none e m =
       triples-same (p .n) (has marks) (isCandidate p)
       (λ x y z hx hy hz. m .searched .put e x y z (omega arith) (omega arith) (omega arith) ∙ ap (λ (t : Bool). either t (isCandidate p x y z)) (none x y z (omega arith) (omega arith) (omega arith)))

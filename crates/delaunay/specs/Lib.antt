@@ -1,2 +1,1 @@
 pub mod Candidates
-pub mod Search

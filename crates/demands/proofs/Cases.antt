@@ -17,7 +17,8 @@ use Rattle.lists.specs.Lists.{upFrom, everyFrom, someFrom}
 use Rattle.terms.specs.Limits.{maxVertices}
 use Rattle.terms.specs.Entries.{triple}
 use Rattle.faces.specs.Faces.{isFace}
-use Rattle.delaunay.specs.Candidates.{counts, isFaceOfFour, isFlat, isCandidate, cospherical, degenerate}
+use Rattle.delaunay_tetrahedra.specs.Tetrahedra.{counts, isFaceOfFour, cospherical}
+use Rattle.delaunay.specs.Candidates.{isFlat, isCandidate, degenerate}
 use Rattle.weights.specs.Weights.{edgeNormal, outsideWeightOf}
 use Rattle.finder.specs.declared.Found.the-variants.{Lists, Refused}
 use Rattle.finder.specs.Finding.{Finding, candidateCountOf, rowCountOf, finding, numberDue, findCall}

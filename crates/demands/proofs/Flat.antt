@@ -14,7 +14,7 @@ use Rattle.lists.proofs.Choice.{true-not-false}
 use Rattle.lists.proofs.Members.{no-members}
 use Rattle.terms.specs.Entries.{triple}
 use Rattle.polygon.specs.declared.Polygon.{Polygon}
-use Rattle.polygon.specs.Polygon.{ValidPolygon}
+use Rattle.polygon.specs.Polygon.{ValidPolygon, vertex}
 use Rattle.planar.specs.Planes.{OnOneLine}
 use Rattle.planar.specs.Circles.{collinear, distanceInPlane, strictlyInsideCircle}
 use Rattle.planar.proofs.Circles.{distance-q, distance-r}
@@ -22,7 +22,7 @@ use Rattle.planar.proofs.Lines.{line-threes}
 use Rattle.planar.proofs.Planes.{fours-plane, plane-fours, line-plane}
 use Rattle.faces.specs.Faces.{triplesOf}
 use Rattle.faces.proofs.Members.{triples-member}
-use Rattle.delaunay.specs.Candidates.{vertex, isCandidate, candidatesOf}
+use Rattle.delaunay.specs.Candidates.{isCandidate, candidatesOf}
 use Rattle.dihedrals.specs.Dihedrals.{rowsOf}
 use Rattle.weights.specs.Weights.{ownWeight, weightsOf}
 use Rattle.rim_file.specs.File.{Bytes}

@@ -28,7 +28,9 @@ use Rattle.geometry.specs.Faces.{lengthOf, ratioOf, bendOf}
 use Rattle.geometry.specs.Spheres.{orientOf, centreOf, distanceOf}
 use Rattle.planar.specs.Circles.{circumcentreOf, distanceInPlane}
 use Rattle.faces.specs.Faces.{isFace}
-use Rattle.delaunay.specs.Candidates.{counts, isFaceOfFour, countsInPlane, isCountedThree, isFlat, isCandidate, candidatesOf, cospherical, cocircular, degenerate}
+use Rattle.delaunay_tetrahedra.specs.Tetrahedra.{counts, isFaceOfFour, cospherical}
+use Rattle.delaunay_triangles.specs.Triangles.{countsInPlane, isCountedThree, cocircular}
+use Rattle.delaunay.specs.Candidates.{isFlat, isCandidate, candidatesOf, degenerate}
 use Rattle.dihedrals.specs.Dihedrals.{rowsOf}
 use Rattle.weights.specs.Weights.{edgeNormal, outsideWeightOf, weightsOf}
 use Rattle.jobs.specs.Job.{ascends, before, candidateFits, hangs, namesPair, rowBefore, rowFits, listsCode, jobCode}

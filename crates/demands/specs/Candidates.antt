@@ -6,7 +6,7 @@ use Rattle.polygon.specs.declared.Polygon.{Polygon}
 use Rattle.geometry.specs.Spheres.{coplanar, strictlyInside, onSphere}
 use Rattle.planar.specs.Planes.{InOnePlane}
 use Rattle.planar.specs.Circles.{collinear, strictlyInsideCircle, onCircle}
-use Rattle.delaunay.specs.Candidates.{vertex}
+use Rattle.polygon.specs.Polygon.{vertex}
 
 -- the four vertices a < b < c < d count (rule 2.3): they are not in one plane, and no vertex is strictly inside their sphere
 pub record Counts (p : Polygon) (a b c d : ℕ) : Type 0 where

@@ -8,7 +8,7 @@ use native.Mathlib.Omega.{arith}
 use lib.ListN.{length}
 use borrow.Author.Tests.{not-true}
 use Rattle.polygon.specs.declared.Polygon.{Polygon}
-use Rattle.polygon.specs.Polygon.{ValidPolygon}
+use Rattle.polygon.specs.Polygon.{ValidPolygon, vertex}
 use Rattle.geometry.specs.Faces.{normalOf, lengthOf}
 use Rattle.geometry.specs.Spheres.{coplanar}
 use Rattle.geometry.proofs.Faces.{normal-within, length-above-0, face-length-pqr, face-length-pqs, face-length-prs, face-length-qrs}
@@ -27,7 +27,9 @@ use Rattle.faces.proofs.Members.{Triple, triples-member}
 use Rattle.hinges.specs.Hinges.{Sorted}
 use Rattle.dihedrals.specs.Dihedrals.{faceNormal}
 use Rattle.dihedrals.specs.Lists.{ProperCandidates}
-use Rattle.delaunay.specs.Candidates.{vertex, insideFour, counts, isFaceOfFour, insideThree, countsInPlane, isCountedThree, isFlat, isCandidate, candidatesOf}
+use Rattle.delaunay_tetrahedra.specs.Tetrahedra.{insideFour, counts, isFaceOfFour}
+use Rattle.delaunay_triangles.specs.Triangles.{insideThree, countsInPlane, isCountedThree}
+use Rattle.delaunay.specs.Candidates.{isFlat, isCandidate, candidatesOf}
 
 -- ---- a list of triples ascends
 module _ (n : ℕ) (P : ℕ → ℕ → ℕ → Bool) where

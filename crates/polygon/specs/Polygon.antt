@@ -19,9 +19,12 @@ use Rattle.polygon.specs.Normal.{noNormal, normalAt, normalCode, NormalI
 abbrev pub origin : GridPoint
 origin = point (pos 0) (pos 0) (pos 0)
 
--- vertex i (rule 1.8); past the last it belongs to no vertex
+-- vertex i, of a list and of a polygon (rule 1.8); past the last it belongs to no vertex
 abbrev pub vertexAt : List GridPoint → ℕ → GridPoint
 vertexAt vertices i = getD vertices i origin
+
+abbrev pub vertex : Polygon → ℕ → GridPoint
+vertex p i = vertexAt (p .vertices) i
 
 -- what stands for a polygon in a refusal: no vertex, the origin and no normal at each place (rule 4.30)
 abbrev pub emptyPolygon : Polygon

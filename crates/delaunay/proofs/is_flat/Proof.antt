@@ -16,9 +16,9 @@ use Rattle.geometry.specs.declared.sphere.Sphere.{Sphere}
 use Rattle.geometry.specs.Bounds.{LiftedBounds, PencilBounds, SphereBounds}
 use Rattle.geometry.specs.Lifting.{sphereOf}
 use Rattle.geometry.proofs.Spheres.{pencil-bounds, sphere-bounds}
-use Rattle.delaunay.specs.Search.{unlifted}
+use Rattle.delaunay_search.specs.Search.{unlifted}
 use Rattle.delaunay.proofs.Flat.{coplanarPair, CoplanarTo, CoplanarWith, coplanar-with-on, coplanar-on, found-solid, all-coplanar}
-use Rattle.delaunay.proofs.Corners.{lift-in}
+use Rattle.delaunay_search.proofs.Lifting.{lift-in}
 use Rattle.delaunay.proofs.is_flat.Statement.{statement}
 use Rattle.delaunay.proofs.is_flat.Tie as tie
 
