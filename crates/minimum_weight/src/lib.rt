@@ -8,7 +8,7 @@ ghost use Prim.Native.Nat.{_≤_};
 ghost use lib.ListN.{length, replicate};
 ghost use Rattle.lists.specs.Lists.{filled};
 ghost use Rattle.triangulation.specs.Triangulations.{bestKey};
-ghost use Rattle.triangulation.specs.Jobs.{jobOf};
+ghost use Rattle.triangulation.specs.Problems.{problemFrom};
 ghost use Rattle.triangulation.specs.Recursion.{costOf};
 ghost use Rattle.blocks.specs.Blocks.{Starts};
 ghost use Rattle.minimum_weight.specs.Tables.{WellFormed, Filled};
@@ -26,8 +26,8 @@ pub fn least_total(
     work: &mut [u64],
 ) -> u64
     requires { ⌜ WellFormed n (now candidates) (now weights) (now rows) × Starts (now candidates) (now starts) × (length (now candidates) ≤ length (now work)) ⌝ }
-    ensures total { λ r. ⌜ r ≡ costOf (bestKey (jobOf n (now (candidates .entry)) (now (weights .entry)) (now (rows .entry)))) ⌝ }
-    ensures work { λ _. ⌜ Filled (jobOf n (now (candidates .entry)) (now (weights .entry)) (now (rows .entry))) (now (work .entry)) 0 (now (work .exit)) ⌝ }
+    ensures total { λ r. ⌜ r ≡ costOf (bestKey (problemFrom n (now (candidates .entry)) (now (weights .entry)) (now (rows .entry)))) ⌝ }
+    ensures work { λ _. ⌜ Filled (problemFrom n (now (candidates .entry)) (now (weights .entry)) (now (rows .entry))) (now (work .entry)) 0 (now (work .exit)) ⌝ }
 {
     costs::fill(n, starts, candidates, weights, rows, work);
     let last = (n - 1) as u8;
