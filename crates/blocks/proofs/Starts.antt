@@ -1,17 +1,16 @@
 -- Where block starts stand. Assumes nothing.
-use mathlib.Core.Path.{_≡_, refl, subst}
+use mathlib.Core.Path.{_≡_, refl, sym, ap, _∙_, subst}
 use mathlib.Core.List.{List}
-use mathlib.Core.Logic.{⊎-elim}
 use Prim.Native.Nat.{ℕ, zero, suc, _+_, _-_, _≤_, _<_}
-use native.Mathlib.Nat.{eq-or-lt-of-le}
 use native.Mathlib.Omega.{arith}
-use borrow.Author.Tests.{ltb-true, ltb-false}
-use lib.Dec.{ltb}
+use borrow.Author.Tests.{ltb-true, ltb-false, lt-ltb, le-ltb}
 use lib.ListN.{length, getD}
-use Rattle.lists.proofs.Choice.{Truth, holds, fails, truth}
+use lib.Seq.{ext-getD}
+use Rattle.lists.proofs.Fronts.{front-count, front-of}
+use Rattle.lists.proofs.Ranges.{over-length, over-at}
 use Rattle.terms.specs.Limits.{maxVertices}
 use Rattle.terms.specs.Entries.{entryAt, vertexA}
-use Rattle.blocks.specs.Blocks.{ByFirst, BlockStart, Starts}
+use Rattle.blocks.specs.Blocks.{startCount, ByFirst, BlockStart, startOf, startsOf, Starts}
 
 module _ (cs : List (List ℕ)) where
   pub start-order : {j k x y : ℕ} → BlockStart cs j x → BlockStart cs k y → j ≤ k → x ≤ y
@@ -32,20 +31,20 @@ module _ (cs : List (List ℕ)) where
   pub starts-up : (starts : List ℕ) (k : ℕ) → Starts cs starts → k < maxVertices → getD starts k 0 ≤ getD starts (k + 1) 0
   starts-up starts k s h = start-order (s .at k (omega arith)) (s .at (k + 1) (omega arith)) (omega arith)
 
--- there is a block's start
-pub record Start (cs : List (List ℕ)) (k : ℕ) : Type 0 where
-  pub at : ℕ
-  pub is : BlockStart cs k at
+-- a block starts after as many candidates as have a first vertex below its own
+module _ (cs : List (List ℕ)) where
+  pub start-count : {k r : ℕ} → BlockStart cs k r → r ≡ startOf cs k
+  start-count {k} b = front-count (record { within = b .within; before = λ i h. lt-ltb (vertexA (entryAt cs i)) k (b .below i h); after = λ i l h. le-ltb (vertexA (entryAt cs i)) k (b .above i l h) })
 
-module _ (cs : List (List ℕ)) (s : ByFirst cs) (k : ℕ) where
-  start-from : (d low : ℕ) → length cs - low ≡ d → low ≤ length cs → ((i : ℕ) → i < low → vertexA (entryAt cs i) < k) → Start cs k
-  start-from zero low e h f = record { at = low; is = record { within = h; below = f; above = λ i m n. absurd (omega arith) } }
-  start-from (suc d) low e h f = go (λ g. start-from d (low + 1) (omega arith) (omega arith) g) (truth (ltb (vertexA (entryAt cs low)) k))
-    where
-      go : (((i : ℕ) → i < low + 1 → vertexA (entryAt cs i) < k) → Start cs k) → Truth (ltb (vertexA (entryAt cs low)) k) → Start cs k
-      go next (holds t) = next (λ i m. ⊎-elim (λ q. rw q (ltb-true (vertexA (entryAt cs low)) k t)) (λ l. f i l) (eq-or-lt-of-le (let z : i ≤ low = omega arith in z)))
-      go next (fails t) = let l = ltb-false (vertexA (entryAt cs low)) k t in
-          record { at = low; is = record { within = h; below = f; above = λ i m n. ⊎-elim (λ q. rw (← q) l) (λ q. omega (arith, l, s .up low i q n)) (eq-or-lt-of-le m) } }
+  pub starts-are : (starts : List ℕ) → length starts ≡ startCount → Starts cs starts → starts ≡ startsOf cs
+  starts-are starts e s = ext-getD 0 starts (startsOf cs) (e ∙ sym (over-length 0 startCount (startOf cs)))
+      (λ k h. start-count (s .at k (omega arith)) ∙ sym (over-at 0 startCount (startOf cs) 0 k (omega arith) ∙ ap (startOf cs) (omega arith)))
 
-  pub start-of : Start cs k
-  start-of = start-from (length cs - 0) 0 refl (omega arith) (λ i h. absurd (omega arith))
+  module _ (up : ByFirst cs) where
+    pub start-of : (k : ℕ) → BlockStart cs k (startOf cs k)
+    start-of k =
+        let f = front-of (length cs) (λ i j h l t. lt-ltb (vertexA (entryAt cs i)) k (let m = ltb-true (vertexA (entryAt cs j)) k t in omega (arith, up .up i j h l))) in
+        record { within = f .within; below = λ i h. ltb-true (vertexA (entryAt cs i)) k (f .before i h); above = λ i l h. ltb-false (vertexA (entryAt cs i)) k (f .after i l h) }
+
+    pub starts-of : {starts : List ℕ} → starts ≡ startsOf cs → Starts cs starts
+    starts-of e = record { at = λ k h. subst (BlockStart cs k) (sym (ap (λ t. getD t k 0) e ∙ over-at 0 startCount (startOf cs) 0 k (omega arith) ∙ ap (startOf cs) (omega arith))) (start-of k) }

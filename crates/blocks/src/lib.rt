@@ -4,7 +4,7 @@ ghost use lib.ListN.{length};
 ghost use lib.Dec.{ltb};
 ghost use Rattle.lists.specs.Lists.{both};
 ghost use Rattle.terms.specs.Entries.{entryAt, vertexA};
-ghost use Rattle.blocks.specs.Blocks.{ByFirst, Starts};
+ghost use Rattle.blocks.specs.Blocks.{ByFirst, startsOf};
 
 // A start for each vertex, and the end of the last block.
 pub const STARTS: usize = terms::MAX_VERTICES + 1;
@@ -28,7 +28,7 @@ fn starts_below(candidates: &[[u8; 3]], i: usize, k: usize) -> bool
 // Place k has the number of candidates whose first vertex is below k: the block of k starts there, and ends where the next one starts.
 pub fn block_starts(candidates: &[[u8; 3]]) -> [usize; STARTS]
     requires { ⌜ ByFirst (now candidates) ⌝ }
-    ensures { λ r. ⌜ Starts (now (candidates .entry)) r ⌝ }
+    ensures { λ r. ⌜ r ≡ startsOf (now (candidates .entry)) ⌝ }
 {
     let mut starts = [0usize; STARTS];
     let mut k = 0;

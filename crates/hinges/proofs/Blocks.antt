@@ -94,5 +94,5 @@ two-edges cs s o h =
     let ha = start-of cs (s .by-first) (vertexA (entryAt cs o) + 1) in
     let lb = start-of cs (s .by-first) (vertexB (entryAt cs o)) in
     let hb = start-of cs (s .by-first) (vertexB (entryAt cs o) + 1) in
-    two-blocks cs o (la .at) (ha .at) (lb .at) (hb .at) (s .a<b o h) (la .is) (ha .is) (lb .is) (hb .is)
-    ∙ sym (λ i. edge-block cs o 0 (la .at) (ha .at) (la .is) (ha .is) i ++ edge-block cs o 1 (lb .at) (hb .at) (lb .is) (hb .is) i)
+    two-blocks cs o _ _ _ _ (s .a<b o h) la ha lb hb
+    ∙ sym (λ i. edge-block cs o 0 _ _ la ha i ++ edge-block cs o 1 _ _ lb hb i)

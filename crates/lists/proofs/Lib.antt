@@ -2,6 +2,7 @@ pub mod Choice
 pub mod Bools
 pub mod Ranges
 pub mod Parts
+pub mod Fronts
 pub mod Pieces
 pub mod Members
 pub mod Maps

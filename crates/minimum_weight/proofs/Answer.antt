@@ -1,17 +1,16 @@
--- The answer is what the recursion has beneath the edge (0, n − 1), under a number that no row names; and the work table is cleared.
-use Prim.Native.Nat.{ℕ, _+_, _-_, _≤_, _<_}
-use mathlib.Core.Path.{_≡_, sym, ap, _∙_}
+-- The answer is what the recursion has beneath the edge (0, n − 1), under a number that no row names.
+use Prim.Native.Nat.{ℕ, _-_, _≤_, _<_}
+use mathlib.Core.Path.{_≡_, ap, _∙_}
 use mathlib.Core.Logic.{_⊎_, inl, inr, ⊎-elim}
-use mathlib.Core.List.{List, [], _++_}
+use mathlib.Core.List.{List, []}
 use native.Mathlib.Omega.{arith}
-use lib.ListN.{length, drop, replicate, length-replicate}
-use Rattle.lists.specs.Lists.{filled}
+use lib.ListN.{length}
 use Rattle.triangulation.specs.Triangulations.{Problem, bestKey}
 use Rattle.triangulation.specs.Problems.{problemFrom}
 use Rattle.triangulation.specs.Recursion.{bestUnder, costOf, noTotal, maxTotal}
 use Rattle.triangulation.proofs.Recursion.{best-edge}
 use Rattle.triangulation.proofs.Bounds.{edge-light}
-use Rattle.minimum_weight.specs.Tables.{WellFormed, Filled}
+use Rattle.minimum_weight.specs.Tables.{WellFormed}
 
 module _ (n : ℕ) (candidates : List (List ℕ)) (weights : List ℕ) (rows : List (List ℕ)) (ok : WellFormed n candidates weights rows) where
   abbrev jobHere : Problem
@@ -27,8 +26,3 @@ module _ (n : ℕ) (candidates : List (List ℕ)) (weights : List ℕ) (rows : L
 
   pub no-key : noTotal ≤ costOf (bestKey jobHere) → bestKey jobHere ≡ []
   no-key h = ⊎-elim (λ e. e) (λ (q : costOf (bestKey jobHere) < noTotal). absurd (omega arith)) answer-light
-
-pub cleared : (job : Problem) {before work new : List ℕ} → Filled job before 0 work → new ≡ filled (replicate (job .size) 0) work → new ≡ filled (replicate (job .size) 0) before
-cleared job {before} {work} f e =
-    let z : length {A = ℕ} (replicate (job .size) 0) ≡ job .size = length-replicate (job .size) 0 in
-    e ∙ ap (λ (k : ℕ). replicate (job .size) 0 ++ drop k work) z ∙ ap (λ (t : List ℕ). replicate (job .size) 0 ++ t) (f .kept) ∙ ap (λ (k : ℕ). replicate (job .size) 0 ++ drop k before) (sym z)

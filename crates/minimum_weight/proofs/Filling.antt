@@ -1,22 +1,25 @@
 -- Filling the work table, block by block.
 use Prim.Native.Nat.{ℕ, _+_, _-_, _≤_, _<_}
-use mathlib.Core.Path.{_≡_, refl, sym, ap, _∙_}
+use mathlib.Core.Path.{_≡_, refl, sym, ap, ap₂, _∙_}
 use mathlib.Core.Bool.{Bool, true, false}
 use mathlib.Core.Logic.{_⊎_, inl, inr, ⊎-elim, _≢_}
-use mathlib.Core.List.{List}
+use mathlib.Core.List.{List, _++_}
 use native.Mathlib.Omega.{arith}
 use native.Mathlib.Nat.{eq-or-lt-of-le}
-use lib.ListN.{length, getD, set, drop, length-set}
-use lib.Seq.{getD-set-same, getD-set-other, drop-set-lt}
+use lib.ListN.{length, getD, set, take, drop, replicate, length-set, length-replicate, take-append-drop}
+use lib.Seq.{getD-set-same, getD-set-other, drop-set-lt, ext-getD, getD-take, length-take-le}
 use lib.Dec.{leb}
 use borrow.Author.Tests.{leb-true, leb-false}
+use Rattle.lists.specs.Lists.{filled}
+use Rattle.lists.proofs.Ranges.{over-length, over-at}
+use Rattle.lists.proofs.Writing.{filled-length, filled-at, filled-over}
 use Rattle.triangulation.specs.Triangulations.{Problem}
 use Rattle.triangulation.specs.Problems.{problemFrom}
 use Rattle.triangulation.specs.Recursion.{bestFrom, costOf}
 use Rattle.blocks.specs.Blocks.{Starts}
 use Rattle.terms.specs.Limits.{maxVertices}
 use Rattle.terms.specs.Entries.{entryAt, vertexA, vertexB, vertexC}
-use Rattle.minimum_weight.specs.Tables.{WellFormed, Ready, ReadyAt, Filled}
+use Rattle.minimum_weight.specs.Tables.{WellFormed, Ready, AllReady, ReadyAt, Filled, partTotals}
 
 -- one of two orders
 order : (x y : ℕ) → (x ≤ y) ⊎ (y < x)
@@ -95,6 +98,40 @@ module _ (n : ℕ) (candidates : List (List ℕ)) (weights : List ℕ) (rows : L
 
   pub fill-end : {before work : List ℕ} {v : ℕ} → v ≤ 0 → Filled jobHere before (getD starts v 0) work → Filled jobHere before 0 work
   fill-end {v = v} h f = record { long = f .long; kept = f .kept; ready = λ u l k. f .ready u l (⊎-elim (λ m. m) (λ (m : u < getD starts v 0). absurd (omega (arith, blocks .at v (omega arith) .below u m))) (order (getD starts v 0) u)) }
+
+module _ (job : Problem) where
+  abbrev totalOf : ℕ → ℕ
+  totalOf u = costOf (bestFrom job (job .n) u)
+
+  totals-long : length (partTotals job) ≡ job .size
+  totals-long = omega (arith, over-length 0 (job .size) totalOf)
+
+  total-at : (u : ℕ) → u < job .size → getD (partTotals job) u 0 ≡ totalOf u
+  total-at u h = over-at 0 (job .size) totalOf 0 u (omega arith) ∙ ap totalOf (omega arith)
+
+module _ (job : Problem) (before : List ℕ) {work : List ℕ} (room : job .size ≤ length before) where
+  -- all places are filled: the table holds the total of each candidate, and all else as it was
+  pub filled-is : Filled job before 0 work → work ≡ filled (partTotals job) before
+  filled-is f =
+      let first : take (job .size) work ≡ partTotals job = ext-getD 0 (take (job .size) work) (partTotals job) (long ∙ sym (totals-long job))
+      (λ u h. getD-take (job .size) work u 0 (omega (arith, long)) ∙ f .ready u (omega (arith, long)) (omega arith) ∙ sym (total-at job u (omega (arith, long)))) in
+      sym (take-append-drop (job .size) work) ∙ ap₂ _++_ first (f .kept ∙ ap (λ k. drop k before) (sym (totals-long job)))
+    where
+      long : length (take (job .size) work) ≡ job .size
+      long = length-take-le (job .size) work (omega (arith, f .long))
+
+  pub filled-long : work ≡ filled (partTotals job) before → length work ≡ length before
+  filled-long e = ap length e ∙ filled-length (partTotals job) before (omega (arith, totals-long job))
+
+  pub filled-ready : work ≡ filled (partTotals job) before → AllReady job work
+  filled-ready e u h =
+      ap (λ t. getD t u 0) e ∙ filled-at (partTotals job) before u 0 (omega (arith, totals-long job)) ∙ total-at job u h
+
+-- and is cleared: zeros there, and all else as it was
+pub cleared : (job : Problem) (before : List ℕ) {work new : List ℕ} → work ≡ filled (partTotals job) before → new ≡ filled (replicate (job .size) 0) work → new ≡ filled (replicate (job .size) 0) before
+cleared job before f e =
+    e ∙ ap (filled (replicate (job .size) 0)) f
+    ∙ filled-over (replicate (job .size) 0) (partTotals job) before (length-replicate (job .size) 0 ∙ sym (totals-long job))
 
 module _ (job : Problem) where
   -- one block after another

@@ -3,10 +3,11 @@ use Prim.Native.Nat.{ℕ, zero, suc, _+_, _-_, _≤_, _<_}
 use mathlib.Core.Path.{_≡_}
 use mathlib.Core.Logic.{_≢_, _⊎_}
 use mathlib.Core.Bool.{Bool, cond, _&&_}
-use mathlib.Core.List.{List}
+use mathlib.Core.List.{List, [], _∷_}
 use lib.ListN.{getD, length, drop}
 use lib.Dec.{eqb, ltb, leb}
 use Rattle.minimum_weight.specs.declared.choice.Pick.{Pick}
+use Rattle.lists.specs.Lists.{over}
 use Rattle.terms.specs.Limits.{maxTriples}
 use Rattle.terms.specs.Entries.{entryAt, vertexA, vertexB, vertexC}
 use Rattle.rows.specs.Search.{RowsAscend}
@@ -59,6 +60,10 @@ pub record WellFormed (n : ℕ) (candidates : List (List ℕ)) (weights : List �
   pub rows-ascend : RowsAscend rows
   -- no row has the first number after the candidates for its outer
   pub no-row : (u : ℕ) → pairWeight rows (length candidates) u ≡ 0
+
+-- what the work table is filled with: for each candidate the least total of a part that starts with it, or the number that stands for 'none'
+abbrev pub partTotals : Problem → List ℕ
+partTotals job = over 0 (job .size) (λ u. costOf (bestFrom job (job .n) u) ∷ [])
 
 -- candidate u's place of the work table has the least total of a part that starts with u
 abbrev pub Ready : Problem → List ℕ → ℕ → Type 0

@@ -6,13 +6,14 @@ use crate::choice::best_under;
 ghost use mathlib.Core.Path.{_≡_};
 ghost use Prim.Native.Nat.{_+_, _<_, _≤_};
 ghost use lib.ListN.{length, getD};
+ghost use Rattle.lists.specs.Lists.{filled};
 ghost use Rattle.triangulation.specs.Problems.{problemFrom};
 ghost use Rattle.triangulation.specs.Recursion.{costOf, bestFrom};
 ghost use Rattle.blocks.specs.Blocks.{Starts};
 ghost use Rattle.terms.specs.Limits.{maxVertices};
 ghost use Rattle.terms.specs.Entries.{entryAt, vertexA, vertexB, vertexC};
 ghost use Rattle.rows.specs.Search.{Run};
-ghost use Rattle.minimum_weight.specs.Tables.{WellFormed, Cost, joinCost, ReadyAt, Filled};
+ghost use Rattle.minimum_weight.specs.Tables.{WellFormed, Cost, joinCost, ReadyAt, Filled, partTotals};
 
 // The total of a triangle of weight w over parts of totals left and right.
 fn join_cost(w: u32, left: u64, right: u64) -> u64
@@ -89,7 +90,7 @@ pub fn fill(
     work: &mut [u64],
 )
     requires { ⌜ WellFormed n (now candidates) (now weights) (now rows) × Starts (now candidates) (now starts) × (length (now candidates) ≤ length (now work)) ⌝ }
-    ensures { λ _. ⌜ Filled (problemFrom n (now (candidates .entry)) (now (weights .entry)) (now (rows .entry))) (now (work .entry)) 0 (now (work .exit)) ⌝ }
+    ensures { λ _. ⌜ now (work .exit) ≡ filled (partTotals (problemFrom n (now (candidates .entry)) (now (weights .entry)) (now (rows .entry)))) (now (work .entry)) ⌝ }
 {
     let mut v = n;
     while 0 < v {

@@ -11,7 +11,7 @@ ghost use Rattle.triangulation.specs.Triangulations.{bestKey};
 ghost use Rattle.triangulation.specs.Problems.{problemFrom};
 ghost use Rattle.triangulation.specs.Recursion.{costOf};
 ghost use Rattle.blocks.specs.Blocks.{Starts};
-ghost use Rattle.minimum_weight.specs.Tables.{WellFormed, Filled};
+ghost use Rattle.minimum_weight.specs.Tables.{WellFormed, partTotals};
 
 // Stands for 'none', above every total: `noTotal` of the contracts.
 pub const NONE: u64 = 0x8000_0000_0000_0000;
@@ -27,7 +27,7 @@ pub fn least_total(
 ) -> u64
     requires { ⌜ WellFormed n (now candidates) (now weights) (now rows) × Starts (now candidates) (now starts) × (length (now candidates) ≤ length (now work)) ⌝ }
     ensures total { λ r. ⌜ r ≡ costOf (bestKey (problemFrom n (now (candidates .entry)) (now (weights .entry)) (now (rows .entry)))) ⌝ }
-    ensures work { λ _. ⌜ Filled (problemFrom n (now (candidates .entry)) (now (weights .entry)) (now (rows .entry))) (now (work .entry)) 0 (now (work .exit)) ⌝ }
+    ensures work { λ _. ⌜ now (work .exit) ≡ filled (partTotals (problemFrom n (now (candidates .entry)) (now (weights .entry)) (now (rows .entry)))) (now (work .entry)) ⌝ }
 {
     costs::fill(n, starts, candidates, weights, rows, work);
     let last = (n - 1) as u8;

@@ -12,8 +12,9 @@ use lib.Dec.{eqb, ltb}
 use borrow.Author.Tests.{eqb-true, eqb-false, eq-eqb, ltb-true, ltb-false, lt-ltb}
 use Rattle.terms.specs.Entries.{entryAt, outer, inner, rowWeight}
 use Rattle.lists.proofs.Choice.{no, not-true-false, true-not-false}
+use Rattle.lists.proofs.Fronts.{front-count, front-of}
 use Rattle.triangulation.specs.Problems.{pairWeight}
-use Rattle.rows.specs.Search.{RowsAscend, Cut, rowIsBefore, rowOrZero}
+use Rattle.rows.specs.Search.{RowsAscend, rowIsBefore, rowOrZero, rowsBefore}
 
 -- (x, y) is before (o, i), or is not
 pub before-true : (x y o i : ℕ) → (ltb x o || eqb x o && ltb y i) ≡ true → (x < o) ⊎ ((x ≡ o) × (y < i))
@@ -47,6 +48,13 @@ names-false x y o i h = go (eqb x o) (eqb y i) refl refl
     go true true e f = absurd (h (eqb-true x o e) (eqb-true y i f))
     go true false e f = refl
     go false q e f = refl
+
+-- the rows before `low` are before (o, i), those from `high` on are not
+pub record Cut (rows : List (List ℕ)) (o i low high : ℕ) : Type 0 where
+  pub order : low ≤ high
+  pub within : high ≤ length rows
+  pub left : (k : ℕ) → k < low → rowIsBefore (entryAt rows k) o i ≡ true
+  pub right : (k : ℕ) → high ≤ k → k < length rows → rowIsBefore (entryAt rows k) o i ≡ false
 
 module _ (o i : ℕ) where
   -- rows that are not (o, i) are passed over
@@ -120,9 +128,12 @@ module _ (o i : ℕ) where
           after : (k : ℕ) → k < length (drop (suc low) rows) → (eqb (getD (getD (drop (suc low) rows) k []) 0 0) o && eqb (getD (getD (drop (suc low) rows) k []) 1 0) i) ≡ false
           after k m = rw (getD-drop (suc low) rows k []) (later (suc low + k) (omega arith) (omega (arith, length-drop (suc low) rows)))
 
-      -- the two ends meet
-      pub cut-meet : {low high : ℕ} → Cut rows o i low high → high ≤ low → Cut rows o i low low
-      cut-meet c h = record { order = omega arith; within = omega (arith, c .order, c .within); left = c .left; right = λ k m n. c .right k (omega arith) n }
+      -- where the two ends meet, as many rows are before (o, i)
+      pub cut-count : {low high : ℕ} → Cut rows o i low high → high ≤ low → low ≡ rowsBefore rows o i
+      cut-count c h = front-count (record { within = omega (arith, c .order, c .within); before = c .left; after = λ k m n. c .right k (omega arith) n })
+
+      pub cut-of : {low : ℕ} → low ≡ rowsBefore rows o i → Cut rows o i low low
+      cut-of e = let f = front-of (length rows) before-trans in rw e (record { order = omega arith; within = f .within; left = f .before; right = f .after })
 
       pub cut-out : {low high : ℕ} → Cut rows o i low high → length rows ≤ low → 0 ≡ pairWeight rows o i
       unfolding outerAt innerAt

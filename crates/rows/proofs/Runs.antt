@@ -8,10 +8,11 @@ use native.Mathlib.Omega.{arith}
 use lib.ListN.{length, take, drop, getD, length-drop}
 use lib.Seq.{getD-take, getD-drop, length-take-le}
 use lib.Dec.{eqb}
+use Rattle.lists.proofs.Choice.{true-not-false}
 use Rattle.terms.specs.Entries.{entryAt, outer, inner, rowWeight}
 use Rattle.triangulation.specs.Problems.{pairWeight}
-use Rattle.rows.specs.Search.{RowsAscend, Cut, Run, rowIsBefore}
-use Rattle.rows.proofs.Bisection.{before-true, before-false, is-before, names-false, skip, none}
+use Rattle.rows.specs.Search.{RowsAscend, Run, rowIsBefore, rowsBefore}
+use Rattle.rows.proofs.Bisection.{Cut, cut-of, before-true, before-false, is-before, names-false, skip, none}
 
 -- the rows of later outers do not matter
 front : (o i m : ℕ) (rows : List (List ℕ)) → ((k : ℕ) → m ≤ k → k < length rows → (eqb (outer (entryAt rows k)) o && eqb (inner (entryAt rows k)) i) ≡ false)
@@ -37,7 +38,24 @@ run-start {rows} {t} c = record {
   right = λ k h l. absurd (omega arith);
 }
 
-module _ {rows : List (List ℕ)} {t first last : ℕ} (sorted : RowsAscend rows) (a : Cut rows t 0 first first) (b : Cut rows (t + 1) 0 last last) where
+module _ {rows : List (List ℕ)} (t : ℕ) {first last : ℕ} (sorted : RowsAscend rows) (start : first ≡ rowsBefore rows t 0) (end : last ≡ rowsBefore rows (t + 1) 0) where
+  a : Cut rows t 0 first first
+  a = cut-of t 0 rows sorted start
+
+  b : Cut rows (t + 1) 0 last last
+  b = cut-of (t + 1) 0 rows sorted end
+
+  pub run-within : last ≤ length rows
+  run-within = b .within
+
+  -- a run does not end before it starts
+  pub run-order : first ≤ last
+  run-order = go (first - last) refl
+    where
+      go : (d : ℕ) → first - last ≡ d → first ≤ last
+      go zero e = omega arith
+      go (suc d) e = absurd (true-not-false (run-start a .left last (omega arith)) (b .right last (omega arith) (omega (arith, a .within))))
+
   abbrev run : List (List ℕ)
   run = take (last - first) (drop first rows)
 

@@ -1,10 +1,11 @@
 -- Rows that ascend by outer, then inner, and where a pair stands among them. What functions say to each other; nobody has to believe it.
-use Prim.Native.Nat.{ℕ, _≤_, _<_}
+use Prim.Native.Nat.{ℕ, _<_}
 use mathlib.Core.Path.{_≡_}
-use mathlib.Core.Bool.{Bool, true, false, cond, _&&_, _||_}
+use mathlib.Core.Bool.{Bool, true, cond, _&&_, _||_}
 use mathlib.Core.List.{List}
 use lib.ListN.{length}
 use lib.Dec.{eqb, ltb}
+use Rattle.lists.specs.Counts.{howMany}
 use Rattle.terms.specs.Entries.{entryAt, outer, inner, rowWeight}
 use Rattle.triangulation.specs.Problems.{pairWeight}
 
@@ -20,12 +21,9 @@ rowOrZero r o i = cond (eqb (outer r) o && eqb (inner r) i) (rowWeight r) 0
 pub record RowsAscend (rows : List (List ℕ)) : Type 0 where
   pub up : (k l : ℕ) → k < l → l < length rows → rowIsBefore (entryAt rows k) (outer (entryAt rows l)) (inner (entryAt rows l)) ≡ true
 
--- the rows before `low` are before (o, i), those from `high` on are not
-pub record Cut (rows : List (List ℕ)) (o i low high : ℕ) : Type 0 where
-  pub order : low ≤ high
-  pub within : high ≤ length rows
-  pub left : (k : ℕ) → k < low → rowIsBefore (entryAt rows k) o i ≡ true
-  pub right : (k : ℕ) → high ≤ k → k < length rows → rowIsBefore (entryAt rows k) o i ≡ false
+-- how many rows are before (o, i): where rows ascend these come first, so it is the place of the first row that is not
+abbrev pub rowsBefore : List (List ℕ) → ℕ → ℕ → ℕ
+rowsBefore rows o i = howMany (length rows) (λ k. rowIsBefore (entryAt rows k) o i)
 
 -- `run` has the rows of outer t
 pub record Run (rows : List (List ℕ)) (t : ℕ) (run : List (List ℕ)) : Type 0 where

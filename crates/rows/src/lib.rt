@@ -1,9 +1,9 @@
 // Rows found by bisection: they ascend by outer, then inner.
 ghost use mathlib.Core.Path.{_≡_};
-ghost use Prim.Native.Nat.{_+_, _<_, _≤_};
+ghost use Prim.Native.Nat.{_+_, _<_};
 ghost use Rattle.terms.specs.Limits.{maxTriples};
 ghost use Rattle.triangulation.specs.Problems.{pairWeight};
-ghost use Rattle.rows.specs.Search.{RowsAscend, rowIsBefore, rowOrZero, Cut};
+ghost use Rattle.rows.specs.Search.{RowsAscend, rowIsBefore, rowOrZero, rowsBefore};
 
 // The row is before (outer, inner).
 fn is_before(row: [u32; 3], outer: usize, inner: usize) -> bool
@@ -38,7 +38,7 @@ fn weight_if(row: [u32; 3], outer: usize, inner: usize) -> u32
 // The first row that is not before (outer, inner), by bisection.
 pub fn lower_bound(rows: &[[u32; 3]], outer: usize, inner: usize) -> usize
     requires { ⌜ RowsAscend (now rows) ⌝ }
-    ensures { λ r. ⌜ Cut (now (rows .entry)) outer inner r r ⌝ }
+    ensures { λ r. ⌜ r ≡ rowsBefore (now (rows .entry)) outer inner ⌝ }
 {
     let mut low = 0;
     let mut high = rows.len();
@@ -53,10 +53,10 @@ pub fn lower_bound(rows: &[[u32; 3]], outer: usize, inner: usize) -> usize
     low
 }
 
-// Where the rows of an outer end: they are one run.
+// Where the rows of an outer end, from where they start: they are one run.
 pub fn run_end(rows: &[[u32; 3]], start: usize, outer: usize) -> usize
-    requires { ⌜ RowsAscend (now rows) × Cut (now rows) outer 0 start start × (outer < maxTriples) ⌝ }
-    ensures { λ r. ⌜ Cut (now (rows .entry)) (outer + 1) 0 r r × (start ≤ r) ⌝ }
+    requires { ⌜ RowsAscend (now rows) × (start ≡ rowsBefore (now rows) outer 0) × (outer < maxTriples) ⌝ }
+    ensures { λ r. ⌜ r ≡ rowsBefore (now (rows .entry)) (outer + 1) 0 ⌝ }
 {
     let mut end = start;
     while end < rows.len() {

@@ -6,6 +6,7 @@ use borrow.Author.Needs.{needs}
 use lib.ListN.{length, length-replicate}
 use Rattle.blocks.specs.Blocks.{startCount}
 use Rattle.blocks.proofs.Placing.{Placed, there, placed-start, placed-pass, placed-set, placed-all}
+use Rattle.blocks.proofs.Starts.{starts-are}
 use Rattle.blocks.proofs.block_starts.Statement.{statement}
 use Rattle.blocks.proofs.block_starts.Tie as tie
 
@@ -46,7 +47,7 @@ loop-again-2 : tie.Need-loop-again-2 Inv-loop μ-loop
 loop-again-2 c = placed-set _ (c .before .before .before .before .pre) (c .before .before .before .loop .inv) (c .before .before .loop-test .taken) (sym (c .before .starts-below .ensures) ∙ c .if1 .left)
 
 returns : tie.Need-returns Inv-loop μ-loop
-returns c = placed-all _ (c .before .loop .inv) (c .loop-test .left)
+returns c = let l = c .before .loop .inv in starts-are _ _ (l .size) (placed-all _ l (c .loop-test .left))
 
 pub block-starts-spec : {M : Type 1} → statement M
 block-starts-spec =

@@ -10,6 +10,7 @@ use Rattle.polygon.specs.declared.Polygon.{Polygon}
 use Rattle.geometry.specs.Faces.{lengthOf}
 use Rattle.lists.specs.Lists.{filled}
 use Rattle.lists.proofs.Writing.{taken, filled-length, filled-over}
+use Rattle.blocks.proofs.Starts.{starts-of}
 use Rattle.dihedrals.specs.Dihedrals.{faceNormal, lengthsOf, rowsOf}
 use Rattle.dihedrals.specs.Lists.{ProperCandidates}
 use Rattle.dihedrals.proofs.Faces.{first-lengths}
@@ -93,7 +94,10 @@ write-rows-requires : tie.Need-write-rows-requires
 write-rows-requires c κs =
     let w = c .before .before .before .before .before in
     let g = listed w in
-    (proper g, w .before .before .block-starts .ensures, lengths-are w, omega (arith, ap (λ (l : List (List ℕ)). length (rowsOf (polygon g) l)) (found-are g), begin g .pre .1 .for-rows))
+    (
+      proper g, starts-of (found g) (proper g .sorted .by-first) (w .before .before .block-starts .ensures), lengths-are w,
+      omega (arith, ap (λ (l : List (List ℕ)). length (rowsOf (polygon g) l)) (found-are g), begin g .pre .1 .for-rows),
+    )
 
 write-weights-requires : tie.Need-write-weights-requires
 write-weights-requires c κs =

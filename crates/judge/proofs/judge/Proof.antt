@@ -8,7 +8,8 @@ use Rattle.terms.proofs.Numbers.{due-here, due-on}
 use Rattle.triangulation.specs.Triangulations.{Problem}
 use Rattle.triangulation.specs.Problems.{problemFrom}
 use Rattle.minimum_weight.specs.Tables.{WellFormed}
-use Rattle.minimum_weight.proofs.Answer.{cleared}
+use Rattle.minimum_weight.proofs.Filling.{filled-long, cleared}
+use Rattle.blocks.proofs.Starts.{starts-of}
 use Rattle.triangulator.proofs.Accepting.{accepted-well-formed}
 use Rattle.validation.specs.Validation.{listCode}
 use Rattle.judge.specs.Call.{judgeCode, judged}
@@ -72,10 +73,12 @@ block-starts-requires : tie.Need-block-starts-requires
 block-starts-requires c κs = formed (of-job c) .0 .ascending .by-first
 
 least-total-requires : tie.Need-least-total-requires
-least-total-requires c κs = let f = formed (of-job (c .before .before .before)) in (f .0, c .before .before .block-starts .ensures, f .1)
+least-total-requires c κs = let f = formed (of-job (c .before .before .before)) in (f .0, starts-of _ (f .0 .ascending .by-first) (c .before .before .block-starts .ensures), f .1)
 
 clear-requires : tie.Need-clear-requires
-clear-requires c κs = omega (arith, formed (of-job (c .before .before .before .before .before .before .before)) .1, c .before .before .before .least-total .ensures .1 .long)
+clear-requires c κs =
+    let f = formed (of-job (c .before .before .before .before .before .before .before)) in
+    omega (arith, f .1, filled-long _ _ (f .1) (c .before .before .before .least-total .ensures .1))
 
 sub-excess : tie.Need-sub-excess
 sub-excess c =
@@ -98,7 +101,7 @@ returns-3 c =
     settle-accepted _ _ _ _
     (due-on _ (sym (of-job g .before .code-without-triangles .ensures) ∙ of-job g .if1 .left) ∙ listed g)
     (omega (arith, t .0, x .1))
-    (cleared (job s) (t .1) (c .before .before .clear .ensures))
+    (cleared (job s) (s .args .work .now) (t .1) (c .before .before .clear .ensures))
 
 pub judge-spec : {M : Type 1} → statement M
 judge-spec =

@@ -5,6 +5,7 @@ use native.Mathlib.Omega.{arith}
 use lib.ListN.{length}
 use Rattle.triangulation.specs.Recursion.{costOf}
 use Rattle.minimum_weight.proofs.Edges.{found-edge}
+use Rattle.minimum_weight.proofs.Filling.{filled-ready}
 use Rattle.minimum_weight.proofs.Answer.{answer-whole}
 use borrow.Author.Needs.{needs}
 use Rattle.minimum_weight.proofs.least_total.Statement.{statement}
@@ -31,7 +32,7 @@ returns c =
     let ok = s .pre .0 in
     let v = ok .valid in
     let f = c .before .before .before .before .fill .ensures in
-    let e = found-edge (s .args .n) _ _ _ ok _ (length (s .args .candidates .now)) 0 (s .args .n - 1) (λ u l _ _. f .ready u l (omega arith)) (c .best-under .result) (c .best-under .ensures) .cost in
+    let e = found-edge (s .args .n) _ _ _ ok _ (length (s .args .candidates .now)) 0 (s .args .n - 1) (λ u l _ _. filled-ready _ _ (s .pre .2) f u l) (c .best-under .result) (c .best-under .ensures) .cost in
     (e ∙ ap costOf (sym (answer-whole (s .args .n) _ _ _ ok)), f)
 
 pub least-total-spec : {M : Type 1} → statement M

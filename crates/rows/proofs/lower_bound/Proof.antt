@@ -4,8 +4,7 @@ use mathlib.Core.Path.{sym, _∙_}
 use native.Mathlib.Omega.{arith}
 use borrow.Author.Needs.{needs}
 use lib.ListN.{length}
-use Rattle.rows.specs.Search.{Cut}
-use Rattle.rows.proofs.Bisection.{cut-start, cut-up, cut-down, cut-meet}
+use Rattle.rows.proofs.Bisection.{Cut, cut-start, cut-up, cut-down, cut-count}
 use Rattle.rows.proofs.lower_bound.Statement.{statement}
 use Rattle.rows.proofs.lower_bound.Tie as tie
 
@@ -49,7 +48,7 @@ loop-again-2 : tie.Need-loop-again-2 Inv-loop μ-loop
 loop-again-2 c = cut-down _ _ _ (c .before .before .before .before .before .pre) _ (c .before .before .before .before .loop .inv) (omega arith) (omega arith) (sym (c .before .is-before .ensures) ∙ c .if1 .left)
 
 returns : tie.Need-returns Inv-loop μ-loop
-returns c = cut-meet _ _ _ (c .before .before .pre) (c .before .loop .inv) (c .loop-test .left)
+returns c = cut-count _ _ _ (c .before .before .pre) (c .before .loop .inv) (c .loop-test .left)
 
 pub lower-bound-spec : {M : Type 1} → statement M
 lower-bound-spec =

@@ -5,7 +5,7 @@ use borrow.Author.Needs.{needs}
 use lib.ListN.{getD}
 use Rattle.triangulation.specs.Problems.{problemFrom}
 use Rattle.minimum_weight.specs.Tables.{Filled}
-use Rattle.minimum_weight.proofs.Filling.{fill-start, fill-end, filled-down, filled-then}
+use Rattle.minimum_weight.proofs.Filling.{fill-start, fill-end, filled-down, filled-then, filled-is}
 use Rattle.minimum_weight.proofs.costs.fill.Statement.{statement}
 use Rattle.minimum_weight.proofs.costs.fill.Tie as tie
 
@@ -34,7 +34,7 @@ same-length : tie.Need-same-length Inv-loop μ-loop
 same-length c = c .before .loop .inv .1 .long
 
 returns : tie.Need-returns Inv-loop μ-loop
-returns c = let s = c .before .before .before .before in let ok = s .pre .0 in let b = s .pre .1 in fill-end (s .args .n) _ _ _ ok _ b (c .loop-test .left) (c .before .loop .inv .1)
+returns c = let s = c .before .before .before .before in let ok = s .pre .0 in let b = s .pre .1 in filled-is _ _ (s .pre .2) (fill-end (s .args .n) _ _ _ ok _ b (c .loop-test .left) (c .before .loop .inv .1))
 
 pub fill-spec : {M : Type 1} → statement M
 fill-spec =
