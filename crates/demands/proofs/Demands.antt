@@ -11,7 +11,7 @@ use Rattle.triangulation.proofs.Demand3.{demand3}
 use Rattle.triangulator.specs.Call.{partOf}
 use Rattle.triangulator.specs.Demands.{stated, Handed}
 use Rattle.triangulator.proofs.Demands.{settled-states, settled-handed}
-use Rattle.pipeline.specs.Patching.{Tables, Patching, rowsIn, jobIn, patchFile}
+use Rattle.pipeline.specs.Patching.{Tables, Patching, rowsIn, problemIn, patchFile}
 use Rattle.pipeline.proofs.Values.{valid-job}
 use Rattle.reader.specs.File.{Bytes}
 use Rattle.demands.specs.Demand1.{polygonIn, CallDue}
@@ -32,18 +32,18 @@ module _ (limit : ℕ) (file : List ℕ) (bytes : Bytes file) (t : Tables) (none
 
   -- Demand 3: a patch exactly when the candidates hold a tiling, 'none' exactly when they hold none; the patch is a tiling in walk order with its own
   -- total; no tiling costs less, and each other that costs the same comes later in walk order
-  pub file-demand3 : Demand3 (jobIn (polygonIn limit file)) (stated (patchFile limit file t .outcome) (patchFile limit file t .left .triangles))
+  pub file-demand3 : Demand3 (problemIn (polygonIn limit file)) (stated (patchFile limit file t .outcome) (patchFile limit file t .left .triangles))
   file-demand3 =
       let p = polygonIn limit file in
       let a = accepted limit file bytes t none in
-      subst (λ (x : Answer). Demand3 (jobIn p) x)
-      (sym (ap (λ (x : Patching). stated (x .outcome) (x .left .triangles)) (a .call-is) ∙ settled-states (best (jobIn p)) (length (candidatesOf p)) (t .triangles) (t .work)))
-      (demand3 (jobIn p) (valid-job p (a .polygon-valid)))
+      subst (λ (x : Answer). Demand3 (problemIn p) x)
+      (sym (ap (λ (x : Patching). stated (x .outcome) (x .left .triangles)) (a .call-is) ∙ settled-states (best (problemIn p)) (length (candidatesOf p)) (t .triangles) (t .work)))
+      (demand3 (problemIn p) (valid-job p (a .polygon-valid)))
 
   -- what the caller is handed: after a patch its n - 2 triangles in walk order, each triangle of the tiling once; after 'none' nothing
-  pub file-handed : Handed (jobIn (polygonIn limit file)) (partOf (patchFile limit file t .outcome) (patchFile limit file t .left .triangles)) (patchFile limit file t .outcome)
+  pub file-handed : Handed (problemIn (polygonIn limit file)) (partOf (patchFile limit file t .outcome) (patchFile limit file t .left .triangles)) (patchFile limit file t .outcome)
   file-handed =
       let p = polygonIn limit file in
       let a = accepted limit file bytes t none in
-      subst (λ (x : Patching). Handed (jobIn p) (partOf (x .outcome) (x .left .triangles)) (x .outcome)) (sym (a .call-is))
-      (settled-handed (jobIn p) (valid-job p (a .polygon-valid)) (length (candidatesOf p)) (t .triangles) (t .work))
+      subst (λ (x : Patching). Handed (problemIn p) (partOf (x .outcome) (x .left .triangles)) (x .outcome)) (sym (a .call-is))
+      (settled-handed (problemIn p) (valid-job p (a .polygon-valid)) (length (candidatesOf p)) (t .triangles) (t .work))

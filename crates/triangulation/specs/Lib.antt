@@ -1,4 +1,4 @@
 pub mod Triangulations
-pub mod Jobs
+pub mod Problems
 pub mod Demand3
 pub mod Recursion
