@@ -1,12 +1,14 @@
 // What the programs bench and trim do with the rim file that they read, of either edition: they close its gap and print the patch, and differ in their
 // limit (rules 5.3, 5.4, 5.9).
-mod hanging;
+mod lines;
 mod output;
 
+use lines::Line;
 use triangulator::Outcome;
 ghost use mathlib.Core.Path.{_≡_};
 ghost use Rattle.pipeline.specs.Patching.{patchFile};
 ghost use Rattle.patch_program.specs.Run.{emptyTables};
+ghost use Rattle.patch_program.specs.Lines.{printoutOf};
 
 // Places of the tables. A rim of 64 points has at most 62 triangles; a few rims need more of the others than there is (rule 5.3).
 const TRIANGLES: usize = 62;
@@ -15,9 +17,16 @@ const CANDIDATES: usize = 1024;
 
 const ROWS: usize = 4096;
 
-// Closes the rim of a file and prints its patch; answers what came of it.
-pub fn run(limit: usize, file: &[u8]) -> Outcome
-    ensures { λ r. ⌜ r ≡ patchFile limit (now (file .entry)) emptyTables .outcome ⌝ }
+// What is printed: the outcome; for a patch also the number of its vertices, and a line in each of as many first places as it has triangles.
+pub struct Printout {
+    pub outcome: Outcome,
+    pub vertices: usize,
+    pub lines: [Line; TRIANGLES],
+}
+
+// What is printed for a file.
+pub fn printout_of(limit: usize, file: &[u8]) -> Printout
+    ensures { λ r. ⌜ r ≡ printoutOf limit (now (file .entry)) ⌝ }
 {
     let mut triangles = [0u16; TRIANGLES];
     let mut candidates = [[0u8; 3]; CANDIDATES];
@@ -33,6 +42,22 @@ pub fn run(limit: usize, file: &[u8]) -> Outcome
         &mut rows,
         &mut work,
     );
-    output::print_outcome(outcome, &triangles, &candidates, &weights, &rows);
-    outcome
+    let vertices = lines::vertices_of(outcome);
+    let row_count = lines::row_count(&rows);
+    let patch = triangulator::part(&triangles, outcome);
+    let lines = lines::lines_of(&candidates, &weights, &rows[..row_count], patch);
+    Printout {
+        outcome,
+        vertices,
+        lines,
+    }
+}
+
+// Closes the rim of a file and prints its patch; answers what came of it.
+pub fn run(limit: usize, file: &[u8]) -> Outcome
+    ensures { λ r. ⌜ r ≡ patchFile limit (now (file .entry)) emptyTables .outcome ⌝ }
+{
+    let printout = printout_of(limit, file);
+    output::print(printout);
+    printout.outcome
 }

@@ -1,5 +1,7 @@
 // The lines that are printed.
-use crate::hanging::row_weight;
+use crate::Printout;
+use crate::TRIANGLES;
+use crate::lines::Line;
 use triangulator::Outcome;
 
 fn print_number(number: u32) {
@@ -19,49 +21,33 @@ fn print_vertex(vertex: u8) {
     print_space();
 }
 
-// a, b, c and the own weight; nothing for a number that is no candidate's.
-fn print_triangle(number: u16, candidates: &[[u8; 3]], weights: &[u32]) {
-    let t = number as usize;
-    if candidates.len() <= t {
-        return;
-    }
-    if weights.len() <= t {
-        return;
-    }
-    let triangle = candidates[t];
-    let weight = weights[t];
-    print_vertex(triangle[0]);
-    print_vertex(triangle[1]);
-    print_vertex(triangle[2]);
-    print_number(weight);
-}
-
-fn print_triangles(part: &[u16], candidates: &[[u8; 3]], weights: &[u32], rows: &[[u32; 3]]) {
-    for k in 0..part.len() {
-        print_triangle(part[k], candidates, weights);
-        print_space();
-        print_number(row_weight(part, k, candidates, rows));
-        end_line();
-    }
-}
-
-// A patch has two vertices more than triangles.
-fn print_patch(
-    part: &[u16],
-    total: u64,
-    candidates: &[[u8; 3]],
-    weights: &[u32],
-    rows: &[[u32; 3]],
-) {
-    let triangles = part.len() as u64;
-    io::write_all(1, b"patch ");
-    io::print_decimal(1, triangles + 2);
+fn print_line(line: Line) {
+    print_vertex(line.a);
+    print_vertex(line.b);
+    print_vertex(line.c);
+    print_number(line.weight);
     print_space();
-    io::print_decimal(1, triangles);
+    print_number(line.row);
+    end_line();
+}
+
+fn print_lines(lines: [Line; TRIANGLES], count: usize) {
+    for k in 0..TRIANGLES {
+        if k < count {
+            print_line(lines[k]);
+        }
+    }
+}
+
+fn print_patch(vertices: usize, triangles: usize, total: u64, lines: [Line; TRIANGLES]) {
+    io::write_all(1, b"patch ");
+    io::print_decimal(1, vertices as u64);
+    print_space();
+    io::print_decimal(1, triangles as u64);
     print_space();
     io::print_decimal(1, total);
     end_line();
-    print_triangles(part, candidates, weights, rows);
+    print_lines(lines, triangles);
 }
 
 fn print_refusal(number: u32) {
@@ -70,21 +56,13 @@ fn print_refusal(number: u32) {
     end_line();
 }
 
-pub(crate) fn print_outcome(
-    outcome: Outcome,
-    triangles: &[u16],
-    candidates: &[[u8; 3]],
-    weights: &[u32],
-    rows: &[[u32; 3]],
-) {
+pub(crate) fn print(printout: Printout) {
+    let outcome = printout.outcome;
+    let lines = printout.lines;
     match outcome {
-        Outcome::Patch {
-            triangles: _,
-            total,
-        } => {
-            let part = triangulator::part(triangles, outcome);
-            print_patch(part, total, candidates, weights, rows);
-        }
+        Outcome::Patch { triangles, total } => {
+            print_patch(printout.vertices, triangles, total, lines);
+        },
         Outcome::None => {
             io::write_all(1, b"none\n");
         }

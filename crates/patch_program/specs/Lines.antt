@@ -1,0 +1,63 @@
+-- The lines that a program prints for a patch (rule 5.4). Definitions only.
+use mathlib.Core.Bool.{cond}
+use mathlib.Core.List.{List, [], _∷_, map}
+use Prim.Native.Nat.{ℕ, _+_}
+use lib.ListN.{getD, replicate}
+use Rattle.lists.specs.Lists.{filled}
+use Rattle.terms.specs.Entries.{entryAt, vertexA, vertexB, vertexC}
+use Rattle.jobs.specs.Job.{hangs}
+use Rattle.triangulation.specs.Problems.{pairWeight}
+use Rattle.triangulator.specs.declared.Outcome.{Outcome}
+use Rattle.triangulator.specs.declared.Outcome.the-variants.{Patch, None, Refused}
+use Rattle.triangulator.specs.Call.{partOf}
+use Rattle.pipeline.specs.Patching.{Tables, Patching, patchFile}
+use Rattle.patch_program.specs.declared.lines.Line.{Line}
+use Rattle.patch_program.specs.declared.Printout.{Printout}
+use Rattle.patch_program.specs.Run.{emptyTables}
+
+-- the row weight of the pair that candidate t is the inner of: its outer is the triangle of the patch that t hangs on; 0 where t hangs on none of them,
+-- as the first (rule 5.4)
+abbrev pub rowUnder : List (List ℕ) → List (List ℕ) → List ℕ → ℕ → ℕ
+rowUnder candidates rows [] t = 0
+rowUnder candidates rows (o ∷ patch) t =
+    cond (hangs (entryAt candidates t) (entryAt candidates o)) (pairWeight rows o t) (rowUnder candidates rows patch t)
+
+-- the line of candidate t of a patch: a, b, c, its own weight, and that row weight (rule 5.4)
+abbrev pub lineOf : List (List ℕ) → List ℕ → List (List ℕ) → List ℕ → ℕ → Line
+lineOf candidates weights rows patch t = record {
+  a = vertexA (entryAt candidates t);
+  b = vertexB (entryAt candidates t);
+  c = vertexC (entryAt candidates t);
+  weight = getD weights t 0;
+  row = rowUnder candidates rows patch t;
+}
+
+-- the lines of a patch in walk order, by the tables that the one call left (rules 3.8, 3.9, 5.4)
+abbrev pub linesIn : Tables → List ℕ → List Line
+linesIn left patch = map (lineOf (left .candidates) (left .weights) (left .rows) patch) patch
+
+-- the lines after a call: one for each triangle of the part handed back, so none after 'none' and in a refusal (rules 3.8, 5.4)
+abbrev pub linesAfter : Patching → List Line
+linesAfter r = linesIn (r .left) (partOf (r .outcome) (r .left .triangles))
+
+-- a place that no line needs
+abbrev pub noLine : Line
+noLine = record { a = 0; b = 0; c = 0; weight = 0; row = 0 }
+
+-- as many as a rim of 64 vertices has triangles (rule 5.3)
+abbrev pub linePlaces : ℕ
+linePlaces = 62
+
+-- the number of vertices on the first line: a patch has two triangles fewer (rules 5.2, 5.4)
+abbrev pub verticesOf : Outcome → ℕ
+verticesOf (Patch count total) = count + 2
+verticesOf None = 0
+verticesOf (Refused number) = 0
+
+-- what is printed after a call: its outcome, the number of vertices, and the lines in the first places (rule 5.4)
+abbrev pub printoutAfter : Patching → Printout
+printoutAfter r = record { outcome = r .outcome; vertices = verticesOf (r .outcome); lines = filled (linesAfter r) (replicate linePlaces noLine) }
+
+-- what is printed for a file under a limit (rules 5.3, 5.4, 5.9)
+unfoldable pub printoutOf : ℕ → List ℕ → Printout
+printoutOf limit file = printoutAfter (patchFile limit file emptyTables)
