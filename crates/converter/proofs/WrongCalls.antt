@@ -17,7 +17,7 @@ use Rattle.reader.specs.Chain.{link, metBefore, heightBefore, linkCode, positio
 use Rattle.reader.specs.Reading as reader
 use Rattle.reader.proofs.Cases.{point-then, zero-mm, one-mm, no-surface}
 use Rattle.converter.specs.Converted.{converted, normalLost}
-use Rattle.converter.specs.Call.{numberOf, editionOf, lengthOf, Converting, converting, convertCall}
+use Rattle.converter.specs.Call.{numberOf, editionOf, convertedLength, Converting, converting, convertCall}
 use Rattle.converter.specs.declared.Conversion.the-variants.{Converted, Refused}
 
 -- ---- two files of one rim: a chain of records 1, 2 and 3, and a spare record 4
@@ -80,11 +80,11 @@ right-calls = refl
 -- equal answers and tables are the same by their numbers
 sameConverting : Converting → Converting → Bool
 sameConverting c d =
-    eqb (numberOf (c .answer)) (numberOf (d .answer)) && (eqb (editionOf (c .answer)) (editionOf (d .answer)) && (eqb (lengthOf (c .answer)) (lengthOf (d .answer)) && sameList (c .left) (d .left)))
+    eqb (numberOf (c .answer)) (numberOf (d .answer)) && (eqb (editionOf (c .answer)) (editionOf (d .answer)) && (eqb (convertedLength (c .answer)) (convertedLength (d .answer)) && sameList (c .left) (d .left)))
 
 same-converting : (c : Converting) → sameConverting c c ≡ true
 unfolding sameConverting
-same-converting c = rw (eq-eqb (numberOf (c .answer)) _ refl, eq-eqb (editionOf (c .answer)) _ refl, eq-eqb (lengthOf (c .answer)) _ refl, same-list (c .left))
+same-converting c = rw (eq-eqb (numberOf (c .answer)) _ refl, eq-eqb (editionOf (c .answer)) _ refl, eq-eqb (convertedLength (c .answer)) _ refl, same-list (c .left))
 
 pub wrong-calls-fail : (t : Try) → List·Memᴰ t tries → t .wrong ≡ t .right → ⊥
 unfolding anyOf sameConverting sameList

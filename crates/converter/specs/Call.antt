@@ -21,9 +21,9 @@ abbrev pub editionOf : Conversion → ℕ
 editionOf (Converted edition size) = edition
 editionOf (Refused number) = 0
 
-abbrev pub lengthOf : Conversion → ℕ
-lengthOf (Converted edition size) = size
-lengthOf (Refused number) = 0
+abbrev pub convertedLength : Conversion → ℕ
+convertedLength (Converted edition size) = size
+convertedLength (Refused number) = 0
 
 -- the three together (rule 5.2)
 pub record Values : Type 0 where
@@ -35,7 +35,7 @@ abbrev pub values : ℕ → ℕ → ℕ → Values
 values k e n = record { number = k; edition = e; length = n }
 
 abbrev pub valuesOf : Conversion → Values
-valuesOf r = values (numberOf r) (editionOf r) (lengthOf r)
+valuesOf r = values (numberOf r) (editionOf r) (convertedLength r)
 
 -- 13 where the output table is too short, before 19 where a normal would be lost (rule 4.35)
 abbrev pub conversionCode : Bool → Bool → ℕ
@@ -72,7 +72,7 @@ convertCall file out = convertBy (numberDue file out) file out
 
 -- the part handed back: as many first places as the answer says, none where the table is shorter (rule 5.7)
 abbrev pub partOf : Conversion → List ℕ → List ℕ
-partOf r table = firstPlaces (lengthOf r) table
+partOf r table = firstPlaces (convertedLength r) table
 
 abbrev pub handedOver : Converting → List ℕ
 handedOver c = partOf (c .answer) (c .left)

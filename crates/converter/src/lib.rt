@@ -5,7 +5,7 @@ mod writing;
 ghost use mathlib.Core.Path.{_≡_};
 ghost use mathlib.Core.Bool.{false};
 ghost use Rattle.reader.specs.File.{lengthWrong};
-ghost use Rattle.converter.specs.Call.{numberOf, editionOf, lengthOf, valuesOf, conversionCode, conversionNumber, numberDue, dueValues, converting, convertBy, convertCall, partOf};
+ghost use Rattle.converter.specs.Call.{numberOf, editionOf, convertedLength, valuesOf, conversionCode, conversionNumber, numberDue, dueValues, converting, convertBy, convertCall, partOf};
 ghost use Rattle.converter.specs.Steps.{targetOf};
 use reader::Layout;
 use reader::Status;
@@ -43,7 +43,7 @@ impl Conversion {
 
     // How many bytes were written.
     pub fn length(self) -> usize
-        ensures { λ r. ⌜ r ≡ lengthOf self ⌝ }
+        ensures { λ r. ⌜ r ≡ convertedLength self ⌝ }
     {
         match self {
             Conversion::Converted { edition: _, length } => length,

@@ -6,7 +6,7 @@ use Prim.Native.Nat.{ℕ, _<_}
 use lib.IntN.{pos}
 use lib.ListN.{getD}
 use Rattle.polygon.specs.declared.Polygon.{Polygon}
-use Rattle.polygon.specs.Polygon.{Valid}
+use Rattle.polygon.specs.Polygon.{ValidPolygon}
 use Rattle.geometry.specs.declared.sphere.Lifted.{Lifted}
 use Rattle.geometry.specs.declared.sphere.Pencil.{Pencil}
 use Rattle.geometry.specs.declared.sphere.Sphere.{Sphere}
@@ -26,14 +26,14 @@ use Rattle.delaunay.proofs.Counting.{not-counts-inside, not-counts-betw
 
 -- the triangle (a, b, c), as seen from a
 pub record Three (p : Polygon) (a b c : ℕ) (lifted : List Lifted) (pencil : Pencil) : Type 0 where
-  pub valid : Valid p
+  pub valid : ValidPolygon p
   pub a<n : a < p .n
   pub b<n : b < p .n
   pub c<n : c < p .n
   pub lifts : Lifts p a lifted
   pub spans : pencil ≡ pencilOf (getD lifted b unlifted) (getD lifted c unlifted)
 
-pub lift-in : {p : Polygon} {a : ℕ} {lifted : List Lifted} → Valid p → a < p .n → Lifts p a lifted → (v : ℕ) → v < p .n → LiftedBounds (getD lifted v unlifted)
+pub lift-in : {p : Polygon} {a : ℕ} {lifted : List Lifted} → ValidPolygon p → a < p .n → Lifts p a lifted → (v : ℕ) → v < p .n → LiftedBounds (getD lifted v unlifted)
 lift-in {a = a} g h l v k = subst (λ (l : Lifted). LiftedBounds l) (sym (l .at v k)) (lift-bounds (g .on-grid a h) (g .on-grid v k))
 
 module _ {p : Polygon} {a b c : ℕ} {lifted : List Lifted} {pencil : Pencil} (t : Three p a b c lifted pencil) where

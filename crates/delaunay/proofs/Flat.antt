@@ -9,7 +9,7 @@ use lib.IntN.{pos}
 use lib.ListN.{getD}
 use borrow.Author.Tests.{not-true}
 use Rattle.polygon.specs.declared.Polygon.{Polygon}
-use Rattle.polygon.specs.Polygon.{Valid}
+use Rattle.polygon.specs.Polygon.{ValidPolygon}
 use Rattle.geometry.specs.declared.sphere.Lifted.{Lifted}
 use Rattle.integers.specs.Order.{equal}
 use Rattle.geometry.specs.Spheres.{coplanar}
@@ -61,7 +61,7 @@ coplanar-on {lifted = lifted} {c = c} f w h = record {
   pairs = λ k l i j a b. ⊎-elim (λ s. h .pairs k l i s a b) (λ s. subst (λ (k : ℕ). coplanarPair lifted k l ≡ true) (sym s) (w .at l (omega arith) (omega arith))) (below-or-same k c (omega arith));
 }
 
-module _ {p : Polygon} {lifted : List Lifted} (v : Valid p) (t : Lifts p 0 lifted) where
+module _ {p : Polygon} {lifted : List Lifted} (v : ValidPolygon p) (t : Lifts p 0 lifted) where
   pair-is : (k l : ℕ) → k < p .n → l < p .n → coplanarPair lifted k l ≡ coplanar (vertex p 0) (vertex p 1) (vertex p k) (vertex p l)
   pair-is k l hk hl =
       (λ i. equal (sphereOf (pencilOf (t .at 1 (omega (arith, v .least)) i) (t .at k hk i)) (t .at l hl i) .orient) (pos 0))

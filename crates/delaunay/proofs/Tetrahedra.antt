@@ -23,7 +23,7 @@ use Rattle.faces.specs.Faces.{isFace}
 use Rattle.faces.specs.Masks.{pairCount, has, withFaces}
 use Rattle.faces.proofs.Fours.{left1, left3, left4, next4, leave4, out1}
 use Rattle.faces.proofs.Sets.{faces-in, faces-long}
-use Rattle.delaunay.specs.Candidates.{vertex, insideFour, counts, isFaceOfFour, isCorner, isFifth, cospherical}
+use Rattle.delaunay.specs.Candidates.{vertex, insideFour, counts, isFaceOfFour, isOneOf, isFifth, cospherical}
 use Rattle.delaunay.specs.Search.{Put, isOn, unlifted, scannedAt}
 use Rattle.delaunay.proofs.Marking as marking
 use Rattle.delaunay.proofs.Marking.{put-all}
@@ -83,9 +83,9 @@ module _ {p : Polygon} {a b c d : ℕ} {lifted : List Lifted} {pencil : Pencil} 
   four-counts v h s = counts-all p a b c d (f .solid) (scan-end (p .n) (insideFour p a b c d) v h s)
 
   module _ (full : counts p a b c d ≡ true) where
-    module _ (v : ℕ) (v<n : v < p .n) {place : Position} (e : place ≡ positionBy ball (getD lifted v unlifted)) {found : Bool} (g : found ≡ both (not (either (isCorner a b c v) (eqb v d))) (isOn place)) where
+    module _ (v : ℕ) (v<n : v < p .n) {place : Position} (e : place ≡ positionBy ball (getD lifted v unlifted)) {found : Bool} (g : found ≡ both (not (either (isOneOf a b c v) (eqb v d))) (isOn place)) where
       found-is : isFifth p a b c d v ≡ found
-      found-is = other-is (either (isCorner a b c v) (eqb v d)) (place-is (f .three) d (f .d<n) (f .through) (f .solid) v v<n e) (λ h. true-not-false full (not-counts-inside p a b c d v v<n h)) g
+      found-is = other-is (either (isOneOf a b c v) (eqb v d)) (place-is (f .three) d (f .d<n) (f .through) (f .solid) v v<n e) (λ h. true-not-false full (not-counts-inside p a b c d v v<n h)) g
 
       -- no fifth: on to the next vertex
       pub fifth-passed : found ≡ false → Passed (p .n) (isFifth p a b c d) v → Passed (p .n) (isFifth p a b c d) (v + 1)

@@ -7,7 +7,7 @@ use native.Mathlib.Omega.{arith}
 use lib.IntN.{pos}
 use lib.ListN.{length, getD, length-set}
 use Rattle.polygon.specs.declared.Polygon.{Polygon}
-use Rattle.polygon.specs.Polygon.{Valid}
+use Rattle.polygon.specs.Polygon.{ValidPolygon}
 use Rattle.geometry.specs.declared.sphere.Lifted.{Lifted}
 use Rattle.geometry.specs.declared.sphere.Sphere.{Sphere}
 use Rattle.geometry.specs.declared.sphere.Position.{Position}
@@ -27,7 +27,7 @@ use Rattle.faces.specs.Faces.{sameTriple}
 use Rattle.faces.specs.Masks.{pairCount, has, withTriple}
 use Rattle.faces.proofs.Threes.{left1, left3, next3, out1}
 use Rattle.faces.proofs.Sets.{put-in}
-use Rattle.delaunay.specs.Candidates.{vertex, insideThree, onThree, countsInPlane, isCountedThree, isFlat, isCorner, isFourth, cocircular}
+use Rattle.delaunay.specs.Candidates.{vertex, insideThree, onThree, countsInPlane, isCountedThree, isFlat, isOneOf, isFourth, cocircular}
 use Rattle.delaunay.specs.Search.{Lifts, Put, isOn, unlifted, scannedAt}
 use Rattle.delaunay.proofs.Marking as marking
 use Rattle.delaunay.proofs.Marking.{put-all}
@@ -70,7 +70,7 @@ module _ (p : Polygon) (a b c : ℕ) where
 
 -- ---- three corners and their circle
 pub record Triangle (p : Polygon) (a b c : ℕ) (lifted : List Lifted) (circle : Sphere) (marks₀ marks : List ℕ) (left₀ : Test → Bool) : Type 0 where
-  pub valid : Valid p
+  pub valid : ValidPolygon p
   pub flat : isFlat p ≡ true
   pub a<n : a < p .n
   pub b<n : b < p .n
@@ -126,9 +126,9 @@ module _ {p : Polygon} {a b c : ℕ} {lifted : List Lifted} {circle : Sphere} {m
     three-counts v h s = counts-all p a b c proper (scan-end (p .n) (insideThree p a b c) v h s)
 
     module _ (full : countsInPlane p a b c ≡ true) where
-      module _ (v : ℕ) (v<n : v < p .n) {place : Position} (e : place ≡ positionBy circle (getD lifted v unlifted)) {found : Bool} (g : found ≡ both (not (isCorner a b c v)) (isOn place)) where
+      module _ (v : ℕ) (v<n : v < p .n) {place : Position} (e : place ≡ positionBy circle (getD lifted v unlifted)) {found : Bool} (g : found ≡ both (not (isOneOf a b c v)) (isOn place)) where
         found-is : isFourth p a b c v ≡ found
-        found-is = other-is (isCorner a b c v) (place-is v v<n e) (λ h. true-not-false full (not-counts-inside p a b c v v<n h)) g
+        found-is = other-is (isOneOf a b c v) (place-is v v<n e) (λ h. true-not-false full (not-counts-inside p a b c v v<n h)) g
 
         -- no fourth: on to the next vertex
         pub fourth-passed : found ≡ false → Passed (p .n) (isFourth p a b c) v → Passed (p .n) (isFourth p a b c) (v + 1)

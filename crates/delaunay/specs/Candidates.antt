@@ -60,12 +60,12 @@ abbrev pub candidatesOf : Polygon → List (List ℕ)
 candidatesOf p = triplesOf (p .n) (isCandidate p)
 
 -- vertex v is one of the three (rule 4.12)
-abbrev pub isCorner : ℕ → ℕ → ℕ → ℕ → Bool
-isCorner a b c v = either (eqb v a) (either (eqb v b) (eqb v c))
+abbrev pub isOneOf : ℕ → ℕ → ℕ → ℕ → Bool
+isOneOf a b c v = either (eqb v a) (either (eqb v b) (eqb v c))
 
 -- vertex v is a fifth on the sphere of the four (rule 4.12)
 abbrev pub isFifth : Polygon → ℕ → ℕ → ℕ → ℕ → ℕ → Bool
-isFifth p a b c d v = both (not (either (isCorner a b c v) (eqb v d))) (onFour p a b c d v)
+isFifth p a b c d v = both (not (either (isOneOf a b c v) (eqb v d))) (onFour p a b c d v)
 
 -- some four that counts has a fifth vertex on its sphere (rule 4.12)
 unfoldable pub cospherical : Polygon → Bool
@@ -73,7 +73,7 @@ cospherical p = someFour (p .n) (λ a b c d. both (counts p a b c d) (some 0 (p 
 
 -- vertex v is a fourth on the circle of the three (rule 4.12)
 abbrev pub isFourth : Polygon → ℕ → ℕ → ℕ → ℕ → Bool
-isFourth p a b c v = both (not (isCorner a b c v)) (onThree p a b c v)
+isFourth p a b c v = both (not (isOneOf a b c v)) (onThree p a b c v)
 
 -- some three that counts has a fourth vertex on its circle (rule 4.12)
 unfoldable pub cocircular : Polygon → Bool

@@ -18,13 +18,13 @@ ghost use Rattle.geometry.specs.Bounds.{LiftedBounds, PencilBounds};
 ghost use Rattle.geometry.specs.Facets.{refutedBy};
 ghost use Rattle.lists.specs.Lists.{both, either};
 ghost use Rattle.faces.specs.Masks.{pairCount};
-ghost use Rattle.polygon.specs.Polygon.{Valid};
-ghost use Rattle.delaunay.specs.Candidates.{isCorner, isFaceOfFour, cospherical};
+ghost use Rattle.polygon.specs.Polygon.{ValidPolygon};
+ghost use Rattle.delaunay.specs.Candidates.{isOneOf, isFaceOfFour, cospherical};
 ghost use Rattle.delaunay.specs.Search.{Put, isOn};
 
 // Is vertex v, which lies at this place, a fifth on the sphere of the four corners?
 fn is_fifth(place: Position, a: usize, b: usize, c: usize, d: usize, v: usize) -> bool
-    ensures { λ r. ⌜ r ≡ both (not (either (isCorner a b c v) (eqb v d))) (isOn place) ⌝ }
+    ensures { λ r. ⌜ r ≡ both (not (either (isOneOf a b c v) (eqb v d))) (isOn place) ⌝ }
 {
     if v == d {
         return false;
@@ -47,7 +47,7 @@ fn still_refuted(n: usize, c: usize, pencil: Pencil, one: Lifted, other: Lifted)
 // A vertex inside the sphere drops the four; where the plane of (a, b, c) separates it from d, no four of this three counts, and the three is
 // left. The vertex that dropped the last four is looked at first, and with the d of the last three that was left it is tried on the next one.
 pub fn mark_fours(p: Polygon, masks: &mut [u64; faces::PAIRS]) -> bool
-    requires { ⌜ (Valid p) × (length (now masks) ≡ pairCount) ⌝ }
+    requires { ⌜ (ValidPolygon p) × (length (now masks) ≡ pairCount) ⌝ }
     ensures { λ r. ⌜ Put (isFaceOfFour p) (cospherical p) (now (masks .entry)) r (now (masks .exit)) ⌝ }
 {
     let n = p.n;

@@ -12,13 +12,13 @@ ghost use Prim.Native.Nat.{_<_};
 ghost use lib.ListN.{length};
 ghost use Rattle.lists.specs.Lists.{both};
 ghost use Rattle.faces.specs.Masks.{pairCount};
-ghost use Rattle.polygon.specs.Polygon.{Valid};
-ghost use Rattle.delaunay.specs.Candidates.{isFlat, isCorner};
+ghost use Rattle.polygon.specs.Polygon.{ValidPolygon};
+ghost use Rattle.delaunay.specs.Candidates.{isFlat, isOneOf};
 ghost use Rattle.delaunay.specs.Search.{Lifts, Searched, Marked, isOn, scannedAt};
 
 // The vertices as seen from vertex a.
 fn lift_vertices(p: Polygon, a: usize) -> [Lifted; terms::MAX_VERTICES]
-    requires { ⌜ (Valid p) × (a < p .n) ⌝ }
+    requires { ⌜ (ValidPolygon p) × (a < p .n) ⌝ }
     ensures { λ r. ⌜ Lifts p a r ⌝ }
 {
     let n = p.n;
@@ -33,7 +33,7 @@ fn lift_vertices(p: Polygon, a: usize) -> [Lifted; terms::MAX_VERTICES]
 
 // Are all vertices in one plane? They are where every two more are in one plane with vertices 0 and 1, which are two points.
 fn is_flat(p: Polygon) -> bool
-    requires { ⌜ Valid p ⌝ }
+    requires { ⌜ ValidPolygon p ⌝ }
     ensures { λ r. ⌜ r ≡ isFlat p ⌝ }
 {
     let n = p.n;
@@ -51,7 +51,7 @@ fn is_flat(p: Polygon) -> bool
 }
 
 fn is_corner(a: usize, b: usize, c: usize, v: usize) -> bool
-    ensures { λ r. ⌜ r ≡ isCorner a b c v ⌝ }
+    ensures { λ r. ⌜ r ≡ isOneOf a b c v ⌝ }
 {
     if v == a {
         return true;
@@ -64,7 +64,7 @@ fn is_corner(a: usize, b: usize, c: usize, v: usize) -> bool
 
 // Is vertex v, which lies at this place, on the sphere or the circle, and none of three corners?
 fn is_fourth(place: Position, a: usize, b: usize, c: usize, v: usize) -> bool
-    ensures { λ r. ⌜ r ≡ both (not (isCorner a b c v)) (isOn place) ⌝ }
+    ensures { λ r. ⌜ r ≡ both (not (isOneOf a b c v)) (isOn place) ⌝ }
 {
     if let Position::On = place {
         return !is_corner(a, b, c, v);
@@ -84,7 +84,7 @@ fn scanned(last: usize, i: usize) -> usize
 
 // Puts the candidates into the set, up to the first four, or three of a flat polygon, for which 12 is due: true there.
 fn search(p: Polygon, masks: &mut [u64; faces::PAIRS]) -> bool
-    requires { ⌜ (Valid p) × (length (now masks) ≡ pairCount) ⌝ }
+    requires { ⌜ (ValidPolygon p) × (length (now masks) ≡ pairCount) ⌝ }
     ensures { λ r. ⌜ Searched p (now (masks .entry)) r (now (masks .exit)) ⌝ }
 {
     if is_flat(p) {
@@ -95,7 +95,7 @@ fn search(p: Polygon, masks: &mut [u64; faces::PAIRS]) -> bool
 
 // Puts the candidates into the set; true where 12 is due, and the set is left empty then.
 pub fn mark_candidates(p: Polygon, masks: &mut [u64; faces::PAIRS]) -> bool
-    requires { ⌜ (Valid p) × (length (now masks) ≡ pairCount) ⌝ }
+    requires { ⌜ (ValidPolygon p) × (length (now masks) ≡ pairCount) ⌝ }
     ensures { λ r. ⌜ Marked p (now (masks .entry)) r (now (masks .exit)) ⌝ }
 {
     if search(p, masks) {

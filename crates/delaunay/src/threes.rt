@@ -9,14 +9,14 @@ ghost use mathlib.Core.Path.{_≡_};
 ghost use mathlib.Core.Bool.{true};
 ghost use lib.ListN.{length};
 ghost use Rattle.faces.specs.Masks.{pairCount};
-ghost use Rattle.polygon.specs.Polygon.{Valid};
+ghost use Rattle.polygon.specs.Polygon.{ValidPolygon};
 ghost use Rattle.delaunay.specs.Candidates.{isFlat, isCountedThree, cocircular};
 ghost use Rattle.delaunay.specs.Search.{Put};
 
 // Puts the threes that count into the set, up to the first that has a fourth vertex on its circle: true there. The vertex that dropped the last three is
 // looked at first.
 pub fn mark_threes(p: Polygon, masks: &mut [u64; faces::PAIRS]) -> bool
-    requires { ⌜ (Valid p) × (isFlat p ≡ true) × (length (now masks) ≡ pairCount) ⌝ }
+    requires { ⌜ (ValidPolygon p) × (isFlat p ≡ true) × (length (now masks) ≡ pairCount) ⌝ }
     ensures { λ r. ⌜ Put (isCountedThree p) (cocircular p) (now (masks .entry)) r (now (masks .exit)) ⌝ }
 {
     let n = p.n;

@@ -12,7 +12,7 @@ use lib.ListN.{length}
 use Rattle.lists.specs.Lists.{upFrom}
 use Rattle.lists.proofs.Choice.{Truth, holds, fails, truth, yes, no, true-not-false, either-left, either-right}
 use Rattle.polygon.specs.declared.Polygon.{Polygon}
-use Rattle.polygon.specs.Polygon.{codeOf, Valid, emptyPolygon}
+use Rattle.polygon.specs.Polygon.{codeOf, ValidPolygon, emptyPolygon}
 use Rattle.terms.specs.Numbers.{firstDue}
 use Rattle.polygon.proofs.Validity.{valid-code}
 use Rattle.reader.specs.declared.Status.the-variants.{Complete}
@@ -34,7 +34,7 @@ use Rattle.triangulator.specs.declared.Outcome.the-variants.{Refused}
 use Rattle.triangulator.specs.Call.{numberOf}
 use Rattle.triangulator.specs.Demands.{Taken, a-patch, a-none}
 use Rattle.triangulator.proofs.Demands.{settled-taken}
-use Rattle.pipeline.specs.Patching.{Tables, Patching, refused, rowsIn, jobIn, tablesShort, patched, patchBy, polygonNumber, fileNumber, patchFile}
+use Rattle.pipeline.specs.Patching.{Tables, Patching, refused, rowsIn, problemIn, tablesShort, patched, patchBy, polygonNumber, fileNumber, patchFile}
 use Rattle.demands.specs.Candidates.{Degenerate, on-sphere, on-circle}
 use Rattle.demands.specs.Demand1.{polygonIn, TooShort, triangles, candidates, weights, rows, work, CallDue, by-reader, twelve, thirteen}
 use Rattle.demands.proofs.Candidates.{degenerate-true, true-degenerate}
@@ -110,7 +110,7 @@ module _ (limit : ℕ) (file : List ℕ) (bytes : Bytes file) (t : Tables) where
     no-reader : (p : Place) (k : ℕ) → DueAt limit file p k → ⊥
     no-reader p k d = read-only-when limit file complete .none p k d
 
-    valid : Valid (polygonIn limit file)
+    valid : ValidPolygon (polygonIn limit file)
     valid = read-valid limit file complete bytes
 
     number-is : fileNumber limit file t ≡ polygonNumber (polygonIn limit file) t
@@ -161,7 +161,7 @@ module _ (limit : ℕ) (file : List ℕ) (bytes : Bytes file) (t : Tables) where
   taken : fileNumber limit file t ≡ 0 → Taken (patchFile limit file t .outcome)
   taken e =
       subst (λ (x : Patching). Taken (x .outcome)) (sym (accepted-by e))
-      (settled-taken (best (jobIn (polygonOf file))) (length (candidatesOf (polygonOf file))) (t .triangles) (t .work))
+      (settled-taken (best (problemIn (polygonOf file))) (length (candidatesOf (polygonOf file))) (t .triangles) (t .work))
 
   -- one number is the first that is due, or none is due; `first-unique` of the reader says that it is one only
   pub first-or-none : ((k : ℕ) × First (CallDue limit file t) k) ⊎ NoneDue (CallDue limit file t)
@@ -197,7 +197,7 @@ module _ (limit : ℕ) (file : List ℕ) (bytes : Bytes file) (t : Tables) where
 
   -- what an accepted call is, for demands 2 and 3
   pub record Accepted : Type 0 where
-    pub polygon-valid : Valid (polygonIn limit file)
+    pub polygon-valid : ValidPolygon (polygonIn limit file)
     pub call-is : patchFile limit file t ≡ patched (polygonIn limit file) t
 
   pub accepted : NoneDue (CallDue limit file t) → Accepted

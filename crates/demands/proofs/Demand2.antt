@@ -5,7 +5,7 @@ use Prim.Native.Nat.{ℕ, zero, suc, _-_, _≤_, _<_}
 use native.Mathlib.Omega.{arith}
 use lib.ListN.{length, length-map}
 use Rattle.polygon.specs.declared.Polygon.{Polygon}
-use Rattle.polygon.specs.Polygon.{Valid}
+use Rattle.polygon.specs.Polygon.{ValidPolygon}
 use Rattle.terms.specs.Entries.{entryAt, outer, inner, rowWeight}
 use Rattle.jobs.proofs.Order.{true-before, true-row-before, hangs-true, true-hangs, row-before-same}
 use Rattle.lists.proofs.Members.{entry-member, member-entry}
@@ -19,7 +19,7 @@ use Rattle.demands.specs.Demand2.{IsRow, Demand2}
 use Rattle.demands.proofs.Candidates.{true-candidate, candidate-true}
 use Rattle.finder.proofs.Accepted.{row-hinge, hinge-row, rows-in-order, candidates-in-order, weights-allowed}
 
-module _ (p : Polygon) (v : Valid p) where
+module _ (p : Polygon) (v : ValidPolygon p) where
   abbrev cs : List (List ℕ)
   cs = candidatesOf p
 

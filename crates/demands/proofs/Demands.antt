@@ -5,7 +5,7 @@ use Rattle.reader.specs.Order.{NoneDue}
 use Rattle.reader.specs.File.{Bytes}
 use Rattle.triangulation.specs.Demand3.{Demand3}
 use Rattle.triangulator.specs.Demands.{Handed}
-use Rattle.pipeline.specs.Patching.{Tables, jobIn, patchFile}
+use Rattle.pipeline.specs.Patching.{Tables, problemIn, patchFile}
 use Rattle.demands.specs.Demand1.{polygonIn, CallDue}
 use Rattle.demands.specs.Demand3.{ListsLeft, answerIn, handedBack, RightOfTables}
 use Rattle.demands.proofs.Demand1.{accepted}
@@ -18,7 +18,7 @@ module _ (limit : ℕ) (file : List ℕ) (bytes : Bytes file) (t : Tables) (none
 
   -- Demand 3: a patch exactly when the candidates hold a tiling, 'none' exactly when they hold none; the patch is a tiling in walk order with its own
   -- total; no tiling costs less, and each other that costs the same comes later in walk order
-  pub file-demand3 : Demand3 (jobIn (polygonIn limit file)) (answerIn (patchFile limit file t))
+  pub file-demand3 : Demand3 (problemIn (polygonIn limit file)) (answerIn (patchFile limit file t))
   file-demand3 = let a = accepted limit file bytes t none in patched-demand3 (polygonIn limit file) t (a .call-is) (a .polygon-valid)
 
   -- the same over the candidates, weights and rows that the call left in the tables, of which demand 2 speaks
@@ -26,5 +26,5 @@ module _ (limit : ℕ) (file : List ℕ) (bytes : Bytes file) (t : Tables) (none
   file-demand3-of-tables = let a = accepted limit file bytes t none in patched-demand3-of-tables (polygonIn limit file) t (a .call-is) (a .polygon-valid)
 
   -- what the caller is handed: after a patch its n - 2 triangles in walk order, each triangle of the tiling once; after 'none' nothing
-  pub file-handed : Handed (jobIn (polygonIn limit file)) (handedBack (patchFile limit file t)) (patchFile limit file t .outcome)
+  pub file-handed : Handed (problemIn (polygonIn limit file)) (handedBack (patchFile limit file t)) (patchFile limit file t .outcome)
   file-handed = let a = accepted limit file bytes t none in patched-handed (polygonIn limit file) t (a .call-is) (a .polygon-valid)

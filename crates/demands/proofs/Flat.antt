@@ -14,7 +14,7 @@ use Rattle.lists.proofs.Choice.{true-not-false}
 use Rattle.lists.proofs.Members.{no-members}
 use Rattle.terms.specs.Entries.{triple}
 use Rattle.polygon.specs.declared.Polygon.{Polygon}
-use Rattle.polygon.specs.Polygon.{Valid}
+use Rattle.polygon.specs.Polygon.{ValidPolygon}
 use Rattle.planar.specs.Planes.{OnOneLine}
 use Rattle.planar.specs.Circles.{collinear, distanceInPlane, strictlyInsideCircle}
 use Rattle.planar.proofs.Circles.{distance-q, distance-r}
@@ -29,12 +29,12 @@ use Rattle.reader.specs.File.{Bytes}
 use Rattle.reader.specs.Order.{Place, NoneDue}
 use Rattle.reader.specs.Due.{DueAt}
 use Rattle.triangulation.specs.Triangulations.{Answer, patch, best, bestKey, key, isTriangulation, totalWeight, preorderFrom, countBetween, countOutside}
-use Rattle.triangulation.specs.Jobs.{jobOf}
+use Rattle.triangulation.specs.Problems.{problemFrom}
 use Rattle.triangulation.specs.Demand3.{Triangulates}
 use Rattle.triangulation.proofs.Demand3.{demand3, members, triangle-count}
 use Rattle.triangulator.specs.declared.Outcome.the-variants.{Patch, None}
 use Rattle.triangulator.specs.Call.{numberOf, settled}
-use Rattle.pipeline.specs.Patching.{Tables, Patching, jobIn, refused, patchFile}
+use Rattle.pipeline.specs.Patching.{Tables, Patching, problemIn, refused, patchFile}
 use Rattle.pipeline.proofs.Values.{valid-job}
 use Rattle.demands.specs.Demand1.{CallDue, by-reader, twelve, polygonIn}
 use Rattle.demands.specs.Candidates.{Counts, Face, abc, abd, acd, bcd, Flat, CountsInPlane, Candidate, face, three, Cospherical, Cocircular, Degenerate, on-sphere, on-circle}
@@ -116,7 +116,7 @@ module _ (p : Polygon) (is3 : p .n ≡ 3) where
         (true-candidate p 0 1 2 (three (record { flat = three-flat; a<b = omega arith; b<c = omega arith; c<n = omega arith; proper = proper; empty = empty })) .3)
 
 -- its only tiling
-alone : (w : ℕ) (rows : List (List ℕ)) → best (jobOf 3 (triple 0 1 2 ∷ []) (w ∷ []) rows) ≡ patch w (0 ∷ [])
+alone : (w : ℕ) (rows : List (List ℕ)) → best (problemFrom 3 (triple 0 1 2 ∷ []) (w ∷ []) rows) ≡ patch w (0 ∷ [])
 unfolding bestKey key isTriangulation totalWeight preorderFrom countBetween countOutside
 alone w rows = ap (λ (x : ℕ). patch x (0 ∷ [])) (sum w)
   where
@@ -140,7 +140,7 @@ module _ (limit : ℕ) (file : List ℕ) (bytes : Bytes file) (t : Tables) (none
   abbrev rim : Polygon
   rim = polygonIn limit file
 
-  outcome-by : {a : Answer} → best (jobIn rim) ≡ a → patchFile limit file t .outcome ≡ settled a (length (candidatesOf rim)) (t .triangles) (t .work) .outcome
+  outcome-by : {a : Answer} → best (problemIn rim) ≡ a → patchFile limit file t .outcome ≡ settled a (length (candidatesOf rim)) (t .triangles) (t .work) .outcome
   outcome-by e =
       ap (λ (x : Patching). x .outcome) (accepted limit file bytes t none-due .call-is)
       ∙ ap (λ (a : Answer). settled a (length (candidatesOf rim)) (t .triangles) (t .work) .outcome) e
@@ -149,15 +149,15 @@ module _ (limit : ℕ) (file : List ℕ) (bytes : Bytes file) (t : Tables) (none
   pub line-gets-none : OnOneLine (vertex rim) (rim .n) → patchFile limit file t .outcome ≡ None
   line-gets-none h =
       let v = accepted limit file bytes t none-due .polygon-valid in
-      outcome-by (demand3 (jobIn rim) (valid-job rim v) .none-if (λ s m. no-tiling v s m))
+      outcome-by (demand3 (problemIn rim) (valid-job rim v) .none-if (λ s m. no-tiling v s m))
     where
-      no-tiling : Valid rim → (s : List ℕ) → Triangulates (jobIn rim) s → ⊥
-      no-tiling v [] m = omega (arith, triangle-count (jobIn rim) (valid-job rim v) [] m, v .least)
+      no-tiling : ValidPolygon rim → (s : List ℕ) → Triangulates (problemIn rim) s → ⊥
+      no-tiling v [] m = omega (arith, triangle-count (problemIn rim) (valid-job rim v) [] m, v .least)
       no-tiling v (k ∷ s) m =
           let n : length (candidatesOf rim) ≡ 0 = ap length (line-none rim h) in
-          omega (arith, members (jobIn rim) (valid-job rim v) (k ∷ s) m k (List·Memᴰ·head refl), n)
+          omega (arith, members (problemIn rim) (valid-job rim v) (k ∷ s) m k (List·Memᴰ·head refl), n)
 
   -- every other triangle gets a patch: itself, at its own weight
   pub triangle-gets-patch : rim .n ≡ 3 → collinear (vertex rim 0) (vertex rim 1) (vertex rim 2) ≡ false → patchFile limit file t .outcome ≡ Patch 1 (ownWeight rim (triple 0 1 2))
   triangle-gets-patch is3 proper =
-      outcome-by (ap best (λ i. jobOf (is3 i) (triangle-candidate rim is3 proper i) (weightsOf rim (triangle-candidate rim is3 proper i)) (rowsOf rim (triangle-candidate rim is3 proper i))) ∙ alone (ownWeight rim (triple 0 1 2)) (rowsOf rim (triple 0 1 2 ∷ [])))
+      outcome-by (ap best (λ i. problemFrom (is3 i) (triangle-candidate rim is3 proper i) (weightsOf rim (triangle-candidate rim is3 proper i)) (rowsOf rim (triangle-candidate rim is3 proper i))) ∙ alone (ownWeight rim (triple 0 1 2)) (rowsOf rim (triple 0 1 2 ∷ [])))

@@ -6,7 +6,7 @@ use native.Mathlib.Omega.{arith}
 use lib.ListN.{length, take, replicate}
 use Rattle.lists.specs.Lists.{filled}
 use Rattle.polygon.specs.declared.Polygon.{Polygon}
-use Rattle.polygon.specs.Polygon.{Valid}
+use Rattle.polygon.specs.Polygon.{ValidPolygon}
 use Rattle.reader.specs.Order.{NoneDue}
 use Rattle.reader.specs.File.{Bytes}
 use Rattle.delaunay.specs.Candidates.{candidatesOf}
@@ -20,7 +20,7 @@ use Rattle.judge.specs.Call.{result, judged}
 use Rattle.judge.specs.Demands.{JobAccepted}
 use Rattle.triangulator.proofs.Demands.{patch-handed}
 use Rattle.judge.proofs.Demands.{handed-accepted}
-use Rattle.pipeline.specs.Patching.{Tables, weightsIn, rowsIn, jobIn, patchFile}
+use Rattle.pipeline.specs.Patching.{Tables, weightsIn, rowsIn, problemIn, patchFile}
 use Rattle.pipeline.proofs.Accepted.{lists-accepted}
 use Rattle.demands.specs.Demand1.{polygonIn, CallDue}
 use Rattle.demands.proofs.Demand1.{taken-only-when, accepted}
@@ -28,7 +28,7 @@ use Rattle.demands.proofs.Demands.{file-handed}
 use Rattle.demands.proofs.Patched.{first-candidates, first-weights, first-rows}
 
 -- none of 13 to 17 is due on the lists of a rim beside a work table that is long enough (rule 4.36)
-pub rim-job-accepted : (p : Polygon) → Valid p → (workPlaces : ℕ) → length (candidatesOf p) ≤ workPlaces → JobAccepted (p .n) (candidatesOf p) (weightsIn p) (rowsIn p) workPlaces
+pub rim-job-accepted : (p : Polygon) → ValidPolygon p → (workPlaces : ℕ) → length (candidatesOf p) ≤ workPlaces → JobAccepted (p .n) (candidatesOf p) (weightsIn p) (rowsIn p) workPlaces
 rim-job-accepted p v workPlaces h =
     fitting-accepted (p .n) (candidatesOf p) (weightsIn p) (rowsIn p) (p .n - 2) workPlaces
     (record { at-least = v .least; at-most = v .most; triangle-room = omega arith; work-room = h; lists = lists-accepted p v })
@@ -55,4 +55,4 @@ module _ (limit : ℕ) (file : List ℕ) (bytes : Bytes file) (t : Tables) where
       (λ i. judged (p .n) (first-candidates p t is i) (first-weights p t is i) (first-rows p t is i) (partOf (Patch count total) (left .triangles)) total work)
       ∙ handed-accepted (p .n) (candidatesOf p) (weightsIn p) (rowsIn p) total (partOf (Patch count total) (left .triangles)) work
       (rim-job-accepted p (accepted limit file bytes t none .polygon-valid) (length work) room)
-      (patch-handed (subst (λ (o : Outcome). Handed (jobIn p) (partOf o (left .triangles)) o) e (file-handed limit file bytes t none)))
+      (patch-handed (subst (λ (o : Outcome). Handed (problemIn p) (partOf o (left .triangles)) o) e (file-handed limit file bytes t none)))

@@ -10,7 +10,7 @@ use Rattle.terms.specs.Limits.{minVertices, maxVertices, trimVertices, countFit
 use Rattle.terms.specs.Numbers.{firstDue}
 use Rattle.reader.specs.File.{Bytes}
 use Rattle.reader.specs.Order.{Place, request, Precedes, by-number}
-use Rattle.reader.specs.Due.{HasRecords, AtMost, limit-wrong}
+use Rattle.reader.specs.Due.{HasRecords, ChainAtMost, limit-wrong}
 use Rattle.reader.specs.Reading.{polygonOf, readingOf}
 use Rattle.reader.specs.declared.Status.the-variants.{Complete}
 use Rattle.reader.proofs.Limits.{number-alike, reading-alike, number-over, read-at-most, due-5, due-20}
@@ -28,7 +28,7 @@ use Rattle.demands.proofs.Demand1.{refused-first, given-first}
 
 module _ {small large : ℕ} (least : minVertices ≤ small) (below : small ≤ large) (most : large ≤ maxVertices) (file : List ℕ) where
   -- a chain of no more records than the smaller limit, whatever else is wrong with the file
-  pub one-answer : AtMost file small → OneAnswer small large file
+  pub one-answer : ChainAtMost file small → OneAnswer small large file
   unfolding patchFile sizesFile
   one-answer few =
       let n = number-alike least below most file few in
@@ -87,7 +87,7 @@ module _ (limit : ℕ) (file : List ℕ) (bytes : Bytes file) (t : Tables) where
 
 -- ---- the programs trim and bench (rules 5.3, 5.9)
 module _ (file : List ℕ) where
-  pub trim-as-bench : AtMost file trimVertices → OneAnswer trimVertices maxVertices file
+  pub trim-as-bench : ChainAtMost file trimVertices → OneAnswer trimVertices maxVertices file
   trim-as-bench = one-answer (omega arith) (omega arith) (omega arith) file
 
   pub trim-not-5 : Bytes file → (t : Tables) → numberOf (patchFile trimVertices file t .outcome) ≡ 5 → ⊥

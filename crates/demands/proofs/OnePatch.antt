@@ -8,7 +8,7 @@ use lib.ListN.{length, getD, length-map}
 use Rattle.lists.specs.Lists.{filled}
 use Rattle.lists.proofs.Writing.{filled-at}
 use Rattle.polygon.specs.declared.Polygon.{Polygon}
-use Rattle.polygon.specs.Polygon.{Valid}
+use Rattle.polygon.specs.Polygon.{ValidPolygon}
 use Rattle.reader.specs.File.{Bytes}
 use Rattle.reader.specs.Order.{Place, First, NoneDue}
 use Rattle.delaunay.specs.Candidates.{candidatesOf}
@@ -20,7 +20,7 @@ use Rattle.triangulator.specs.declared.Outcome.{Outcome}
 use Rattle.triangulator.specs.declared.Outcome.the-variants.{None, Refused}
 use Rattle.triangulator.specs.Call.{trianglesOf, settled}
 use Rattle.triangulator.proofs.Settling.{part-patch, part-empty}
-use Rattle.pipeline.specs.Patching.{Tables, Patching, patching, weightsIn, jobIn, patchedBy, patched, patchFile}
+use Rattle.pipeline.specs.Patching.{Tables, Patching, patching, weightsIn, problemIn, patchedBy, patched, patchFile}
 use Rattle.pipeline.proofs.Values.{valid-job}
 use Rattle.demands.specs.Demand1.{polygonIn, CallDue, by-reader, twelve, thirteen}
 use Rattle.demands.specs.Demand3.{handedBack}
@@ -48,15 +48,15 @@ filled-alike : {A : Type 0} (l s t : List A) (d : A) {k : ℕ} → k < length l 
 filled-alike l s t d {k} h = filled-at l s k d h ∙ sym (filled-at l t k d h)
 
 -- the answer to a polygon on which no number is due
-module _ (p : Polygon) (valid : Valid p) (s t : Tables) where
+module _ (p : Polygon) (valid : ValidPolygon p) (s t : Tables) where
   answered : Answer → Tables → Patching
   answered a lent = patchedBy (settled a (length (candidatesOf p)) (lent .triangles) (lent .work)) (weightsIn p) p lent
 
   -- the triangles of a patch are candidates
-  below : {total : ℕ} {l : List ℕ} → Optimal (jobIn p) total l → (k : ℕ) → List·Memᴰ k l → k < length (candidatesOf p)
-  below {total} {l} o k m = let b = handed-back (jobIn p) (valid-job p valid) total l o in members (jobIn p) (valid-job p valid) (b .right .set) (b .right .tiles) k (b .once .only k m)
+  below : {total : ℕ} {l : List ℕ} → Optimal (problemIn p) total l → (k : ℕ) → List·Memᴰ k l → k < length (candidatesOf p)
+  below {total} {l} o k m = let b = handed-back (problemIn p) (valid-job p valid) total l o in members (problemIn p) (valid-job p valid) (b .right .set) (b .right .tiles) k (b .once .only k m)
 
-  same-answer : (a : Answer) → ((total : ℕ) (l : List ℕ) → a ≡ patch total l → Optimal (jobIn p) total l) → SamePatch (answered a s) (answered a t)
+  same-answer : (a : Answer) → ((total : ℕ) (l : List ℕ) → a ≡ patch total l → Optimal (problemIn p) total l) → SamePatch (answered a s) (answered a t)
   unfolding answered
   same-answer none o = same-empty None refl (answered none s .left) (answered none t .left)
   same-answer (patch total l) o =
@@ -72,7 +72,7 @@ module _ (p : Polygon) (valid : Valid p) (s t : Tables) where
 
   same-patched : SamePatch (patched p s) (patched p t)
   unfolding answered
-  same-patched = same-answer (best (jobIn p)) (demand3 (jobIn p) (valid-job p valid) .patch-is)
+  same-patched = same-answer (best (problemIn p)) (demand3 (problemIn p) (valid-job p valid) .patch-is)
 
 module _ (limit : ℕ) (file : List ℕ) where
   -- 13 aside, a number is due by the file alone

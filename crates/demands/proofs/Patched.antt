@@ -3,15 +3,15 @@ use mathlib.Core.Path.{_≡_, refl, sym, ap, _∙_, subst}
 use lib.ListN.{length, take}
 use Rattle.lists.proofs.Writing.{filled-take}
 use Rattle.polygon.specs.declared.Polygon.{Polygon}
-use Rattle.polygon.specs.Polygon.{Valid}
+use Rattle.polygon.specs.Polygon.{ValidPolygon}
 use Rattle.delaunay.specs.Candidates.{candidatesOf}
-use Rattle.triangulation.specs.Triangulations.{Job, Answer, best}
-use Rattle.triangulation.specs.Jobs.{jobOf}
+use Rattle.triangulation.specs.Triangulations.{Problem, Answer, best}
+use Rattle.triangulation.specs.Problems.{problemFrom}
 use Rattle.triangulation.specs.Demand3.{Demand3}
 use Rattle.triangulation.proofs.Demand3.{demand3}
 use Rattle.triangulator.specs.Demands.{Handed}
 use Rattle.triangulator.proofs.Demands.{settled-states, settled-handed}
-use Rattle.pipeline.specs.Patching.{Tables, Patching, weightsIn, rowsIn, jobIn, patched}
+use Rattle.pipeline.specs.Patching.{Tables, Patching, weightsIn, rowsIn, problemIn, patched}
 use Rattle.pipeline.proofs.Values.{valid-job}
 use Rattle.pipeline.proofs.Accepted.{weight-count}
 use Rattle.demands.specs.Demand3.{ListsLeft, jobLeft, answerIn, handedBack, RightOfTables}
@@ -29,22 +29,22 @@ module _ (p : Polygon) (t : Tables) {x : Patching} (e : x ≡ patched p t) where
   first-rows = ap (λ (x : Patching). take (length (rowsIn p)) (x .left .rows)) e ∙ filled-take (rowsIn p) (t .rows) (length (rowsIn p)) refl
 
   -- so they state the polygon's job
-  pub job-left : jobLeft p (x .left) ≡ jobIn p
-  job-left = λ i. jobOf (p .n) (first-candidates i) (first-weights i) (first-rows i)
+  pub job-left : jobLeft p (x .left) ≡ problemIn p
+  job-left = λ i. problemFrom (p .n) (first-candidates i) (first-weights i) (first-rows i)
 
-  module _ (v : Valid p) where
+  module _ (v : ValidPolygon p) where
     pub patched-demand2 : ListsLeft p t (x .left)
     patched-demand2 = subst (λ (x : Patching). ListsLeft p t (x .left)) (sym e) (filled-hold p v (t .candidates) (t .weights) (t .rows))
 
-    pub patched-demand3 : Demand3 (jobIn p) (answerIn x)
+    pub patched-demand3 : Demand3 (problemIn p) (answerIn x)
     patched-demand3 =
-        subst (λ (a : Answer). Demand3 (jobIn p) a) (sym (ap answerIn e ∙ settled-states (best (jobIn p)) (length (candidatesOf p)) (t .triangles) (t .work)))
-        (demand3 (jobIn p) (valid-job p v))
+        subst (λ (a : Answer). Demand3 (problemIn p) a) (sym (ap answerIn e ∙ settled-states (best (problemIn p)) (length (candidatesOf p)) (t .triangles) (t .work)))
+        (demand3 (problemIn p) (valid-job p v))
 
     pub patched-demand3-of-tables : RightOfTables p x
-    patched-demand3-of-tables = subst (λ (j : Job). Demand3 j (answerIn x)) (sym job-left) patched-demand3
+    patched-demand3-of-tables = subst (λ (j : Problem). Demand3 j (answerIn x)) (sym job-left) patched-demand3
 
-    pub patched-handed : Handed (jobIn p) (handedBack x) (x .outcome)
+    pub patched-handed : Handed (problemIn p) (handedBack x) (x .outcome)
     patched-handed =
-        subst (λ (x : Patching). Handed (jobIn p) (handedBack x) (x .outcome)) (sym e)
-        (settled-handed (jobIn p) (valid-job p v) (length (candidatesOf p)) (t .triangles) (t .work))
+        subst (λ (x : Patching). Handed (problemIn p) (handedBack x) (x .outcome)) (sym e)
+        (settled-handed (problemIn p) (valid-job p v) (length (candidatesOf p)) (t .triangles) (t .work))

@@ -20,7 +20,7 @@ use Rattle.triangulator.specs.Call.{numberOf}
 use Rattle.triangulator.specs.Demands.{Taken, a-patch, a-none}
 use Rattle.triangulator.specs.declared.Outcome.{Outcome}
 use Rattle.triangulator.proofs.Demands.{settled-taken}
-use Rattle.pipeline.specs.Patching.{Tables, Patching, refused, jobIn, tablesShort, patchBy, polygonNumber, fileNumber, patchFile}
+use Rattle.pipeline.specs.Patching.{Tables, Patching, refused, problemIn, tablesShort, patchBy, polygonNumber, fileNumber, patchFile}
 use Rattle.pipeline.specs.Sizes.{sizesNumber, sizesFile}
 use Rattle.demands.specs.Demand1.{TooShort, triangles, candidates, weights, rows, work}
 use Rattle.demands.proofs.Demand1.{short-true, true-short}
@@ -83,7 +83,7 @@ module _ (limit : ℕ) (file : List ℕ) (t : Tables) where
         by (holds s) = absurd (h (subst (λ (n : Places). TooShort n t) (sized .places-are) (short-true (polygonOf file) t s)))
         by (fails s) =
             subst (λ (x : Patching). Taken (x .outcome)) (sym (call-is (then-13 (sized .none-due) ∙ ap (λ (b : Bool). cond b 13 0) s)))
-            (settled-taken (best (jobIn (polygonOf file))) (length (candidatesOf (polygonOf file))) (t .triangles) (t .work))
+            (settled-taken (best (problemIn (polygonOf file))) (length (candidatesOf (polygonOf file))) (t .triangles) (t .work))
 
     -- so 13 is given only where one is shorter
     pub only-13 : numberOf (patchFile limit file t .outcome) ≡ 13 → TooShort needed t

@@ -8,7 +8,7 @@ use lib.Seq.{drop-at}
 use Rattle.lists.specs.Lists.{filled}
 use Rattle.lists.proofs.Writing.{filled-take}
 use Rattle.polygon.specs.declared.Polygon.{Polygon}
-use Rattle.polygon.specs.Polygon.{Valid}
+use Rattle.polygon.specs.Polygon.{ValidPolygon}
 use Rattle.polygon.proofs.Validity.{code-valid}
 use Rattle.delaunay.specs.Candidates.{candidatesOf}
 use Rattle.dihedrals.specs.Dihedrals.{rowsOf}
@@ -20,7 +20,7 @@ use Rattle.demands.specs.Demand2.{TablesHold}
 use Rattle.demands.proofs.Demand2.{demand-2}
 
 -- the lists in the first places
-pub filled-hold : (p : Polygon) → Valid p → (candidates : List (List ℕ)) (weights : List ℕ) (rows : List (List ℕ)) →
+pub filled-hold : (p : Polygon) → ValidPolygon p → (candidates : List (List ℕ)) (weights : List ℕ) (rows : List (List ℕ)) →
     TablesHold p (length (candidatesOf p)) (length (rowsOf p (candidatesOf p))) candidates weights rows
     (filled (candidatesOf p) candidates) (filled (weightsOf p (candidatesOf p)) weights) (filled (rowsOf p (candidatesOf p)) rows)
 filled-hold p v candidates weights rows =
@@ -48,7 +48,7 @@ find-hold p candidates weights rows count row-count e = by (findNumber p candida
         TablesHold p count row-count candidates weights rows (findBy k p candidates weights rows .candidates) (findBy k p candidates weights rows .weights) (findBy k p candidates weights rows .rows)
     by (suc k) n d = absurd (let z : _≡_ {A = ℕ} 0 1 = cc in omega arith)
     by zero n d =
-        let v : Valid p = code-valid p (clear p (shortTables p candidates weights rows) n .code) in
+        let v : ValidPolygon p = code-valid p (clear p (shortTables p candidates weights rows) n .code) in
         let c : count ≡ length (candidatesOf p) = cc in
         let r : row-count ≡ length (rowsOf p (candidatesOf p)) = cc in
         rw (c, r) (filled-hold p v candidates weights rows)

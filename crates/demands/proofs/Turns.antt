@@ -7,7 +7,7 @@ use Rattle.reader.specs.File.{Bytes}
 use Rattle.reader.specs.Order.{NoneDue}
 use Rattle.delaunay.specs.Candidates.{candidatesOf}
 use Rattle.triangulation.specs.Triangulations.{Answer, patch}
-use Rattle.triangulation.specs.Jobs.{jobOf}
+use Rattle.triangulation.specs.Problems.{problemFrom}
 use Rattle.triangulation.specs.Demand3.{Demand3}
 use Rattle.triangulation.proofs.Demand3.{demand3-unique}
 use Rattle.minimum_weight.specs.Tables.{WellFormed}
@@ -19,7 +19,7 @@ use Rattle.triangulator.specs.Call.{triangulated}
 use Rattle.triangulator.specs.Demands.{stated}
 use Rattle.triangulator.proofs.Accepting.{well-formed, accepted-well-formed}
 use Rattle.triangulator.proofs.Demands.{job-demand3}
-use Rattle.pipeline.specs.Patching.{Tables, weightsIn, rowsIn, jobIn, patchFile}
+use Rattle.pipeline.specs.Patching.{Tables, weightsIn, rowsIn, problemIn, patchFile}
 use Rattle.pipeline.proofs.Accepted.{lists-accepted}
 use Rattle.demands.specs.Demand1.{polygonIn, CallDue}
 use Rattle.demands.proofs.Demand1.{accepted}
@@ -27,19 +27,19 @@ use Rattle.demands.proofs.Demands.{file-demand3}
 
 module _ (n : ℕ) (candidates : List (List ℕ)) (weights : List ℕ) (rows : List (List ℕ)) where
   -- an answer of which demand 3 holds is the answer
-  right-answer : WellFormed n candidates weights rows → (a : Answer) → Demand3 (jobOf n candidates weights rows) a → (total : ℕ) (l : List ℕ) → a ≡ patch total l → TurnByTurn (jobOf n candidates weights rows) l
-  right-answer ok a d total l e = turn-by-turn n candidates weights rows ok total l (sym (demand3-unique (jobOf n candidates weights rows) (ok .valid) a d) ∙ e)
+  right-answer : WellFormed n candidates weights rows → (a : Answer) → Demand3 (problemFrom n candidates weights rows) a → (total : ℕ) (l : List ℕ) → a ≡ patch total l → TurnByTurn (problemFrom n candidates weights rows) l
+  right-answer ok a d total l e = turn-by-turn n candidates weights rows ok total l (sym (demand3-unique (problemFrom n candidates weights rows) (ok .valid) a d) ∙ e)
 
   -- of every patch that the call for direct jobs gives
   pub job-turn-by-turn : (triangles work : List ℕ) → Accepted n candidates weights rows (length triangles) (length work) → (total : ℕ) (l : List ℕ)
-      → stated (triangulated n candidates weights rows triangles work .outcome) (triangulated n candidates weights rows triangles work .triangles) ≡ patch total l → TurnByTurn (jobOf n candidates weights rows) l
+      → stated (triangulated n candidates weights rows triangles work .outcome) (triangulated n candidates weights rows triangles work .triangles) ≡ patch total l → TurnByTurn (problemFrom n candidates weights rows) l
   job-turn-by-turn triangles work a =
       right-answer (accepted-well-formed n candidates weights rows (length triangles) (length work) (accepted-zero n candidates weights rows (length triangles) (length work) a) .0)
       _ (job-demand3 n candidates weights rows triangles work a)
 
 -- and of every patch that the one call gives
 pub file-turn-by-turn : (limit : ℕ) (file : List ℕ) → Bytes file → (t : Tables) → NoneDue (CallDue limit file t) → (total : ℕ) (l : List ℕ)
-    → stated (patchFile limit file t .outcome) (patchFile limit file t .left .triangles) ≡ patch total l → TurnByTurn (jobIn (polygonIn limit file)) l
+    → stated (patchFile limit file t .outcome) (patchFile limit file t .left .triangles) ≡ patch total l → TurnByTurn (problemIn (polygonIn limit file)) l
 file-turn-by-turn limit file bytes t none =
     let p = polygonIn limit file in
     let v = accepted limit file bytes t none .polygon-valid in

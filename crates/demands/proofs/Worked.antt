@@ -33,12 +33,12 @@ use Rattle.dihedrals.specs.Dihedrals.{rowsOf}
 use Rattle.weights.specs.Weights.{edgeNormal, outsideWeightOf, weightsOf}
 use Rattle.jobs.specs.Job.{ascends, before, candidateFits, hangs, namesPair, rowBefore, rowFits, listsCode, jobCode}
 use Rattle.finder.specs.Finding.{short, numberDue}
-use Rattle.triangulation.specs.Triangulations.{Job, Answer, best, patch, bestKey, key, isTriangulation, totalWeight, preorderFrom, countBetween, countOutside}
-use Rattle.triangulation.specs.Jobs.{jobOf}
+use Rattle.triangulation.specs.Triangulations.{Problem, Answer, best, patch, bestKey, key, isTriangulation, totalWeight, preorderFrom, countBetween, countOutside}
+use Rattle.triangulation.specs.Problems.{problemFrom}
 use Rattle.triangulator.specs.Call.{settled, triangulated}
 use Rattle.validation.specs.Validation.{named, isTiling, listTotal, listCode}
 use Rattle.judge.specs.Call.{judgeCode, judged}
-use Rattle.pipeline.specs.Patching.{tables, Patching, patching, jobIn, tablesShort, patched, patchBy, polygonNumber, fileNumber, patchPolygon, patchFile}
+use Rattle.pipeline.specs.Patching.{tables, Patching, patching, problemIn, tablesShort, patched, patchBy, polygonNumber, fileNumber, patchPolygon, patchFile}
 use Rattle.demands.specs.Worked.{Case, of-file, of-tilings, fileP, fileN, lentP, withTotals, worked}
 
 -- ---- rim file P and the same rim with normals
@@ -64,8 +64,8 @@ triplesP = triple 0 1 2 ∷ triple 0 1 3 ∷ triple 0 2 3 ∷ triple 1 2 3 ∷ [
 abbrev rowsP : List (List ℕ)
 rowsP = triple 1 3 312 ∷ triple 2 0 360 ∷ []
 
-abbrev job : List ℕ → Job
-job weights = jobOf 4 triplesP weights rowsP
+abbrev job : List ℕ → Problem
+job weights = problemFrom 4 triplesP weights rowsP
 
 -- what is read of the bytes
 number-P : reader.numberDue maxVertices fileP ≡ 0
@@ -147,8 +147,8 @@ module _ (normals : List Normal) {w : List ℕ} (weighs : weightsOf (rimWith nor
   rows-are : rowsOf (rimWith normals) (candidatesOf (rimWith normals)) ≡ rowsP
   rows-are = ap (rowsOf (rimWith normals)) (candidates-are normals) ∙ rows-of normals
 
-  job-is : jobIn (rimWith normals) ≡ job w
-  job-is i = jobOf 4 (candidates-are normals i) (weights-are i) (rows-are i)
+  job-is : problemIn (rimWith normals) ≡ job w
+  job-is i = problemFrom 4 (candidates-are normals i) (weights-are i) (rows-are i)
 
   -- a file that gives it, and the best tiling
   module _ (file : List ℕ) {a : Answer} (number : reader.numberDue maxVertices file ≡ 0) (reads : polygonOf file ≡ rimWith normals) (code : codeOf (rimWith normals) ≡ 0) (is-best : best (job w) ≡ a) where
@@ -186,4 +186,4 @@ unfolding gridNumberOf ofBits finite numerator denominator negative inRange roun
 others-hold = refl
 
 pub worked-hold : map (λ c. c .computed) worked ≡ map (λ c. c .expected) worked
-worked-hold = λ i. of-file (file-P i) ∷ of-tilings ((ap (λ (p : Polygon). withTotals (jobIn p)) polygon-P ∙ ap withTotals (job-is none weights-P) ∙ tilings-P) i) ∷ of-file (file-N i) ∷ (rims-hold i ++ others-hold i)
+worked-hold = λ i. of-file (file-P i) ∷ of-tilings ((ap (λ (p : Polygon). withTotals (problemIn p)) polygon-P ∙ ap withTotals (job-is none weights-P) ∙ tilings-P) i) ∷ of-file (file-N i) ∷ (rims-hold i ++ others-hold i)

@@ -4,8 +4,8 @@ use mathlib.Core.List.{List, [], _∷_, _++_, map, reverse}
 use lib.ListN.{replicate}
 use Rattle.terms.specs.Limits.{maxVertices}
 use Rattle.terms.specs.Entries.{triple}
-use Rattle.triangulation.specs.Triangulations.{Job, upFrom}
-use Rattle.triangulation.specs.Jobs.{jobOf}
+use Rattle.triangulation.specs.Triangulations.{Problem, upFrom}
+use Rattle.triangulation.specs.Problems.{problemFrom}
 
 -- (0, 1, 3); then (0, 3, 5), .. , (0, 61, 63); and on the right of each (1, 2, 3), .. , (61, 62, 63)
 unfoldable pub comb : List (List ℕ)
@@ -16,8 +16,8 @@ unfoldable pub ones : List ℕ
 ones = replicate 62 1
 
 -- there are no rows
-abbrev pub combJob : Job
-combJob = jobOf maxVertices comb ones []
+abbrev pub combJob : Problem
+combJob = problemFrom maxVertices comb ones []
 
 -- walk order: the long ones from the last to the first, then those on their right
 unfoldable pub combWalk : List ℕ

@@ -4,8 +4,8 @@ use Prim.Native.Nat.{ℕ}
 use lib.ListN.{take}
 use Rattle.polygon.specs.declared.Polygon.{Polygon}
 use Rattle.finder.specs.Sizes.{placesOf}
-use Rattle.triangulation.specs.Triangulations.{Job, Answer}
-use Rattle.triangulation.specs.Jobs.{jobOf}
+use Rattle.triangulation.specs.Triangulations.{Problem, Answer}
+use Rattle.triangulation.specs.Problems.{problemFrom}
 use Rattle.triangulation.specs.Demand3.{Demand3}
 use Rattle.triangulator.specs.Call.{partOf}
 use Rattle.triangulator.specs.Demands.{stated}
@@ -18,9 +18,9 @@ ListsLeft p t left =
     TablesHold p (placesOf p .candidates) (placesOf p .rows) (t .candidates) (t .weights) (t .rows) (left .candidates) (left .weights) (left .rows)
 
 -- the job that the first places of these tables state (rules 3.1, 3.9)
-abbrev pub jobLeft : Polygon → Tables → Job
+abbrev pub jobLeft : Polygon → Tables → Problem
 jobLeft p left =
-    jobOf (p .n) (take (placesOf p .candidates) (left .candidates)) (take (placesOf p .candidates) (left .weights)) (take (placesOf p .rows) (left .rows))
+    problemFrom (p .n) (take (placesOf p .candidates) (left .candidates)) (take (placesOf p .candidates) (left .weights)) (take (placesOf p .rows) (left .rows))
 
 -- the triangles that a call hands back, as candidate numbers in walk order (rule 3.8)
 abbrev pub handedBack : Patching → List ℕ

@@ -17,14 +17,14 @@ use Rattle.polygon.specs.declared.Polygon.{Polygon}
 use Rattle.polygon.specs.declared.normal.Normal.{Normal}
 use Rattle.polygon.specs.Normal.{normal}
 use Rattle.reader.specs.Reading.{polygonOf}
-use Rattle.triangulation.specs.Triangulations.{Job, triangulations, totalWeight}
+use Rattle.triangulation.specs.Triangulations.{Problem, triangulations, totalWeight}
 use Rattle.triangulator.specs.declared.Outcome.the-variants.{Patch, None, Refused}
 use Rattle.triangulator.specs.Call.{Result, result}
 use Rattle.triangulator.specs.Cases.{Lists, lists, answered, single, listsP, ties}
 use Rattle.judge.specs.declared.Judgement.the-variants as judgement
 use Rattle.judge.specs.Call as judge
 use Rattle.judge.specs.Cases.{judgedOn, accepted, refused}
-use Rattle.pipeline.specs.Patching.{Tables, tables, Patching, patching, jobIn, patchPolygon, patchFile}
+use Rattle.pipeline.specs.Patching.{Tables, tables, Patching, patching, problemIn, patchPolygon, patchFile}
 
 -- what a case computes: what the one call on a file or a polygon, or the call for a direct job, answers and leaves, and what the judge does; tilings; a bend; a grid number
 pub data Value : Type 0 where
@@ -66,7 +66,7 @@ abbrev pub lentP : Tables
 lentP = tables (replicate 3 9) (replicate 5 (triple 9 9 9)) (replicate 5 9) (replicate 3 (triple 9 9 9)) (replicate 5 9)
 
 -- all tilings of a job, each after its total
-abbrev pub withTotals : Job → List (List ℕ)
+abbrev pub withTotals : Problem → List (List ℕ)
 withTotals job = map (λ s. totalWeight job s ∷ s) (triangulations job)
 
 abbrev pub upward : Vector
@@ -122,7 +122,7 @@ worked =
     (80 ∷ 64 ∷ 80 ∷ 93 ∷ 9 ∷ [])
     (triple 1 3 312 ∷ triple 2 0 360 ∷ triple 9 9 9 ∷ [])
     (0 ∷ 0 ∷ 0 ∷ 0 ∷ 9 ∷ []))))
-    ∷ case (of-tilings (withTotals (jobIn (polygonOf fileP)))) (of-tilings ((520 ∷ 0 ∷ 2 ∷ []) ∷ (469 ∷ 1 ∷ 3 ∷ []) ∷ []))
+    ∷ case (of-tilings (withTotals (problemIn (polygonOf fileP)))) (of-tilings ((520 ∷ 0 ∷ 2 ∷ []) ∷ (469 ∷ 1 ∷ 3 ∷ []) ∷ []))
     -- rule 6.6: with normals outside two edges of a candidate
     ∷ case (of-file (patchFile maxVertices fileN lentP))
     (of-file (patching (Patch 2 809) (tables (1 ∷ 3 ∷ 9 ∷ [])

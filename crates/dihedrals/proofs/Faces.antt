@@ -9,7 +9,7 @@ use Rattle.lists.proofs.Maps.{map-at}
 use Rattle.lists.proofs.Writing.{taken}
 use Rattle.grid.specs.Point.{PointOnGrid}
 use Rattle.polygon.specs.declared.Polygon.{Polygon}
-use Rattle.polygon.specs.Polygon.{vertexAt, Valid}
+use Rattle.polygon.specs.Polygon.{vertexAt, ValidPolygon}
 use Rattle.geometry.specs.declared.Vector.{Vector}
 use Rattle.geometry.specs.Bounds.{maxNormal, Within}
 use Rattle.geometry.specs.Faces.{normalOf, lengthOf}
@@ -20,12 +20,12 @@ use Rattle.terms.specs.Entries.{entryAt, vertexA, vertexB, vertexC}
 use Rattle.dihedrals.specs.Dihedrals.{faceNormal, lengthsOf}
 use Rattle.dihedrals.specs.Lists.{Corners, Solid, Measured}
 
-pub face-within : {p : Polygon} {t : List ℕ} → Valid p → Corners p t → Within maxNormal (faceNormal p t)
+pub face-within : {p : Polygon} {t : List ℕ} → ValidPolygon p → Corners p t → Within maxNormal (faceNormal p t)
 face-within {p} {t} v c = normal-within (v .on-grid (vertexA t) (c .a<n)) (v .on-grid (vertexB t) (c .b<n)) (v .on-grid (vertexC t) (c .c<n))
 
 -- the corners of a candidate t, read as numbers
 pub record Read (p : Polygon) (t : List ℕ) (a b c : ℕ) : Type 0 where
-  pub valid : Valid p
+  pub valid : ValidPolygon p
   pub corners : Corners p t
   pub a-is : a ≡ vertexA t
   pub b-is : b ≡ vertexB t

@@ -4,7 +4,7 @@ use mathlib.Core.Path.{_≡_}
 use Prim.Native.Nat.{ℕ, _<_}
 use lib.ListN.{length}
 use Rattle.polygon.specs.declared.Polygon.{Polygon}
-use Rattle.polygon.specs.Polygon.{Valid}
+use Rattle.polygon.specs.Polygon.{ValidPolygon}
 use Rattle.geometry.specs.declared.Vector.{Vector}
 use Rattle.geometry.specs.Bounds.{maxNormal, Within}
 use Rattle.geometry.specs.Faces.{lengthOf}
@@ -20,7 +20,7 @@ pub record Corners (p : Polygon) (t : List ℕ) : Type 0 where
 
 -- candidates of a valid polygon, none of them with its corners on one line
 pub record Solid (p : Polygon) (candidates : List (List ℕ)) : Type 0 where
-  pub valid : Valid p
+  pub valid : ValidPolygon p
   pub sorted : Sorted candidates
   pub corners : (i : ℕ) → i < length candidates → Corners p (entryAt candidates i)
   pub normals : (i : ℕ) → i < length candidates → 0 < lengthOf (faceNormal p (entryAt candidates i))

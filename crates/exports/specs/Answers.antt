@@ -12,7 +12,7 @@ use Rattle.judge.specs.Call.{excessOf}
 use Rattle.judge.specs.Call as judge
 use Rattle.pipeline.specs.Patching.{Tables, Patching}
 use Rattle.converter.specs.declared.Conversion.{Conversion}
-use Rattle.converter.specs.Call.{Converting, editionOf, lengthOf}
+use Rattle.converter.specs.Call.{Converting, editionOf, convertedLength}
 use Rattle.converter.specs.Call as converter
 use Rattle.exports.specs.declared.ConvertAnswer.{ConvertAnswer}
 use Rattle.exports.specs.declared.PatchAnswer.{PatchAnswer}
@@ -91,7 +91,7 @@ sizesAnswerOf s =
 
 -- the number, the edition and the length of a conversion (rule 5.2), and with it the output table after the call (rule 5.7)
 abbrev pub convertAnswerOf : Conversion → ConvertAnswer
-convertAnswerOf c = record { number = converter.numberOf c; edition = editionOf c; length = lengthOf c }
+convertAnswerOf c = record { number = converter.numberOf c; edition = editionOf c; length = convertedLength c }
 
 pub record FileConversion : Type 0 where
   pub answer : ConvertAnswer

@@ -7,7 +7,7 @@ use native.Mathlib.Omega.{arith}
 use lib.Dec.{lit≤}
 use lib.ListN.{length}
 use Rattle.polygon.specs.declared.Polygon.{Polygon}
-use Rattle.polygon.specs.Polygon.{Valid}
+use Rattle.polygon.specs.Polygon.{ValidPolygon}
 use Rattle.geometry.specs.Vectors.{dotOf}
 use Rattle.geometry.specs.Faces.{lengthOf}
 use Rattle.geometry.proofs.Faces.{bend-weight-bound}
@@ -82,7 +82,7 @@ module _ (p : Polygon) (cs : List (List ℕ)) where
   }
 
 -- ---- the candidates of a valid polygon, and the weights
-module _ (p : Polygon) (v : Valid p) where
+module _ (p : Polygon) (v : ValidPolygon p) where
   pub candidates-in-order : lists.Candidates (p .n) (candidatesOf p)
   candidates-in-order = record {
     ordered = λ i h. let t = candidate-at p v i h in record {

@@ -8,7 +8,7 @@ use native.Mathlib.Omega.{arith}
 use lib.ListN.{length}
 use borrow.Author.Tests.{not-true}
 use Rattle.polygon.specs.declared.Polygon.{Polygon}
-use Rattle.polygon.specs.Polygon.{Valid}
+use Rattle.polygon.specs.Polygon.{ValidPolygon}
 use Rattle.geometry.specs.Faces.{normalOf, lengthOf}
 use Rattle.geometry.specs.Spheres.{coplanar}
 use Rattle.geometry.proofs.Faces.{normal-within, length-above-0, face-length-pqr, face-length-pqs, face-length-prs, face-length-qrs}
@@ -67,7 +67,7 @@ before-first (by-a h) = omega arith
 before-first (by-b e h) = omega arith
 before-first (by-c e d h) = omega arith
 
-module _ (p : Polygon) (v : Valid p) where
+module _ (p : Polygon) (v : ValidPolygon p) where
   pub candidate-at : (i : ℕ) → i < length (candidatesOf p) → Triple (p .n) (isCandidate p) (entryAt (candidatesOf p) i)
   candidate-at i h = triples-member (p .n) (isCandidate p) (entryAt (candidatesOf p) i) (entry-member (candidatesOf p) [] i h)
 

@@ -6,8 +6,8 @@ use native.Mathlib.Omega.{arith}
 use lib.ListN.{length, replicate}
 use Rattle.lists.specs.Lists.{filled}
 use Rattle.terms.specs.Numbers.{firstDue}
-use Rattle.triangulation.specs.Triangulations.{Job, Valid, best}
-use Rattle.triangulation.specs.Jobs.{jobOf}
+use Rattle.triangulation.specs.Triangulations.{Problem, ValidProblem, best}
+use Rattle.triangulation.specs.Problems.{problemFrom}
 use Rattle.triangulation.specs.Demand3.{HandedBack}
 use Rattle.jobs.specs.Job.{codeWithoutTriangles}
 use Rattle.jobs.proofs.Acceptance.{accepted-zero, accepted-beside}
@@ -30,10 +30,10 @@ not-both : {excess number : ℕ} → judgement.Accepted excess ≡ judgement.Ref
 not-both e = let z : _≡_ {A = ℕ} 0 1 = cc in omega arith
 
 module _ (n : ℕ) (candidates : List (List ℕ)) (weights : List ℕ) (rows : List (List ℕ)) where
-  abbrev job : Job
-  job = jobOf n candidates weights rows
+  abbrev job : Problem
+  job = problemFrom n candidates weights rows
 
-  pub valid : {workPlaces : ℕ} → JobAccepted n candidates weights rows workPlaces → Valid job
+  pub valid : {workPlaces : ℕ} → JobAccepted n candidates weights rows workPlaces → ValidProblem job
   valid {workPlaces} a = accepted-well-formed n candidates weights rows (n - 2) workPlaces (accepted-zero n candidates weights rows (n - 2) workPlaces a) .0 .valid
 
   module _ (list : List ℕ) (stated : ℕ) (work : List ℕ) where

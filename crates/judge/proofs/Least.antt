@@ -3,14 +3,14 @@ use Prim.Native.Nat.{ℕ, _-_, _≤_}
 use mathlib.Core.Path.{_≡_, refl}
 use mathlib.Core.List.{List, _∷_}
 use native.Mathlib.Omega.{arith}
-use Rattle.triangulation.specs.Triangulations.{Job, Valid, Answer, none, patch, totalWeight, bestKey, answerOf, best}
+use Rattle.triangulation.specs.Triangulations.{Problem, ValidProblem, Answer, none, patch, totalWeight, bestKey, answerOf, best}
 use Rattle.triangulation.specs.Recursion.{costOf}
 use Rattle.triangulation.specs.Demand3.{Triangulates}
 use Rattle.triangulation.proofs.Demand3.{demand3}
 use Rattle.judge.specs.Call.{excessOver}
 use Rattle.judge.specs.Demands.{Least, Excess}
 
-module _ (job : Job) (good : Valid job) (s : List ℕ) (tiles : Triangulates job s) where
+module _ (job : Problem) (good : ValidProblem job) (s : List ℕ) (tiles : Triangulates job s) where
   -- where there is a tiling, the answer has the least total
   pub data Known : Answer → Type 0 where
     known : (least : ℕ) (triangles : List ℕ) → Least job least → Known (patch least triangles)

@@ -10,8 +10,8 @@ use borrow.Author.Tests.{eqb-false, ne-eqb}
 use Rattle.lists.proofs.Choice.{yes, no, true-not-false, not-true-false}
 use Rattle.terms.specs.Numbers.{firstDue}
 use Rattle.terms.proofs.Numbers.{due-on, due-neither}
-use Rattle.triangulation.specs.Triangulations.{Job, totalWeight}
-use Rattle.triangulation.specs.Jobs.{jobOf}
+use Rattle.triangulation.specs.Triangulations.{Problem, totalWeight}
+use Rattle.triangulation.specs.Problems.{problemFrom}
 use Rattle.jobs.specs.Job.{unless, jobCode}
 use Rattle.jobs.specs.Due as job-due
 use Rattle.jobs.proofs.First.{firstOf, first-due, due-first}
@@ -29,8 +29,8 @@ first-unless true k rest next = refl
 first-unless false k rest next = refl
 
 module _ (n : ℕ) (candidates : List (List ℕ)) (weights : List ℕ) (rows : List (List ℕ)) (list : List ℕ) (stated workPlaces : ℕ) where
-  abbrev job : Job
-  job = jobOf n candidates weights rows
+  abbrev job : Problem
+  job = problemFrom n candidates weights rows
 
   abbrev code : ℕ
   code = judgeCode n candidates weights rows list stated workPlaces

@@ -6,8 +6,8 @@ use mathlib.Core.List.{List, [], _∷_, List·Memᴰ, List·Memᴰ·head, Memᴰ
 use native.Mathlib.Omega.{arith}
 use lib.ListN.{length, getD}
 use Rattle.lists.proofs.Choice.{Truth, truth, holds, fails, true-not-false}
-use Rattle.triangulation.specs.Triangulations.{Job, totalWeight}
-use Rattle.triangulation.specs.Jobs.{jobOf}
+use Rattle.triangulation.specs.Triangulations.{Problem, totalWeight}
+use Rattle.triangulation.specs.Problems.{problemFrom}
 use Rattle.triangulation.specs.Demand3.{Triangulates}
 use Rattle.jobs.specs.Due.{order}
 use Rattle.jobs.proofs.Failing.{due-listed}
@@ -22,8 +22,8 @@ use Rattle.judge.proofs.Numbers.{no-tiling-code, other-total-code}
 use Rattle.judge.proofs.Demands.{valid, by-code, given-first}
 
 module _ (n : ℕ) (candidates : List (List ℕ)) (weights : List ℕ) (rows : List (List ℕ)) (list : List ℕ) (stated : ℕ) (work : List ℕ) where
-  abbrev job : Job
-  job = jobOf n candidates weights rows
+  abbrev job : Problem
+  job = problemFrom n candidates weights rows
 
   -- a number that is due on an accepted job is one of the list's two
   of-list : {k : ℕ} → JudgeDue n candidates weights rows list stated (length work) k → JobAccepted n candidates weights rows (length work)

@@ -11,7 +11,7 @@ use Rattle.lists.proofs.Choice.{Truth, truth, holds, fails, true-not-false, not
 use Rattle.lists.proofs.Members.{member-entry}
 use Rattle.jobs.specs.Job.{unless}
 use Rattle.jobs.proofs.First.{unless-zero}
-use Rattle.triangulation.specs.Triangulations.{Job, only, keep, upFrom, isTriangulation, totalWeight}
+use Rattle.triangulation.specs.Triangulations.{Problem, only, keep, upFrom, isTriangulation, totalWeight}
 use Rattle.triangulation.proofs.Sums.{Mem, once-apart, Any, any, none, some}
 use Rattle.triangulation.proofs.PartsToSets.{upFrom-mem}
 use Rattle.triangulation.proofs.Least.{subset-mem}
@@ -32,7 +32,7 @@ apart-once (x ∷ list) h k = go (truth (eqb x k)) (any (λ y. eqb y k) list) (a
         let d = member-entry list 0 u m in
         absurd (h 0 (suc (d .at)) (omega arith) (omega (arith, d .below)) (eqb-true x k e ∙ sym (eqb-true u k t) ∙ sym (d .is)))
 
-module _ (job : Job) (list : List ℕ) where
+module _ (job : Problem) (list : List ℕ) where
   pub tiling-is : isTiling job list ≡ true → IsTiling job list (named job list)
   tiling-is e =
       let h = tiling-names job list e in
@@ -81,7 +81,7 @@ keep-same : (p q : ℕ → Bool) → ((k : ℕ) → p k ≡ q k) → (s : List �
 keep-same p q h [] = refl
 keep-same p q h (x ∷ s) = ap₂ (λ b r. cond b (x ∷ r) r) (h x) (keep-same p q h s)
 
-module _ (job : Job) where
+module _ (job : Problem) where
   same-named : (list list′ : List ℕ) → SameNumbers list list′ → named job list ≡ named job list′
   unfolding named
   same-named list list′ h = keep-same (λ k. ltb 0 (times k list)) (λ k. ltb 0 (times k list′)) (λ k. ap (ltb 0) (h k)) (upFrom 0 (job .size))

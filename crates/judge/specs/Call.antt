@@ -5,7 +5,7 @@ use lib.ListN.{length, replicate}
 use Rattle.lists.specs.Lists.{filled}
 use Rattle.terms.specs.Numbers.{firstDue}
 use Rattle.triangulation.specs.Triangulations.{Answer, none, patch, best}
-use Rattle.triangulation.specs.Jobs.{jobOf}
+use Rattle.triangulation.specs.Problems.{problemFrom}
 use Rattle.jobs.specs.Job.{codeWithoutTriangles}
 use Rattle.validation.specs.Validation.{listCode}
 use Rattle.judge.specs.declared.Judgement.{Judgement}
@@ -45,7 +45,7 @@ excessOver (patch least triangles) stated = stated - least
 unfoldable pub judgeCode : ℕ → List (List ℕ) → List ℕ → List (List ℕ) → List ℕ → ℕ → ℕ → ℕ
 judgeCode n candidates weights rows list stated workPlaces =
     firstDue (codeWithoutTriangles n candidates weights rows workPlaces)
-    (listCode (jobOf n candidates weights rows) list stated)
+    (listCode (problemFrom n candidates weights rows) list stated)
 
 -- a judgement, and what the work table holds after the call (rule 5.10)
 pub record Result : Type 0 where
@@ -63,4 +63,4 @@ settled (suc k) excess count work = result (Refused (suc k)) work
 -- the call, by the first number due on it (rules 3.14, 4.36)
 unfoldable pub judged : ℕ → List (List ℕ) → List ℕ → List (List ℕ) → List ℕ → ℕ → List ℕ → Result
 judged n candidates weights rows list stated work =
-    settled (judgeCode n candidates weights rows list stated (length work)) (excessOver (best (jobOf n candidates weights rows)) stated) (length candidates) work
+    settled (judgeCode n candidates weights rows list stated (length work)) (excessOver (best (problemFrom n candidates weights rows)) stated) (length candidates) work

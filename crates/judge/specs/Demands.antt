@@ -2,7 +2,7 @@
 use Prim.Native.Nat.{ℕ, _+_, _-_, _≤_}
 use mathlib.Core.Path.{_≡_}
 use mathlib.Core.List.{List}
-use Rattle.triangulation.specs.Triangulations.{Job, totalWeight}
+use Rattle.triangulation.specs.Triangulations.{Problem, totalWeight}
 use Rattle.triangulation.specs.Demand3.{Triangulates, NamesOnce}
 use Rattle.jobs.specs.Due.{Accepted}
 use Rattle.validation.specs.Validation.{times}
@@ -12,12 +12,12 @@ abbrev pub JobAccepted : ℕ → List (List ℕ) → List ℕ → List (List ℕ
 JobAccepted n candidates weights rows workPlaces = Accepted n candidates weights rows (n - 2) workPlaces
 
 -- the list is the tiling `set`, in whatever order and without repeats (rule 3.13)
-pub record IsTiling (job : Job) (list set : List ℕ) : Type 0 where
+pub record IsTiling (job : Problem) (list set : List ℕ) : Type 0 where
   pub tiles : Triangulates job set
   pub once : NamesOnce list set
 
 -- the list is a tiling without repeats, of the stated total (rules 3.13, 4.22)
-pub record Acceptable (job : Job) (list : List ℕ) (stated : ℕ) : Type 0 where
+pub record Acceptable (job : Problem) (list : List ℕ) (stated : ℕ) : Type 0 where
   pub set : List ℕ
   pub tiling : IsTiling job list set
   pub total : stated ≡ totalWeight job set
@@ -27,18 +27,18 @@ abbrev pub SameNumbers : List ℕ → List ℕ → Type 0
 SameNumbers list list′ = (k : ℕ) → times k list ≡ times k list′
 
 -- no tiling costs less (rule 3.14)
-abbrev pub Cheapest : Job → ℕ → Type 0
+abbrev pub Cheapest : Problem → ℕ → Type 0
 Cheapest job total = (s : List ℕ) → Triangulates job s → total ≤ totalWeight job s
 
 -- this is the least total: that of a tiling, and no tiling costs less (rule 3.14)
-pub record Least (job : Job) (total : ℕ) : Type 0 where
+pub record Least (job : Problem) (total : ℕ) : Type 0 where
   pub set : List ℕ
   pub tiles : Triangulates job set
   pub weight : total ≡ totalWeight job set
   pub lowest : Cheapest job total
 
 -- the excess over the least total, which is 0 exactly when no tiling costs less (rule 3.14)
-pub record Excess (job : Job) (stated excess : ℕ) : Type 0 where
+pub record Excess (job : Problem) (stated excess : ℕ) : Type 0 where
   pub least : ℕ
   pub least-is : Least job least
   pub over : stated ≡ least + excess

@@ -2,7 +2,7 @@
 ghost use mathlib.Core.Path.{_≡_};
 ghost use lib.ListN.{length};
 ghost use Rattle.triangulation.specs.Triangulations.{best};
-ghost use Rattle.triangulation.specs.Jobs.{jobOf};
+ghost use Rattle.triangulation.specs.Problems.{problemFrom};
 ghost use Rattle.judge.specs.Call.{numberOf, excessOf, valuesOf, dueValues, judgeCode, excessOver, result, judged};
 
 // Accepted with the excess over the least total, or the number of a refusal.
@@ -44,7 +44,7 @@ pub fn judge(
     work: &mut [u64],
 ) -> Judgement
     ensures { λ r. ⌜ result r (now (work .exit)) ≡ judged n (now (candidates .entry)) (now (weights .entry)) (now (rows .entry)) (now (list .entry)) stated (now (work .entry)) ⌝ }
-    ensures { λ r. ⌜ valuesOf r ≡ dueValues (judgeCode n (now (candidates .entry)) (now (weights .entry)) (now (rows .entry)) (now (list .entry)) stated (length (now (work .entry)))) (excessOver (best (jobOf n (now (candidates .entry)) (now (weights .entry)) (now (rows .entry)))) stated) ⌝ }
+    ensures { λ r. ⌜ valuesOf r ≡ dueValues (judgeCode n (now (candidates .entry)) (now (weights .entry)) (now (rows .entry)) (now (list .entry)) stated (length (now (work .entry)))) (excessOver (best (problemFrom n (now (candidates .entry)) (now (weights .entry)) (now (rows .entry)))) stated) ⌝ }
 {
     let job_number = jobs::code_without_triangles(n, candidates, weights, rows, work.len());
     if job_number != 0 {

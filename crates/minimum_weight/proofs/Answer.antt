@@ -6,16 +6,16 @@ use mathlib.Core.List.{List, [], _++_}
 use native.Mathlib.Omega.{arith}
 use lib.ListN.{length, drop, replicate, length-replicate}
 use Rattle.lists.specs.Lists.{filled}
-use Rattle.triangulation.specs.Triangulations.{Job, bestKey}
-use Rattle.triangulation.specs.Jobs.{jobOf}
+use Rattle.triangulation.specs.Triangulations.{Problem, bestKey}
+use Rattle.triangulation.specs.Problems.{problemFrom}
 use Rattle.triangulation.specs.Recursion.{bestUnder, costOf, noTotal, maxTotal}
 use Rattle.triangulation.proofs.Recursion.{best-edge}
 use Rattle.triangulation.proofs.Bounds.{edge-light}
 use Rattle.minimum_weight.specs.Tables.{WellFormed, Filled}
 
 module _ (n : ℕ) (candidates : List (List ℕ)) (weights : List ℕ) (rows : List (List ℕ)) (ok : WellFormed n candidates weights rows) where
-  abbrev jobHere : Job
-  jobHere = jobOf n candidates weights rows
+  abbrev jobHere : Problem
+  jobHere = problemFrom n candidates weights rows
 
   pub answer-whole : bestKey jobHere ≡ bestUnder jobHere n (length candidates) 0 (n - 1)
   answer-whole = best-edge jobHere (ok .valid) (length candidates) (ok .no-row) n (omega arith)
@@ -28,7 +28,7 @@ module _ (n : ℕ) (candidates : List (List ℕ)) (weights : List ℕ) (rows : L
   pub no-key : noTotal ≤ costOf (bestKey jobHere) → bestKey jobHere ≡ []
   no-key h = ⊎-elim (λ e. e) (λ (q : costOf (bestKey jobHere) < noTotal). absurd (omega arith)) answer-light
 
-pub cleared : (job : Job) {before work new : List ℕ} → Filled job before 0 work → new ≡ filled (replicate (job .size) 0) work → new ≡ filled (replicate (job .size) 0) before
+pub cleared : (job : Problem) {before work new : List ℕ} → Filled job before 0 work → new ≡ filled (replicate (job .size) 0) work → new ≡ filled (replicate (job .size) 0) before
 cleared job {before} {work} f e =
     let z : length {A = ℕ} (replicate (job .size) 0) ≡ job .size = length-replicate (job .size) 0 in
     e ∙ ap (λ (k : ℕ). replicate (job .size) 0 ++ drop k work) z ∙ ap (λ (t : List ℕ). replicate (job .size) 0 ++ t) (f .kept) ∙ ap (λ (k : ℕ). replicate (job .size) 0 ++ drop k before) (sym z)

@@ -10,8 +10,8 @@ use lib.ListN.{getD}
 use lib.Dec.{eqb, ltb}
 use borrow.Author.Tests.{eqb-true, eqb-false, ltb-true, ltb-false, lt-leb}
 use Rattle.terms.specs.Limits.{maxWeight}
-use Rattle.triangulation.specs.Triangulations.{Job, Valid, keep, upFrom, least, noLater, longEdge}
-use Rattle.triangulation.specs.Jobs.{Bounded, jobOf}
+use Rattle.triangulation.specs.Triangulations.{Problem, ValidProblem, keep, upFrom, least, noLater, longEdge}
+use Rattle.triangulation.specs.Problems.{Bounded, problemFrom}
 use Rattle.triangulation.specs.Recursion.{addRow, join, bestUnder, bestFrom, costOf, noTotal, maxTotal}
 use Rattle.triangulation.proofs.SetParts.{both-eq}
 use Rattle.triangulation.proofs.Sums.{Mem, mem-keep, keep-mem}
@@ -86,7 +86,7 @@ least-nil [] h = refl
 least-nil (x ∷ xs) h = h _ (least-mem x xs)
 
 -- for an edge of a job
-module _ (job : Job) (good : Valid job) (bound : Bounded job) (t i j : ℕ) (far : j ≢ i + 1) where
+module _ (job : Problem) (good : ValidProblem job) (bound : Bounded job) (t i j : ℕ) (far : j ≢ i + 1) where
   keyOf : ℕ → List ℕ
   keyOf u = addRow (job .row t u) (bestFrom job (job .n) u)
 
@@ -136,8 +136,8 @@ module _ (job : Job) (good : Valid job) (bound : Bounded job) (t i j : ℕ) (far
   found-below d h = found _ (picked (longEdge job i j) (bestFrom job (job .n)) (job .row t) d (bound .row-light t) (job .size) (λ u l o. root-shape job good bound u l) h)
 
 module _ (n : ℕ) (candidates : List (List ℕ)) (weights : List ℕ) (rows : List (List ℕ)) (ok : WellFormed n candidates weights rows) where
-  abbrev jobHere : Job
-  jobHere = jobOf n candidates weights rows
+  abbrev jobHere : Problem
+  jobHere = problemFrom n candidates weights rows
 
   -- the best candidate on an edge that is no rim edge (i, i + 1) starts what the recursion has beneath it
   pub found-far : (work : List ℕ) (t i j : ℕ) → ReadyAt jobHere work i j → j ≢ i + 1 → (p : Pick) → p ≡ pickUnder candidates work rows t i j → Found jobHere t i j p
@@ -173,7 +173,7 @@ join-is w u [] k′ p q = refl
 join-is w u (x ∷ l) [] p q = rw (lt-leb noTotal x (light-cons x l p))
 join-is w u (x ∷ l) (y ∷ r) p q = rw (lt-leb noTotal x (light-cons x l p), lt-leb noTotal y (light-cons y r q))
 
-module _ (job : Job) (good : Valid job) (bound : Bounded job) where
+module _ (job : Problem) (good : ValidProblem job) (bound : Bounded job) where
   edge-Light : (t i j : ℕ) → i < j → j < job .n → Light (bestUnder job (job .n) t i j)
   unfolding Light
   edge-Light = edge-light job good bound

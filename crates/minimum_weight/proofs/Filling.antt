@@ -10,8 +10,8 @@ use lib.ListN.{length, getD, set, drop, length-set}
 use lib.Seq.{getD-set-same, getD-set-other, drop-set-lt}
 use lib.Dec.{leb}
 use borrow.Author.Tests.{leb-true, leb-false}
-use Rattle.triangulation.specs.Triangulations.{Job}
-use Rattle.triangulation.specs.Jobs.{jobOf}
+use Rattle.triangulation.specs.Triangulations.{Problem}
+use Rattle.triangulation.specs.Problems.{problemFrom}
 use Rattle.triangulation.specs.Recursion.{bestFrom, costOf}
 use Rattle.blocks.specs.Blocks.{Starts}
 use Rattle.terms.specs.Limits.{maxVertices}
@@ -26,7 +26,7 @@ order x y = go (leb x y) refl
     go true e = inl (leb-true x y e)
     go false e = inr (leb-false x y e)
 
-module _ (job : Job) (before : List ℕ) where
+module _ (job : Problem) (before : List ℕ) where
   -- the candidates from `high` on are ready, and those of the block from `low` to t
   pub record Filling (low high t : ℕ) (work : List ℕ) : Type 0 where
     pub long : length work ≡ length before
@@ -58,8 +58,8 @@ module _ (job : Job) (before : List ℕ) where
       same? x y = ⊎-elim (λ (l : x ≤ y). ⊎-elim (λ q. inl q) (λ (q : x < y). inr (λ (z : x ≡ y). omega arith)) (eq-or-lt-of-le l)) (λ (l : y < x). inr (λ (z : x ≡ y). omega arith)) (order x y)
 
 module _ (n : ℕ) (candidates : List (List ℕ)) (weights : List ℕ) (rows : List (List ℕ)) (ok : WellFormed n candidates weights rows) (starts : List ℕ) (blocks : Starts candidates starts) where
-  abbrev jobHere : Job
-  jobHere = jobOf n candidates weights rows
+  abbrev jobHere : Problem
+  jobHere = problemFrom n candidates weights rows
 
   module _ (before work : List ℕ) (v t : ℕ) (hv : v < maxVertices) (f : Filling jobHere before (getD starts v 0) (getD starts (v + 1) 0) t work) (h : t < getD starts (v + 1) 0) where
     t-there : t < length candidates
@@ -96,7 +96,7 @@ module _ (n : ℕ) (candidates : List (List ℕ)) (weights : List ℕ) (rows : L
   pub fill-end : {before work : List ℕ} {v : ℕ} → v ≤ 0 → Filled jobHere before (getD starts v 0) work → Filled jobHere before 0 work
   fill-end {v = v} h f = record { long = f .long; kept = f .kept; ready = λ u l k. f .ready u l (⊎-elim (λ m. m) (λ (m : u < getD starts v 0). absurd (omega (arith, blocks .at v (omega arith) .below u m))) (order (getD starts v 0) u)) }
 
-module _ (job : Job) where
+module _ (job : Problem) where
   -- one block after another
   filled-again : {before work : List ℕ} {low : ℕ} → Filled job before low work → Filled job work low work
   filled-again f = record { long = refl; kept = refl; ready = f .ready }

@@ -9,7 +9,7 @@ use lib.ListN.{length, getD, set, take, drop, length-set, length-drop, replicate
 use lib.Seq.{getD-set-same, getD-set-other, length-take-le, take-suc, take-all}
 use Rattle.lists.specs.Lists.{filled}
 use Rattle.lists.proofs.Writing.{filled-length, filled-next}
-use Rattle.triangulation.specs.Triangulations.{Job}
+use Rattle.triangulation.specs.Triangulations.{Problem}
 use Rattle.minimum_weight.specs.declared.preorder.Part.{Part}
 use Rattle.minimum_weight.specs.Preorder.{partUnder, waiting, beneath, mostParts, halves, turn, partsAfter, Waits, Listing}
 use Rattle.minimum_weight.proofs.Beneath.{one-beneath, none-beneath}
@@ -48,7 +48,7 @@ module _ {stack new : List Part} {k m : ℕ} (u i j : ℕ) {l : List Part} (w : 
     places = ap length s ∙ w .places;
   }
 
-module _ {job : Job} (t : HasTriangulation job) where
+module _ {job : Problem} (t : HasTriangulation job) where
   pub start : (p : Part) (before : List ℕ) → p ≡ partUnder (job .size) 0 (job .n - 1) → Listing job (patchOf t) before (replicate mostParts p) 1 0 before
   unfolding partsAfter
   start p before e = record { listed = refl; waits = record { parts = ap (λ q. q ∷ []) e; places = length-replicate mostParts p }; no-more-wait = omega (arith, t .valid .n3, patch-length t) }

@@ -5,7 +5,7 @@ use mathlib.Core.Bool.{cond}
 use mathlib.Core.List.{List}
 use lib.ListN.{length, getD}
 use lib.Dec.{eqb}
-use Rattle.triangulation.specs.Jobs.{pairWeight, jobOf}
+use Rattle.triangulation.specs.Problems.{pairWeight, problemFrom}
 use Rattle.rows.specs.Search.{Run}
 use Rattle.minimum_weight.specs.Tables.{WellFormed, ReadyAt, Found, pickAtEdge, pickUnder, pickBelow, onEdge}
 use Rattle.minimum_weight.specs.declared.choice.Pick.{Pick}
@@ -22,5 +22,5 @@ module _ {rows run : List (List ℕ)} {t : ℕ} (r : Run rows t run) (candidates
 
 -- so the run of t serves for its edges
 pub found-in-run : (n : ℕ) (candidates : List (List ℕ)) (weights : List ℕ) (rows : List (List ℕ)) → WellFormed n candidates weights rows → (work : List ℕ) (t i j : ℕ) {run : List (List ℕ)} → Run rows t run
-    → ReadyAt (jobOf n candidates weights rows) work i j → (p : Pick) → p ≡ pickAtEdge candidates work run t i j → Found (jobOf n candidates weights rows) t i j p
+    → ReadyAt (problemFrom n candidates weights rows) work i j → (p : Pick) → p ≡ pickAtEdge candidates work run t i j → Found (problemFrom n candidates weights rows) t i j p
 found-in-run n candidates weights rows ok work t i j r h p e = found-edge n candidates weights rows ok work t i j h p (e ∙ pick-run r candidates work i j)

@@ -6,8 +6,8 @@ use mathlib.Core.Logic.{⊎-elim}
 use mathlib.Core.List.{List, [], _∷_, List·Memᴰ, List·Memᴰ·not-nil, List·Memᴰ·cases-cons}
 use native.Mathlib.Omega.{arith}
 use lib.ListN.{length, drop, length-drop}
-use Rattle.triangulation.specs.Triangulations.{Job, patch, answerOf, bestKey, best}
-use Rattle.triangulation.specs.Jobs.{jobOf}
+use Rattle.triangulation.specs.Triangulations.{Problem, patch, answerOf, bestKey, best}
+use Rattle.triangulation.specs.Problems.{problemFrom}
 use Rattle.triangulation.specs.Recursion.{restOf, costOf, noTotal}
 use Rattle.minimum_weight.specs.declared.preorder.Part.{Part}
 use Rattle.minimum_weight.specs.Tables.{WellFormed}
@@ -16,7 +16,7 @@ use Rattle.minimum_weight.proofs.Turns.{HasTriangulation, AllWhole, par
 use Rattle.minimum_weight.proofs.Waiting.{no-more-wait}
 use Rattle.minimum_weight.proofs.Answer.{answer-whole, answer-light}
 
-module _ {job : Job} (t : HasTriangulation job) where
+module _ {job : Problem} (t : HasTriangulation job) where
   -- a turn takes a part as long as a triangle is to be listed
   next-listed : (k : ℕ) → k < length (patchOf t) → NextListed job (patchOf t) k
   next-listed k h = go (partsAfter job (patchOf t) k) refl (going t k .whole) (going t k .left)
@@ -36,8 +36,8 @@ module _ {job : Job} (t : HasTriangulation job) where
   turns = record { one-each = next-listed; no-rim-edge = λ k p m. member-whole p (partsAfter job (patchOf t) k) (going t k .whole) m .order; no-more-wait = no-more-wait t }
 
 module _ (n : ℕ) (candidates : List (List ℕ)) (weights : List ℕ) (rows : List (List ℕ)) (ok : WellFormed n candidates weights rows) where
-  abbrev jobHere : Job
-  jobHere = jobOf n candidates weights rows
+  abbrev jobHere : Problem
+  jobHere = problemFrom n candidates weights rows
 
   key-is : (k : List ℕ) (total : ℕ) (l : List ℕ) → answerOf k ≡ patch total l → k ≡ total ∷ l
   key-is [] total l e = absurd (false≢true (cc))

@@ -6,8 +6,8 @@ use mathlib.Core.List.{List, [], _∷_, _++_, append-assoc, append-nil, cons≢n
 use native.Mathlib.Omega.{arith}
 use lib.ListN.{length, getD, drop, length-append, length-drop, drop-of-length-le}
 use lib.Seq.{drop-cons}
-use Rattle.triangulation.specs.Triangulations.{Job, Valid}
-use Rattle.triangulation.specs.Jobs.{Bounded}
+use Rattle.triangulation.specs.Triangulations.{Problem, ValidProblem}
+use Rattle.triangulation.specs.Problems.{Bounded}
 use Rattle.triangulation.specs.Recursion.{addRow, join, bestUnder, bestFrom, costOf, restOf, noTotal}
 use Rattle.triangulation.proofs.Parts.{part-length}
 use Rattle.triangulation.proofs.Recursion as R
@@ -33,12 +33,12 @@ drop-next l k e =
     (head-eq-of-cons-eq d, tail-eq-of-cons-eq d)
 
 -- a job that can be triangulated
-pub record HasTriangulation (job : Job) : Type 0 where
-  pub valid : Valid job
+pub record HasTriangulation (job : Problem) : Type 0 where
+  pub valid : ValidProblem job
   pub bounded : Bounded job
   pub some : costOf (bestUnder job (job .n) (job .size) 0 (job .n - 1)) < noTotal
 
-module _ (job : Job) where
+module _ (job : Problem) where
   -- a part's triangles in preorder, and the first of them
   abbrev pub partTriangles : Part → List ℕ
   partTriangles p = restOf (bestUnder job (job .n) (p .outer) (p .first) (p .last))
@@ -81,7 +81,7 @@ module _ (job : Job) where
   whole-append no-part v = v
   whole-append (part-and w u) v = part-and w (whole-append u v)
 
-module _ (job : Job) (good : Valid job) (bound : Bounded job) where
+module _ (job : Problem) (good : ValidProblem job) (bound : Bounded job) where
   edge-some : (t i j : ℕ) → i < j → j < job .n → bestUnder job (job .n) t i j ≢ [] → costOf (bestUnder job (job .n) t i j) < noTotal
   edge-some t i j h k z = ⊎-elim (λ e. absurd (z e)) (λ q. omega arith) (edge-light job good bound t i j h k)
 
@@ -151,7 +151,7 @@ module _ (job : Job) (good : Valid job) (bound : Bounded job) where
   parts-few [] v = omega arith
   parts-few (p ∷ l) (part-and w v) = omega (arith, parts-few l v, list-length p w, w .order, length-append (partTriangles job p) (pending job l))
 
-module _ {job : Job} (t : HasTriangulation job) where
+module _ {job : Problem} (t : HasTriangulation job) where
   abbrev polygon : Part
   polygon = partUnder (job .size) 0 (job .n - 1)
 

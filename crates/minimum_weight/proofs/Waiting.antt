@@ -4,7 +4,7 @@ use mathlib.Core.Path.{ap}
 use mathlib.Core.List.{List, [], _∷_}
 use native.Mathlib.Omega.{arith}
 use lib.ListN.{length, getD, length-append, length-drop}
-use Rattle.triangulation.specs.Triangulations.{Job}
+use Rattle.triangulation.specs.Triangulations.{Problem}
 use Rattle.minimum_weight.specs.declared.preorder.Part.{Part}
 use Rattle.minimum_weight.specs.Preorder.{beneath, halves, turn, partsAfter, mostParts}
 use Rattle.minimum_weight.proofs.Beneath.{Beneath, one, none, either-beneath}
@@ -18,7 +18,7 @@ beneath-length u i j = go (either-beneath u i j)
     go (one far e) = omega (arith, ap length e)
     go (none near e) = omega (arith, ap length e)
 
-turn-length : (job : Job) (l : List Part) (u : ℕ) → length (turn job l u) ≤ length l + 1
+turn-length : (job : Problem) (l : List Part) (u : ℕ) → length (turn job l u) ≤ length l + 1
 turn-length job [] u = omega arith
 turn-length job (p ∷ l) u = omega (
   arith,
@@ -29,12 +29,12 @@ turn-length job (p ∷ l) u = omega (
 )
 
 -- after k turns at most k + 1 parts wait
-one-more : (job : Job) (l : List ℕ) (k : ℕ) → length (partsAfter job l k) ≤ k + 1
+one-more : (job : Problem) (l : List ℕ) (k : ℕ) → length (partsAfter job l k) ≤ k + 1
 unfolding partsAfter
 one-more job l zero = omega arith
 one-more job l (suc k) = omega (arith, one-more job l k, turn-length job (partsAfter job l k) (getD l k 0))
 
-module _ {job : Job} (t : HasTriangulation job) where
+module _ {job : Problem} (t : HasTriangulation job) where
   -- no more parts wait than triangles are still to be listed: each part that waits has a triangle
   pub no-more-wait : (k : ℕ) → length (partsAfter job (patchOf t) k) ≤ length (patchOf t) - k
   no-more-wait k = omega (arith, parts-few job (t .valid) (t .bounded) (partsAfter job (patchOf t) k) (going t k .whole), ap length (going t k .left), length-drop k (patchOf t))

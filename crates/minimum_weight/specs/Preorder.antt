@@ -6,7 +6,7 @@ use lib.ListN.{getD, length, take}
 use lib.Dec.{ltb}
 use Rattle.terms.specs.Limits.{maxVertices}
 use Rattle.lists.specs.Lists.{filled, when}
-use Rattle.triangulation.specs.Triangulations.{Job}
+use Rattle.triangulation.specs.Triangulations.{Problem}
 use Rattle.minimum_weight.specs.declared.preorder.Part.{Part}
 
 -- the part of the polygon from vertex i to vertex j, under triangle t (rule 3.12)
@@ -17,7 +17,7 @@ partUnder t i j = record { outer = t; first = i; last = j }
 abbrev pub beneath : ℕ → ℕ → ℕ → List Part
 beneath u i j = when (ltb (i + 1) j) (partUnder u i j)
 
-module _ (job : Job) where
+module _ (job : Problem) where
   -- the parts beneath a part's triangle u: left before right (rule 3.12)
   abbrev pub halves : Part → ℕ → List Part
   halves p u = beneath u (p .first) (job .b u) ++ beneath u (job .b u) (p .last)
@@ -34,7 +34,7 @@ module _ (job : Job) where
   partsAfter l (suc k) = turn (partsAfter l k) (getD l k 0)
 
 -- the turn after k turns takes the part that comes next, and lists the triangle on its edge: the patch's triangle at place k (rule 3.12)
-pub record NextListed (job : Job) (l : List ℕ) (k : ℕ) : Type 0 where
+pub record NextListed (job : Problem) (l : List ℕ) (k : ℕ) : Type 0 where
   pub next : Part
   pub rest : List Part
   pub comes-next : partsAfter job l k ≡ next ∷ rest
@@ -43,7 +43,7 @@ pub record NextListed (job : Job) (l : List ℕ) (k : ℕ) : Type 0 where
 
 -- what is promised of the loop that lists the triangles l (rule 3.12): each turn lists one, no part is a rim edge (i, i + 1), and after each turn no
 -- more parts wait than triangles are still to be listed
-pub record TurnByTurn (job : Job) (l : List ℕ) : Type 0 where
+pub record TurnByTurn (job : Problem) (l : List ℕ) : Type 0 where
   pub one-each : (k : ℕ) → k < length l → NextListed job l k
   pub no-rim-edge : (k : ℕ) (p : Part) → List·Memᴰ p (partsAfter job l k) → p .first + 1 < p .last
   pub no-more-wait : (k : ℕ) → length (partsAfter job l k) ≤ length l - k
@@ -64,7 +64,7 @@ pub record Waits (stack : List Part) (height : ℕ) (l : List Part) : Type 0 whe
 
 -- the loop before its first turn and after each (rule 3.12): `count` triangles of l are listed in the table, which held `before`, and `height` parts
 -- of the stack wait
-pub record Listing (job : Job) (l before : List ℕ) (stack : List Part) (height count : ℕ) (table : List ℕ) : Type 0 where
+pub record Listing (job : Problem) (l before : List ℕ) (stack : List Part) (height count : ℕ) (table : List ℕ) : Type 0 where
   pub listed : table ≡ filled (take count l) before
   pub waits : Waits stack height (partsAfter job l count)
   -- no more parts wait than triangles are still to be listed

@@ -11,8 +11,8 @@ use Rattle.terms.specs.Limits.{maxTriples}
 use Rattle.terms.specs.Entries.{entryAt, vertexA, vertexB, vertexC}
 use Rattle.rows.specs.Search.{RowsAscend}
 use Rattle.blocks.specs.Blocks.{ByFirst}
-use Rattle.triangulation.specs.Triangulations.{Job, Valid}
-use Rattle.triangulation.specs.Jobs.{Bounded, pairWeight, jobOf}
+use Rattle.triangulation.specs.Triangulations.{Problem, ValidProblem}
+use Rattle.triangulation.specs.Problems.{Bounded, pairWeight, problemFrom}
 use Rattle.triangulation.specs.Recursion.{addRow, bestUnder, bestFrom, costOf, noTotal, maxTotal}
 
 -- candidates ascend by a, then b
@@ -51,8 +51,8 @@ joinCost w l r = cond (leb noTotal l) noTotal (cond (leb noTotal r) noTotal (w +
 
 -- what the dynamic programme needs of a job and its weight table
 pub record WellFormed (n : ℕ) (candidates : List (List ℕ)) (weights : List ℕ) (rows : List (List ℕ)) : Type 0 where
-  pub valid : Valid (jobOf n candidates weights rows)
-  pub bounded : Bounded (jobOf n candidates weights rows)
+  pub valid : ValidProblem (problemFrom n candidates weights rows)
+  pub bounded : Bounded (problemFrom n candidates weights rows)
   pub ascending : Ascending candidates
   pub weights-there : length candidates ≤ length weights
   pub few : length candidates ≤ maxTriples
@@ -61,24 +61,24 @@ pub record WellFormed (n : ℕ) (candidates : List (List ℕ)) (weights : List �
   pub no-row : (u : ℕ) → pairWeight rows (length candidates) u ≡ 0
 
 -- candidate u's place of the work table has the least total of a part that starts with u
-abbrev pub Ready : Job → List ℕ → ℕ → Type 0
+abbrev pub Ready : Problem → List ℕ → ℕ → Type 0
 Ready job work u = getD work u 0 ≡ costOf (bestFrom job (job .n) u)
 
 -- so it is for all candidates
-abbrev pub AllReady : Job → List ℕ → Type 0
+abbrev pub AllReady : Problem → List ℕ → Type 0
 AllReady job work = (u : ℕ) → u < job .size → Ready job work u
 
 -- so it is for the candidates (i, x, j)
-abbrev pub ReadyAt : Job → List ℕ → ℕ → ℕ → Type 0
+abbrev pub ReadyAt : Problem → List ℕ → ℕ → ℕ → Type 0
 ReadyAt job work i j = (u : ℕ) → u < job .size → job .a u ≡ i → job .c u ≡ j → Ready job work u
 
 -- so it is for all candidates from `low` on; the places that are no candidate's are as in `before`
-pub record Filled (job : Job) (before : List ℕ) (low : ℕ) (work : List ℕ) : Type 0 where
+pub record Filled (job : Problem) (before : List ℕ) (low : ℕ) (work : List ℕ) : Type 0 where
   pub long : length work ≡ length before
   pub kept : drop (job .size) work ≡ drop (job .size) before
   pub ready : (u : ℕ) → u < job .size → low ≤ u → Ready job work u
 
 -- what is found for the edge (i, j) of t: the best total beneath it with the row to t, and the triangle that starts it
-pub record Found (job : Job) (t i j : ℕ) (p : Pick) : Type 0 where
+pub record Found (job : Problem) (t i j : ℕ) (p : Pick) : Type 0 where
   pub cost : p .cost ≡ costOf (bestUnder job (job .n) t i j)
   pub at : j ≢ i + 1 → p .cost < noTotal → (p .at < job .size) × (job .a (p .at) ≡ i) × (job .c (p .at) ≡ j) × (bestUnder job (job .n) t i j ≡ addRow (job .row t (p .at)) (bestFrom job (job .n) (p .at)))

@@ -4,7 +4,7 @@ ghost use mathlib.Core.Path.{_≡_};
 ghost use Prim.Native.Nat.{_<_, _≤_};
 ghost use lib.ListN.{length, getD};
 ghost use lib.Dec.{eqb};
-ghost use Rattle.triangulation.specs.Jobs.{pairWeight};
+ghost use Rattle.triangulation.specs.Problems.{pairWeight};
 ghost use Rattle.blocks.specs.Blocks.{Starts};
 ghost use Rattle.terms.specs.Limits.{maxVertices};
 ghost use Rattle.terms.specs.Entries.{entryAt, vertexC};

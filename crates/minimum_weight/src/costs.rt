@@ -6,7 +6,7 @@ use crate::choice::best_under;
 ghost use mathlib.Core.Path.{_≡_};
 ghost use Prim.Native.Nat.{_+_, _<_, _≤_};
 ghost use lib.ListN.{length, getD};
-ghost use Rattle.triangulation.specs.Jobs.{jobOf};
+ghost use Rattle.triangulation.specs.Problems.{problemFrom};
 ghost use Rattle.triangulation.specs.Recursion.{costOf, bestFrom};
 ghost use Rattle.blocks.specs.Blocks.{Starts};
 ghost use Rattle.terms.specs.Limits.{maxVertices};
@@ -40,8 +40,8 @@ fn cost_of(
     t: usize,
 ) -> u64
     requires { ⌜ WellFormed n (now candidates) (now weights) (now rows) × Starts (now candidates) (now starts) × (length (now candidates) ≤ length (now work)) × (t < length (now candidates)) × Run (now rows) t (now run) ⌝ }
-    requires { ⌜ ReadyAt (jobOf n (now candidates) (now weights) (now rows)) (now work) (vertexA (entryAt (now candidates) t)) (vertexB (entryAt (now candidates) t)) × ReadyAt (jobOf n (now candidates) (now weights) (now rows)) (now work) (vertexB (entryAt (now candidates) t)) (vertexC (entryAt (now candidates) t)) ⌝ }
-    ensures { λ r. ⌜ r ≡ costOf (bestFrom (jobOf n (now (candidates .entry)) (now (weights .entry)) (now (rows .entry))) n t) ⌝ }
+    requires { ⌜ ReadyAt (problemFrom n (now candidates) (now weights) (now rows)) (now work) (vertexA (entryAt (now candidates) t)) (vertexB (entryAt (now candidates) t)) × ReadyAt (problemFrom n (now candidates) (now weights) (now rows)) (now work) (vertexB (entryAt (now candidates) t)) (vertexC (entryAt (now candidates) t)) ⌝ }
+    ensures { λ r. ⌜ r ≡ costOf (bestFrom (problemFrom n (now (candidates .entry)) (now (weights .entry)) (now (rows .entry))) n t) ⌝ }
 {
     let triangle = candidates[t];
     let a = triangle[0];
@@ -63,8 +63,8 @@ fn fill_block(
     v: usize,
 )
     requires { ⌜ WellFormed n (now candidates) (now weights) (now rows) × Starts (now candidates) (now starts) × (length (now candidates) ≤ length (now work)) × (v < maxVertices) ⌝ }
-    requires { ⌜ Filled (jobOf n (now candidates) (now weights) (now rows)) (now work) (getD (now starts) (v + 1) 0) (now work) ⌝ }
-    ensures { λ _. ⌜ Filled (jobOf n (now (candidates .entry)) (now (weights .entry)) (now (rows .entry))) (now (work .entry)) (getD (now (starts .entry)) v 0) (now (work .exit)) ⌝ }
+    requires { ⌜ Filled (problemFrom n (now candidates) (now weights) (now rows)) (now work) (getD (now starts) (v + 1) 0) (now work) ⌝ }
+    ensures { λ _. ⌜ Filled (problemFrom n (now (candidates .entry)) (now (weights .entry)) (now (rows .entry))) (now (work .entry)) (getD (now (starts .entry)) v 0) (now (work .exit)) ⌝ }
 {
     let end = starts[v + 1];
     let mut t = starts[v];
@@ -89,7 +89,7 @@ pub fn fill(
     work: &mut [u64],
 )
     requires { ⌜ WellFormed n (now candidates) (now weights) (now rows) × Starts (now candidates) (now starts) × (length (now candidates) ≤ length (now work)) ⌝ }
-    ensures { λ _. ⌜ Filled (jobOf n (now (candidates .entry)) (now (weights .entry)) (now (rows .entry))) (now (work .entry)) 0 (now (work .exit)) ⌝ }
+    ensures { λ _. ⌜ Filled (problemFrom n (now (candidates .entry)) (now (weights .entry)) (now (rows .entry))) (now (work .entry)) 0 (now (work .exit)) ⌝ }
 {
     let mut v = n;
     while 0 < v {

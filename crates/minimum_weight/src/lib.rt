@@ -11,7 +11,7 @@ ghost use Prim.Native.Nat.{_+_, _≤_};
 ghost use lib.ListN.{length, replicate};
 ghost use Rattle.lists.specs.Lists.{filled};
 ghost use Rattle.triangulation.specs.Triangulations.{bestKey};
-ghost use Rattle.triangulation.specs.Jobs.{jobOf};
+ghost use Rattle.triangulation.specs.Problems.{problemFrom};
 ghost use Rattle.triangulation.specs.Recursion.{costOf, restOf};
 ghost use Rattle.blocks.specs.Blocks.{Starts};
 ghost use Rattle.minimum_weight.specs.Tables.{WellFormed, Filled};
@@ -29,8 +29,8 @@ pub fn least_total(
     work: &mut [u64],
 ) -> u64
     requires { ⌜ WellFormed n (now candidates) (now weights) (now rows) × Starts (now candidates) (now starts) × (length (now candidates) ≤ length (now work)) ⌝ }
-    ensures total { λ r. ⌜ r ≡ costOf (bestKey (jobOf n (now (candidates .entry)) (now (weights .entry)) (now (rows .entry)))) ⌝ }
-    ensures work { λ _. ⌜ Filled (jobOf n (now (candidates .entry)) (now (weights .entry)) (now (rows .entry))) (now (work .entry)) 0 (now (work .exit)) ⌝ }
+    ensures total { λ r. ⌜ r ≡ costOf (bestKey (problemFrom n (now (candidates .entry)) (now (weights .entry)) (now (rows .entry)))) ⌝ }
+    ensures work { λ _. ⌜ Filled (problemFrom n (now (candidates .entry)) (now (weights .entry)) (now (rows .entry))) (now (work .entry)) 0 (now (work .exit)) ⌝ }
 {
     costs::fill(n, starts, candidates, weights, rows, work);
     let last = (n - 1) as u8;
@@ -58,8 +58,8 @@ pub fn solve(
     work: &mut [u64],
 ) -> u64
     requires { ⌜ WellFormed n (now candidates) (now weights) (now rows) × (length (now candidates) ≤ length (now work)) × (n ≤ length (now triangles) + 2) ⌝ }
-    ensures total { λ r. ⌜ r ≡ costOf (bestKey (jobOf n (now (candidates .entry)) (now (weights .entry)) (now (rows .entry)))) ⌝ }
-    ensures triangles { λ _. ⌜ now (triangles .exit) ≡ filled (restOf (bestKey (jobOf n (now (candidates .entry)) (now (weights .entry)) (now (rows .entry))))) (now (triangles .entry)) ⌝ }
+    ensures total { λ r. ⌜ r ≡ costOf (bestKey (problemFrom n (now (candidates .entry)) (now (weights .entry)) (now (rows .entry)))) ⌝ }
+    ensures triangles { λ _. ⌜ now (triangles .exit) ≡ filled (restOf (bestKey (problemFrom n (now (candidates .entry)) (now (weights .entry)) (now (rows .entry))))) (now (triangles .entry)) ⌝ }
     ensures work { λ _. ⌜ now (work .exit) ≡ filled (replicate (length (now (candidates .entry))) 0) (now (work .entry)) ⌝ }
 {
     let count = candidates.len();

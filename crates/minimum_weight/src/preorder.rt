@@ -5,7 +5,7 @@ ghost use Prim.Native.Nat.{_+_, _<_, _≤_};
 ghost use lib.ListN.{length};
 ghost use Rattle.lists.specs.Lists.{filled};
 ghost use Rattle.triangulation.specs.Triangulations.{bestKey};
-ghost use Rattle.triangulation.specs.Jobs.{jobOf};
+ghost use Rattle.triangulation.specs.Problems.{problemFrom};
 ghost use Rattle.triangulation.specs.Recursion.{costOf, restOf, noTotal};
 ghost use Rattle.blocks.specs.Blocks.{Starts};
 ghost use Rattle.minimum_weight.specs.Tables.{WellFormed, AllReady};
@@ -41,8 +41,8 @@ pub fn write_preorder(
     triangles: &mut [u16],
 )
     requires { ⌜ WellFormed n (now candidates) (now weights) (now rows) × Starts (now candidates) (now starts) × (length (now candidates) ≤ length (now work)) × (n ≤ length (now triangles) + 2) ⌝ }
-    requires { ⌜ AllReady (jobOf n (now candidates) (now weights) (now rows)) (now work) × (costOf (bestKey (jobOf n (now candidates) (now weights) (now rows))) < noTotal) ⌝ }
-    ensures { λ _. ⌜ now (triangles .exit) ≡ filled (restOf (bestKey (jobOf n (now (candidates .entry)) (now (weights .entry)) (now (rows .entry))))) (now (triangles .entry)) ⌝ }
+    requires { ⌜ AllReady (problemFrom n (now candidates) (now weights) (now rows)) (now work) × (costOf (bestKey (problemFrom n (now candidates) (now weights) (now rows))) < noTotal) ⌝ }
+    ensures { λ _. ⌜ now (triangles .exit) ≡ filled (restOf (bestKey (problemFrom n (now (candidates .entry)) (now (weights .entry)) (now (rows .entry))))) (now (triangles .entry)) ⌝ }
 {
     let last = (n - 1) as u8;
     let whole = Part::new(candidates.len(), 0, last);

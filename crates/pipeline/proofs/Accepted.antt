@@ -3,7 +3,7 @@ use mathlib.Core.Path.{_≡_}
 use native.Mathlib.Omega.{arith}
 use lib.ListN.{length, length-map}
 use Rattle.polygon.specs.declared.Polygon.{Polygon}
-use Rattle.polygon.specs.Polygon.{Valid}
+use Rattle.polygon.specs.Polygon.{ValidPolygon}
 use Rattle.jobs.proofs.Acceptance.{ListsAccepted}
 use Rattle.delaunay.specs.Candidates.{candidatesOf}
 use Rattle.weights.specs.Weights.{ownWeight}
@@ -14,7 +14,7 @@ use Rattle.pipeline.specs.Patching.{weightsIn, rowsIn}
 pub weight-count : (p : Polygon) → length (weightsIn p) ≡ length (candidatesOf p)
 weight-count p = length-map (candidatesOf p) (ownWeight p)
 
-pub lists-accepted : (p : Polygon) → Valid p → ListsAccepted (p .n) (candidatesOf p) (weightsIn p) (rowsIn p)
+pub lists-accepted : (p : Polygon) → ValidPolygon p → ListsAccepted (p .n) (candidatesOf p) (weightsIn p) (rowsIn p)
 lists-accepted p v = record {
   weight-places = omega (arith, weight-count p);
   candidates-are = candidates-in-order p v;

@@ -7,7 +7,7 @@ use lib.ListN.{length, take}
 use lib.Seq.{length-take-le}
 use Rattle.lists.proofs.Writing.{taken, filled-room}
 use Rattle.polygon.specs.declared.Polygon.{Polygon}
-use Rattle.polygon.specs.Polygon.{Valid}
+use Rattle.polygon.specs.Polygon.{ValidPolygon}
 use Rattle.polygon.proofs.Validity.{code-valid}
 use Rattle.delaunay.specs.Candidates.{candidatesOf}
 use Rattle.finder.specs.declared.Found.{Found}
@@ -15,12 +15,12 @@ use Rattle.finder.specs.declared.Found.the-variants.{Lists}
 use Rattle.finder.specs.Finding.{finding, findBesideCall}
 use Rattle.finder.proofs.Answers.{clear}
 use Rattle.triangulation.specs.Triangulations.{best}
-use Rattle.triangulation.specs.Jobs.{jobOf}
+use Rattle.triangulation.specs.Problems.{problemFrom}
 use Rattle.minimum_weight.specs.Tables.{WellFormed}
 use Rattle.triangulator.specs.declared.Outcome.{Outcome}
 use Rattle.triangulator.specs.Call.{Result, result, settled}
 use Rattle.triangulator.proofs.Accepting.{well-formed}
-use Rattle.pipeline.specs.Patching.{tables, patching, weightsIn, rowsIn, jobIn, tablesShort, patchedBy, patchPolygon}
+use Rattle.pipeline.specs.Patching.{tables, patching, weightsIn, rowsIn, problemIn, tablesShort, patchedBy, patchPolygon}
 use Rattle.pipeline.proofs.Finds.{Lists-found, find-lists, room, patched-is}
 use Rattle.pipeline.proofs.Accepted.{weight-count, lists-accepted}
 
@@ -35,10 +35,10 @@ pub record Ready (n x y : ℕ) (triangles : List ℕ) (candidates : List (List �
 
 -- the count of the first places
 pub counted : (n x : ℕ) (candidates : List (List ℕ)) (weights : List ℕ) (rows : List (List ℕ)) (triangles work : List ℕ) {s : Result} → x ≤ length candidates →
-    s ≡ settled (best (jobOf n (take x candidates) weights rows)) (length (take x candidates)) triangles work →
-    s ≡ settled (best (jobOf n (take x candidates) weights rows)) x triangles work
+    s ≡ settled (best (problemFrom n (take x candidates) weights rows)) (length (take x candidates)) triangles work →
+    s ≡ settled (best (problemFrom n (take x candidates) weights rows)) x triangles work
 counted n x candidates weights rows triangles work h e =
-    e ∙ ap (λ (k : ℕ). settled (best (jobOf n (take x candidates) weights rows)) k triangles work) (length-take-le x candidates h)
+    e ∙ ap (λ (k : ℕ). settled (best (problemFrom n (take x candidates) weights rows)) k triangles work) (length-take-le x candidates h)
 
 module _ (p : Polygon) (triangles : List ℕ) (candidates : List (List ℕ)) (weights : List ℕ) (rows : List (List ℕ)) (work : List ℕ)
     {f : Found} {x y : ℕ} {c r : List (List ℕ)} {w : List ℕ} (found : f ≡ Lists x y)
@@ -61,7 +61,7 @@ module _ (p : Polygon) (triangles : List ℕ) (candidates : List (List ℕ)) (we
   pub ready : Ready (p .n) x y triangles c w r work
   ready =
       let clear = clear p (tablesShort p (tables triangles candidates weights rows work)) (lists .none-due) in
-      let v : Valid p = code-valid p (clear .code) in
+      let v : ValidPolygon p = code-valid p (clear .code) in
       let places = room p triangles candidates weights rows work (clear .no-13) in
       record {
         candidate-places = filled-room (candidatesOf p) candidates (lists .count) (lists .candidates-are);
@@ -72,11 +72,11 @@ module _ (p : Polygon) (triangles : List ℕ) (candidates : List (List ℕ)) (we
         formed = rw (first-candidates, first-weights, first-rows) (well-formed (p .n) (candidatesOf p) (weightsIn p) (rowsIn p) (v .least) (v .most) (lists-accepted p v));
       }
 
-  pub patched-all : {o : Outcome} {t k : List ℕ} → result o t k ≡ settled (best (jobOf (p .n) (take x c) (take x w) (take y r))) x triangles work →
+  pub patched-all : {o : Outcome} {t k : List ℕ} → result o t k ≡ settled (best (problemFrom (p .n) (take x c) (take x w) (take y r))) x triangles work →
       patching o (tables t c w r k) ≡ patchPolygon p (tables triangles candidates weights rows work)
   patched-all {o} {t} {k} d =
-      let answer : result o t k ≡ settled (best (jobIn p)) (length (candidatesOf p)) triangles work =
-      d ∙ (λ i. settled (best (jobOf (p .n) (first-candidates i) (first-weights i) (first-rows i))) (lists .count i) triangles work) in
+      let answer : result o t k ≡ settled (best (problemIn p)) (length (candidatesOf p)) triangles work =
+      d ∙ (λ i. settled (best (problemFrom (p .n) (first-candidates i) (first-weights i) (first-rows i))) (lists .count i) triangles work) in
       (λ i. patching o (tables t (lists .candidates-are i) (lists .weights-are i) (lists .rows-are i) k))
       ∙ ap (λ (s : Result). patchedBy s (weightsIn p) p (tables triangles candidates weights rows work)) answer
       ∙ sym (patched-is p triangles candidates weights rows work (lists .none-due))

@@ -11,10 +11,10 @@ ghost use Rattle.reader.specs.Reading.{polygonOf};
 ghost use Rattle.finder.specs.Sizes.{placesIn, duePlaces};
 ghost use Rattle.finder.specs.Sizes as sizes;
 ghost use Rattle.triangulation.specs.Triangulations.{best};
-ghost use Rattle.triangulation.specs.Jobs.{jobOf};
+ghost use Rattle.triangulation.specs.Problems.{problemFrom};
 ghost use Rattle.minimum_weight.specs.Tables.{WellFormed};
 ghost use Rattle.triangulator.specs.Call.{valuesOf, dueValues, result, settled};
-ghost use Rattle.pipeline.specs.Patching.{tables, patching, jobIn, polygonNumber, patchPolygon, fileNumber, patchFile};
+ghost use Rattle.pipeline.specs.Patching.{tables, patching, problemIn, polygonNumber, patchPolygon, fileNumber, patchFile};
 ghost use Rattle.pipeline.specs.Sizes.{sizesNumber, sizesFile};
 
 // The best triangulation by the lists in the first places of the tables.
@@ -30,7 +30,7 @@ fn triangulate_first(
 ) -> Outcome
     requires { ⌜ (count ≤ length (now candidates)) × (count ≤ length (now weights)) × («row_count» ≤ length (now rows)) × (count ≤ length (now work)) × (n ≤ length (now triangles) + 2) ⌝ }
     requires { ⌜ WellFormed n (take count (now candidates)) (take count (now weights)) (take «row_count» (now rows)) ⌝ }
-    ensures { λ r. ⌜ result r (now (triangles .exit)) (now (work .exit)) ≡ settled (best (jobOf n (take count (now (candidates .entry))) (take count (now (weights .entry))) (take «row_count» (now (rows .entry))))) count (now (triangles .entry)) (now (work .entry)) ⌝ }
+    ensures { λ r. ⌜ result r (now (triangles .exit)) (now (work .exit)) ≡ settled (best (problemFrom n (take count (now (candidates .entry))) (take count (now (weights .entry))) (take «row_count» (now (rows .entry))))) count (now (triangles .entry)) (now (work .entry)) ⌝ }
 {
     triangulator::best_triangulation(
         n,
@@ -52,7 +52,7 @@ pub fn patch_polygon(
     work: &mut [u64],
 ) -> Outcome
     ensures { λ r. ⌜ patching r (tables (now (triangles .exit)) (now (candidates .exit)) (now (weights .exit)) (now (rows .exit)) (now (work .exit))) ≡ patchPolygon p (tables (now (triangles .entry)) (now (candidates .entry)) (now (weights .entry)) (now (rows .entry)) (now (work .entry))) ⌝ }
-    ensures { λ r. ⌜ valuesOf r ≡ dueValues (polygonNumber p (tables (now (triangles .entry)) (now (candidates .entry)) (now (weights .entry)) (now (rows .entry)) (now (work .entry)))) (p .n) (best (jobIn p)) ⌝ }
+    ensures { λ r. ⌜ valuesOf r ≡ dueValues (polygonNumber p (tables (now (triangles .entry)) (now (candidates .entry)) (now (weights .entry)) (now (rows .entry)) (now (work .entry)))) (p .n) (best (problemIn p)) ⌝ }
 {
     let n = p.n;
     let found = finder::find_beside(p, triangles.len(), work.len(), candidates, weights, rows);
@@ -85,7 +85,7 @@ pub fn patch_file(
     work: &mut [u64],
 ) -> Outcome
     ensures { λ r. ⌜ patching r (tables (now (triangles .exit)) (now (candidates .exit)) (now (weights .exit)) (now (rows .exit)) (now (work .exit))) ≡ patchFile limit (now (file .entry)) (tables (now (triangles .entry)) (now (candidates .entry)) (now (weights .entry)) (now (rows .entry)) (now (work .entry))) ⌝ }
-    ensures { λ r. ⌜ valuesOf r ≡ dueValues (fileNumber limit (now (file .entry)) (tables (now (triangles .entry)) (now (candidates .entry)) (now (weights .entry)) (now (rows .entry)) (now (work .entry)))) (polygonOf (now (file .entry)) .n) (best (jobIn (polygonOf (now (file .entry))))) ⌝ }
+    ensures { λ r. ⌜ valuesOf r ≡ dueValues (fileNumber limit (now (file .entry)) (tables (now (triangles .entry)) (now (candidates .entry)) (now (weights .entry)) (now (rows .entry)) (now (work .entry)))) (polygonOf (now (file .entry)) .n) (best (problemIn (polygonOf (now (file .entry))))) ⌝ }
 {
     let reading = reader::read_polygon(limit, file);
     let status = reading.status;

@@ -12,7 +12,7 @@ use Rattle.lists.proofs.Choice.{no}
 use Rattle.lists.proofs.Ranges.{some-none, some-here, some-nowhere, some-found}
 use Rattle.polygon.specs.declared.Polygon.{Polygon}
 use Rattle.terms.specs.Limits.{minVertices, maxVertices, maxAreaFactor, maxBendFactor}
-use Rattle.polygon.specs.Polygon.{vertexAt, samePoint, repeatedVertex, verticesCode, codeOf, Valid}
+use Rattle.polygon.specs.Polygon.{vertexAt, samePoint, repeatedVertex, verticesCode, codeOf, ValidPolygon}
 use Rattle.terms.specs.Numbers.{firstDue}
 use Rattle.polygon.proofs.Points.{point-equal, point-same}
 use Rattle.polygon.proofs.Codes.{on-grid-at, in-range-at, all-clear}
@@ -54,7 +54,7 @@ passed false false false (suc k) t₅ t₆ h = absurd (omega arith)
 passed false false false zero true t₆ h = absurd (omega arith)
 passed false false false zero false true h = absurd (omega arith)
 
-pub code-valid : (p : Polygon) → codeOf p ≡ 0 → Valid p
+pub code-valid : (p : Polygon) → codeOf p ≡ 0 → ValidPolygon p
 unfolding codeOf tests
 code-valid p h =
     let t = passed (ltb maxAreaFactor (p .«area_factor»)) (ltb maxBendFactor (p .«bend_factor»)) (ltb maxVertices (p .n)) (verticesCode (p .vertices) (p .normals) (p .n)) (ltb (p .n) minVertices) (repeatedVertex (p .vertices) (p .n)) h in
@@ -68,7 +68,7 @@ code-valid p h =
       distinct = repeated-none (p .vertices) (p .n) (t .same);
     }
 
-pub valid-code : (p : Polygon) → Valid p → codeOf p ≡ 0
+pub valid-code : (p : Polygon) → ValidPolygon p → codeOf p ≡ 0
 unfolding codeOf
 valid-code p v =
     no _ _ (le-ltb maxAreaFactor (p .«area_factor») (v .area-factor))

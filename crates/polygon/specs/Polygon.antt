@@ -61,7 +61,7 @@ codeOf p =
     (cond (repeatedVertex (p .vertices) (p .n)) 11 0)))))
 
 -- a polygon on which no number is due (rule 4.34)
-pub record Valid (p : Polygon) : Type 0 where
+pub record ValidPolygon (p : Polygon) : Type 0 where
   pub area-factor : p .«area_factor» ≤ maxAreaFactor
   pub bend-factor : p .«bend_factor» ≤ maxBendFactor
   pub most : p .n ≤ maxVertices

@@ -7,7 +7,7 @@ use Prim.Native.Nat.{ℕ, zero, suc, _+_, _≤_, _<_}
 use native.Mathlib.Omega.{arith}
 use lib.ListN.{getD}
 use Rattle.grid.specs.Point.{OnGrid, PointOnGrid}
-use Rattle.polygon.specs.Polygon.{Valid}
+use Rattle.polygon.specs.Polygon.{ValidPolygon}
 use Rattle.polygon.specs.Polygon as polygon
 use Rattle.polygon.specs.Normal.{noNormal, normalInRange, NormalInRange}
 use Rattle.polygon.specs.Normal as polygon-normals
@@ -15,7 +15,7 @@ use Rattle.polygon.proofs.Normals.{normal-in-range}
 use Rattle.polygon.proofs.Validity.{repeated-none}
 use Rattle.reader.specs.File.{headerStart, offset}
 use Rattle.reader.specs.Record.{known, heightOf}
-use Rattle.reader.specs.Chain.{link, heightBefore, vertexAt, numberOf, pointOf, normalAt, vertexCount, verticesOf, normalsOf}
+use Rattle.reader.specs.Chain.{link, heightBefore, vertexAtPosition, numberOf, pointOf, normalAtPosition, vertexCount, verticesOf, normalsOf}
 use Rattle.reader.specs.Due.{InFile, HasVertex, HasNormal}
 use Rattle.reader.specs.Reading.{numberDue, polygonOf, answer, readingOf}
 use Rattle.reader.specs.declared.Height.{Height}
@@ -33,17 +33,17 @@ use Rattle.reader.proofs.FirstNumber.{Read, read-end}
 use Rattle.reader.proofs.Demand1.{complete-read}
 
 module _ (limit : ℕ) (s : List ℕ) (r : Read limit s) where
-  fine : (i : ℕ) → i < vertexCount s → numberOf (vertexAt s i) ≡ 0
+  fine : (i : ℕ) → i < vertexCount s → numberOf (vertexAtPosition s i) ≡ 0
   fine i h = no-number limit s (vertexCount s) (read-end limit s r) (whole s (r .right)) i h
 
   is-vertex : (v : Vertex) → numberOf v ≡ 0 → ((k : ℕ) → v ≡ Refused k → 0 < k) → v ≡ At (pointOf v)
   is-vertex (At p) e h = refl
   is-vertex (Refused k) e h = absurd (omega (arith, h k refl, e))
 
-  vertexed-at : (i : ℕ) → i < vertexCount s → OnGrid (heightOf (heightBefore s i)) → Vertexed s (offset s (link s i)) (heightBefore s i) (pointOf (vertexAt s i))
+  vertexed-at : (i : ℕ) → i < vertexCount s → OnGrid (heightOf (heightBefore s i)) → Vertexed s (offset s (link s i)) (heightBefore s i) (pointOf (vertexAtPosition s i))
   vertexed-at i h g =
-      vertexed s (offset s (link s i)) (heightBefore s i) (pointOf (vertexAt s i)) g
-      (is-vertex (vertexAt s i) (fine i h) (λ k e. refused-positive s (offset s (link s i)) (known (heightBefore s i)) (heightOf (heightBefore s i)) k e))
+      vertexed s (offset s (link s i)) (heightBefore s i) (pointOf (vertexAtPosition s i)) g
+      (is-vertex (vertexAtPosition s i) (fine i h) (λ k e. refused-positive s (offset s (link s i)) (known (heightBefore s i)) (heightOf (heightBefore s i)) k e))
 
   height-on-grid : (i : ℕ) → i ≤ vertexCount s → OnGrid (heightOf (heightBefore s i))
   unfolding heightBefore
@@ -55,18 +55,18 @@ module _ (limit : ℕ) (s : List ℕ) (r : Read limit s) where
   vertex-on-grid : (i : ℕ) → i < vertexCount s → PointOnGrid (polygon.vertexAt (verticesOf s (vertexCount s)) i)
   vertex-on-grid i h = subst PointOnGrid (sym (vertex-in-table s (vertexCount s) i h)) (vertexed-at i h (height-on-grid i (omega arith)) .on-grid)
 
-  normal-fine : (i : ℕ) → i < vertexCount s → normalInRange (normalAt s i) ≡ true
+  normal-fine : (i : ℕ) → i < vertexCount s → normalInRange (normalAtPosition s i) ≡ true
   normal-fine i h = in-range limit s (vertexCount s) (read-end limit s r) (whole s (r .right)) i h
 
   normal-in-table : (i : ℕ) → i < vertexCount s → NormalInRange (polygon-normals.normalAt (normalsOf s (vertexCount s)) i)
   normal-in-table i h =
-      subst NormalInRange (sym (table-at (λ j. normalAt s j) noNormal (vertexCount s) i h))
-      (normal-in-range (normalAt s i) (normal-fine i h))
+      subst NormalInRange (sym (table-at (λ j. normalAtPosition s j) noNormal (vertexCount s) i h))
+      (normal-in-range (normalAtPosition s i) (normal-fine i h))
 
   few : vertexCount s ≤ limit
   few = count-within limit (limit-most limit (r .fits)) s (r .chain-fine)
 
-  valid : ((i : ℕ) → getD s i 0 < 256) → Valid (polygonOf s)
+  valid : ((i : ℕ) → getD s i 0 < 256) → ValidPolygon (polygonOf s)
   valid bytes = record {
     area-factor = r .area;
     bend-factor = omega (arith, bytes (headerStart s + 6), bytes (headerStart s + 6 + 1));
@@ -86,8 +86,8 @@ module _ (limit : ℕ) (s : List ℕ) (complete : readingOf limit s .status ≡ 
       by (suc k) e = absurd (let z : _≡_ {A = ℕ} 0 1 = cc in omega arith)
 
   -- the polygon is valid; the places of s are bytes
-  pub read-valid : ((i : ℕ) → getD s i 0 < 256) → Valid (readingOf limit s .polygon)
-  read-valid bytes = subst Valid (sym complete-polygon) (valid limit s (complete-read limit s complete) bytes)
+  pub read-valid : ((i : ℕ) → getD s i 0 < 256) → ValidPolygon (readingOf limit s .polygon)
+  read-valid bytes = subst ValidPolygon (sym complete-polygon) (valid limit s (complete-read limit s complete) bytes)
 
   -- it has no more vertices than the limit (rules 4.5, 4.20)
   pub within-limit : readingOf limit s .polygon .n ≤ limit
@@ -101,7 +101,7 @@ module _ (limit : ℕ) (s : List ℕ) (complete : readingOf limit s .status ≡ 
   -- its normals are those that the same records give (rules 1.13, 1.14)
   pub read-normals : (i : ℕ) → i < readingOf limit s .polygon .n → HasNormal s i (polygon-normals.normalAt (readingOf limit s .polygon .normals) i)
   read-normals = subst (λ p. (i : ℕ) → i < p .n → HasNormal s i (polygon-normals.normalAt (p .normals) i)) (sym complete-polygon)
-      (λ i h. subst (λ q. HasNormal s i q) (sym (table-at (λ j. normalAt s j) noNormal (vertexCount s) i h)) (has-normal s i (normal-fine limit s (complete-read limit s complete) i h)))
+      (λ i h. subst (λ q. HasNormal s i q) (sym (table-at (λ j. normalAtPosition s j) noNormal (vertexCount s) i h)) (has-normal s i (normal-fine limit s (complete-read limit s complete) i h)))
 
   -- and these records are among those of the file
   pub read-records : (i : ℕ) → i < readingOf limit s .polygon .n → InFile s (link s i)

@@ -17,7 +17,7 @@ use Rattle.polygon.specs.Polygon.{origin, repeatedVertex}
 use Rattle.terms.specs.Numbers.{firstDue}
 use Rattle.reader.specs.File.{u16At, u32At, signed16, i16At, isEdition2, recordSize1, recordSize, recordCount, offset, nextRecord, kind, thirdNumber}
 use Rattle.reader.specs.Record.{known, heightOf, recordAt, vertexOf, normalIn}
-use Rattle.reader.specs.Chain.{link, metBefore, heightBefore, vertexAt, numberOf, pointOf, normalAt, overLimit, linkCode, positionCode, codeFrom, endFrom, vertexCount, verticesOf, normalsOf}
+use Rattle.reader.specs.Chain.{link, metBefore, heightBefore, vertexAtPosition, numberOf, pointOf, normalAtPosition, overLimit, linkCode, positionCode, codeFrom, endFrom, vertexCount, verticesOf, normalsOf}
 use Rattle.reader.specs.Reading.{fileCode, numberDue, polygonOf, answer, readingOf}
 use Rattle.reader.specs.Editions.{SameRim}
 use Rattle.reader.specs.declared.Height.{Height}
@@ -140,13 +140,13 @@ module _ {s t : List ℕ} (same : SameRim s t) where
   height-agree zero = refl
   height-agree (suc i) = let m = kind-at i in let z = third-at i in let h = height-agree i in λ j. cond (eqb (m j) 1) (Known (roundEighths (z j))) (h j)
 
-  vertex-agree : (i : ℕ) → vertexAt s i ≡ vertexAt t i
+  vertex-agree : (i : ℕ) → vertexAtPosition s i ≡ vertexAtPosition t i
   vertex-agree i =
       ap (λ (r : Record). vertexOf r (heightOf (heightBefore s i))) (record-agree (link s i) (known (heightBefore s i)))
       ∙ ap (λ (k : ℕ). vertexOf (recordAt t (offset t k) (known (heightBefore s i))) (heightOf (heightBefore s i))) (link-agree i)
       ∙ ap (λ (h : Height). vertexOf (recordAt t (offset t (link t i)) (known h)) (heightOf h)) (height-agree i)
 
-  normal-at-agree : (i : ℕ) → normalAt s i ≡ normalAt t i
+  normal-at-agree : (i : ℕ) → normalAtPosition s i ≡ normalAtPosition t i
   normal-at-agree i = normal-agree (link s i) ∙ ap (λ (k : ℕ). normalIn t (offset t k)) (link-agree i)
 
   code-agree : (limit i : ℕ) → positionCode limit s i ≡ positionCode limit t i

@@ -11,7 +11,7 @@ use Rattle.lists.proofs.Choice.{yes, no, below-or-same}
 use Rattle.terms.specs.Limits.{maxVertices}
 use Rattle.polygon.specs.Normal.{normalInRange}
 use Rattle.terms.specs.Numbers.{firstDue}
-use Rattle.reader.specs.Chain.{vertexAt, numberOf, normalAt, linkCode, recordCode, positionCode, codeFrom, endFrom, chainCode, vertexCount}
+use Rattle.reader.specs.Chain.{vertexAtPosition, numberOf, normalAtPosition, linkCode, recordCode, positionCode, codeFrom, endFrom, chainCode, vertexCount}
 use Rattle.reader.specs.Chain as chain
 use Rattle.reader.specs.Order.{link-to, record-at}
 use Rattle.reader.specs.Due.{HasRecords, DueAt}
@@ -121,8 +121,8 @@ module _ (limit : ℕ) (s : List ℕ) (n : ℕ) (end : Ends limit s n) where
   reached-before : (i : ℕ) → i < n → Reached s i
   reached-before i h = record { has = shorter i (omega arith) (end .has); goes-on = end .has .in-file i h .numbered }
 
-  pub no-number : Whole s → (i : ℕ) → i < n → numberOf (vertexAt s i) ≡ 0
+  pub no-number : Whole s → (i : ℕ) → i < n → numberOf (vertexAtPosition s i) ≡ 0
   no-number whole i h = passing limit s whole i (reached-before i h) (end .quiet i h) .no-number
 
-  pub in-range : Whole s → (i : ℕ) → i < n → normalInRange (normalAt s i) ≡ true
+  pub in-range : Whole s → (i : ℕ) → i < n → normalInRange (normalAtPosition s i) ≡ true
   in-range whole i h = passing limit s whole i (reached-before i h) (end .quiet i h) .in-range

@@ -13,7 +13,7 @@ use Rattle.terms.specs.Limits.{maxVertices, countFits}
 use Rattle.polygon.specs.Polygon.{repeatedVertex}
 use Rattle.terms.specs.Numbers.{firstDue}
 use Rattle.reader.specs.File.{areaFactor, lengthWrong}
-use Rattle.reader.specs.Chain.{link, vertexAt, pointOf, linkCode, recordCode, positionCode, chainCode, vertexCount, verticesOf}
+use Rattle.reader.specs.Chain.{link, vertexAtPosition, pointOf, linkCode, recordCode, positionCode, chainCode, vertexCount, verticesOf}
 use Rattle.reader.specs.Order.{Place, request, header, link-to, record-at, rim, request-header, request-link, request-record, request-rim, header-link, header-record, header-rim, link-link, link-record, record-link, record-record, link-rim, record-rim, Precedes, by-place, by-number, First, NoneDue}
 use Rattle.reader.specs.Due.{HasVertex, DueAt, limit-wrong, length-wrong, area-factor, too-few, vertex-repeated}
 use Rattle.reader.specs.Reading.{fileCode, numberDue}
@@ -129,7 +129,7 @@ module _ (limit : ℕ) (s : List ℕ) where
                     let below : r .i < r .j = r .before in
                     let within : r .j < n = r .within in
                     let fine = no-number limit s n end (whole s right) in
-                    vertex-repeated (r .i) (r .j) (pointOf (vertexAt s (r .i))) below (shorter (suc (r .j)) within (end .has))
+                    vertex-repeated (r .i) (r .j) (pointOf (vertexAtPosition s (r .i))) below (shorter (suc (r .j)) within (end .has))
                     (has-vertex s (r .i) (λ m h. fine m (omega arith)))
                     (subst (λ (p : GridPoint). HasVertex s (r .j) p) (sym (r .equal)) (has-vertex s (r .j) (λ m h. fine m (omega arith))))
 

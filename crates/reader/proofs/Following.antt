@@ -15,7 +15,7 @@ use Rattle.polygon.specs.Normal.{noNormal}
 use Rattle.polygon.specs.Polygon.{origin}
 use Rattle.polygon.specs.declared.normal.Normal.{Normal}
 use Rattle.grid.specs.declared.GridPoint.{GridPoint}
-use Rattle.reader.specs.Chain.{link, vertexAt, pointOf, normalAt, positionCode, codeFrom, endFrom, chainCode, vertexCount, verticesOf, normalsOf}
+use Rattle.reader.specs.Chain.{link, vertexAtPosition, pointOf, normalAtPosition, positionCode, codeFrom, endFrom, chainCode, vertexCount, verticesOf, normalsOf}
 use Rattle.reader.specs.Steps.{Walking, Stepped, stoppedAt, walked, chainOf}
 use Rattle.reader.specs.declared.Progress.{Progress}
 use Rattle.reader.proofs.Tables.{table-next}
@@ -93,12 +93,12 @@ module _ {limit : ℕ} {s : List ℕ} {vertices : List GridPoint} {normals : Lis
       listed-next : set vertices (w .n) (r .vertex) ≡ verticesOf s (w .n + 1)
       listed-next =
           ap (λ (l : List GridPoint). set l (w .n) (r .vertex)) (f .listed)
-          ∙ table-next (λ i. pointOf (vertexAt s i)) origin (w .n) (r .vertex) room (ap pointOf (sym (step .vertex-is none)))
+          ∙ table-next (λ i. pointOf (vertexAtPosition s i)) origin (w .n) (r .vertex) room (ap pointOf (sym (step .vertex-is none)))
 
       normals-next : set normals (w .n) (r .normal) ≡ normalsOf s (w .n + 1)
       normals-next =
           ap (λ (l : List Normal). set l (w .n) (r .normal)) (f .listed-normals)
-          ∙ table-next (λ i. normalAt s i) noNormal (w .n) (r .normal) room (step .normal-is none)
+          ∙ table-next (λ i. normalAtPosition s i) noNormal (w .n) (r .normal) room (step .normal-is none)
 
       pub following-next : Following limit s (set vertices (w .n) (r .vertex)) (set normals (w .n) (r .normal)) r
       following-next =

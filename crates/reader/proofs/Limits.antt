@@ -12,7 +12,7 @@ use Rattle.lists.proofs.Choice.{yes, no, true-not-false, both-true}
 use Rattle.terms.specs.Limits.{minVertices, maxVertices, countFits}
 use Rattle.reader.specs.Chain.{overLimit, vertexCount}
 use Rattle.reader.specs.Order.{Place, link-to, link-link, Precedes, by-place, by-number, First, NoneDue}
-use Rattle.reader.specs.Due.{HasRecords, AtMost, DueAt, limit-wrong, length-wrong, area-factor, link-over, met-again, too-many, over-limit, kind-unknown, no-height, not-finite, tail-not-zero, out-of-range, normal-out-of-range, too-few, vertex-repeated}
+use Rattle.reader.specs.Due.{HasRecords, ChainAtMost, DueAt, limit-wrong, length-wrong, area-factor, link-over, met-again, too-many, over-limit, kind-unknown, no-height, not-finite, tail-not-zero, out-of-range, normal-out-of-range, too-few, vertex-repeated}
 use Rattle.reader.specs.Reading.{numberDue, polygonOf, answer, readingOf, statusNumber}
 use Rattle.reader.specs.declared.Status.the-variants.{Complete}
 use Rattle.reader.proofs.Order.{verdict-first, verdict-zero}
@@ -51,7 +51,7 @@ limit-fits {limit} h l = both-true (le-leb minVertices limit h) (le-leb limit ma
 
 module _ {small large : ℕ} (least : minVertices ≤ small) (below : small ≤ large) (most : large ≤ maxVertices) (s : List ℕ) where
   -- ---- one reading where the chain is within the smaller limit
-  module _ (few : AtMost s small) where
+  module _ (few : ChainAtMost s small) where
     onward : {p : Place} {k : ℕ} → DueAt small s p k → DueAt large s p k
     onward d = ⊎-elim (λ e. e) (λ o. absurd (few (o .has))) (due-or-over (limit-fits least (omega arith)) d)
 
@@ -98,7 +98,7 @@ module _ {small large : ℕ} (least : minVertices ≤ small) (below : small ≤ 
     number-over = verdict-first (verdict small s) first-20
 
 -- a rim that is read has no more records than vertices
-pub read-at-most : (limit : ℕ) (s : List ℕ) → readingOf limit s .status ≡ Complete → {m : ℕ} → readingOf limit s .polygon .n ≤ m → AtMost s m
+pub read-at-most : (limit : ℕ) (s : List ℕ) → readingOf limit s .status ≡ Complete → {m : ℕ} → readingOf limit s .polygon .n ≤ m → ChainAtMost s m
 read-at-most limit s complete {m} h has =
     let end = read-end limit s (complete-read limit s complete) in
     let l : vertexCount s ≤ m = subst (λ p. p .n ≤ m) (complete-polygon limit s complete) h in

@@ -13,7 +13,7 @@ use Rattle.polygon.specs.declared.normal.Normal.{Normal}
 use Rattle.polygon.proofs.Normals.{normal-in-range, normal-in-range-test}
 use Rattle.reader.specs.File.{isEdition2, offset}
 use Rattle.reader.specs.Record.{heldNormal, normalIn}
-use Rattle.reader.specs.Chain.{link, normalAt}
+use Rattle.reader.specs.Chain.{link, normalAtPosition}
 use Rattle.reader.specs.Order.{Place, record-at}
 use Rattle.reader.specs.Due.{normalNumbersOf, normalNumbersAt, HasRecords, HasNormal, held, none, DueAt, normal-out-of-range}
 
@@ -81,23 +81,23 @@ module _ (s : List ℕ) (at : ℕ) where
 -- ---- number 18 at a position
 module _ (s : List ℕ) (i : ℕ) where
   -- where a number of the normal is out of range, the normal is
-  pub normal-given : (c : ℤ) → List·Memᴰ c (normalNumbersAt s i) → (OnGrid c → ⊥) → normalInRange (normalAt s i) ≡ false
-  normal-given c m f = not-true-false (normalInRange (normalAt s i)) (λ h. f (number-in-range s (offset s (link s i)) h c m))
+  pub normal-given : (c : ℤ) → List·Memᴰ c (normalNumbersAt s i) → (OnGrid c → ⊥) → normalInRange (normalAtPosition s i) ≡ false
+  normal-given c m f = not-true-false (normalInRange (normalAtPosition s i)) (λ h. f (number-in-range s (offset s (link s i)) h c m))
 
   -- and where the normal is, 18 is due
-  pub normal-due : (limit : ℕ) → HasRecords s (suc i) → normalInRange (normalAt s i) ≡ false → DueAt limit s (record-at i) 18
+  pub normal-due : (limit : ℕ) → HasRecords s (suc i) → normalInRange (normalAtPosition s i) ≡ false → DueAt limit s (record-at i) 18
   normal-due limit has h =
       let o = outside s (offset s (link s i)) h in
       normal-out-of-range i (o .number) has (o .member) (o .fails)
 
   -- the normal of a record, where it is in range
-  pub has-normal : normalInRange (normalAt s i) ≡ true → HasNormal s i (normalAt s i)
+  pub has-normal : normalInRange (normalAtPosition s i) ≡ true → HasNormal s i (normalAtPosition s i)
   has-normal h = by (isEdition2 s) refl
     where
       at : ℕ
       at = offset s (link s i)
 
-      by : (b : Bool) → isEdition2 s ≡ b → HasNormal s i (normalAt s i)
+      by : (b : Bool) → isEdition2 s ≡ b → HasNormal s i (normalAtPosition s i)
       by true e =
           subst (λ (q : Normal). HasNormal s i q) (sym (normal-2 s at e))
           (held i e (normal-in-range (heldNormal s at) (subst (λ (q : Normal). normalInRange q ≡ true) (normal-2 s at e) h)))

@@ -13,7 +13,7 @@ use Rattle.polygon.specs.Normal.{normalInRange, normalCode}
 use Rattle.terms.specs.Numbers.{firstDue}
 use Rattle.terms.proofs.Numbers.{due-here, due-on, due-neither}
 use Rattle.reader.specs.File.{recordCount}
-use Rattle.reader.specs.Chain.{metBefore, vertexAt, numberOf, normalAt, overLimit, linkCode, recordCode, positionCode}
+use Rattle.reader.specs.Chain.{metBefore, vertexAtPosition, numberOf, normalAtPosition, overLimit, linkCode, recordCode, positionCode}
 use Rattle.reader.specs.Chain as chain
 use Rattle.reader.specs.Order.{link-to, record-at}
 use Rattle.reader.specs.Due.{InFile, HasRecords, DueAt, link-over, met-again, too-many, over-limit, kind-unknown, no-height, not-finite, tail-not-zero, out-of-range, normal-out-of-range}
@@ -83,16 +83,16 @@ module _ (limit : ℕ) (s : List ℕ) (i : ℕ) where
 
 module _ (s : List ℕ) (i : ℕ) where
   -- the record's number before its normal's
-  record-first : (k : ℕ) → UpTo k (numberOf (vertexAt s i)) → UpTo k (recordCode s i)
+  record-first : (k : ℕ) → UpTo k (numberOf (vertexAtPosition s i)) → UpTo k (recordCode s i)
   record-first k u =
-      let e : recordCode s i ≡ numberOf (vertexAt s i) = due-here (normalCode (normalAt s i)) refl (λ z. omega (arith, u .some)) in
+      let e : recordCode s i ≡ numberOf (vertexAtPosition s i) = due-here (normalCode (normalAtPosition s i)) refl (λ z. omega (arith, u .some)) in
       record { some = omega (arith, u .some); most = omega (arith, u .most) }
 
-  normal-first : normalInRange (normalAt s i) ≡ false → UpTo 18 (recordCode s i)
-  normal-first f = by (numberOf (vertexAt s i)) refl
+  normal-first : normalInRange (normalAtPosition s i) ≡ false → UpTo 18 (recordCode s i)
+  normal-first f = by (numberOf (vertexAtPosition s i)) refl
     where
-      by : (c : ℕ) → numberOf (vertexAt s i) ≡ c → UpTo 18 (recordCode s i)
-      by zero e = let d : recordCode s i ≡ 18 = due-on (normalCode (normalAt s i)) e ∙ no 0 18 f in record { some = omega arith; most = omega arith }
+      by : (c : ℕ) → numberOf (vertexAtPosition s i) ≡ c → UpTo 18 (recordCode s i)
+      by zero e = let d : recordCode s i ≡ 18 = due-on (normalCode (normalAtPosition s i)) e ∙ no 0 18 f in record { some = omega arith; most = omega arith }
       by (suc c) e = record-first 18 (record { some = omega arith; most = omega (arith, record-most s i) })
 
 module _ (limit : ℕ) (s : List ℕ) where
@@ -208,28 +208,28 @@ module _ (limit : ℕ) (s : List ℕ) (whole : Whole s) (i : ℕ) (r : Reached s
 
   -- the number of the record, or of its normal
   pub given-record : (c : ℕ) → linkCode limit s i ≡ 0 → recordCode s i ≡ suc c → DueAt limit s (record-at i) (suc c)
-  given-record c l e = number (numberOf (vertexAt s i)) refl e
+  given-record c l e = number (numberOf (vertexAtPosition s i)) refl e
     where
       has : HasRecords s (suc i)
       has = linked l .next
 
-      number : (j : ℕ) → numberOf (vertexAt s i) ≡ j → firstDue j (normalCode (normalAt s i)) ≡ suc c → DueAt limit s (record-at i) (suc c)
+      number : (j : ℕ) → numberOf (vertexAtPosition s i) ≡ j → firstDue j (normalCode (normalAtPosition s i)) ≡ suc c → DueAt limit s (record-at i) (suc c)
       number (suc j) d e = record-due s i limit has c (d ∙ e)
-      number zero d e = by (normalInRange (normalAt s i)) refl
+      number zero d e = by (normalInRange (normalAtPosition s i)) refl
         where
-          by : (b : Bool) → normalInRange (normalAt s i) ≡ b → DueAt limit s (record-at i) (suc c)
+          by : (b : Bool) → normalInRange (normalAtPosition s i) ≡ b → DueAt limit s (record-at i) (suc c)
           by true r = absurd (omega (arith, sym (yes 0 18 r) ∙ e))
           by false r = subst (λ (k : ℕ). DueAt limit s (record-at i) k) (sym (no 0 18 r) ∙ e) (normal-due s i limit has r)
 
   -- where no number is given at the position, the record has besides a vertex and a normal in range
   pub record Passing : Type 0 where
     pub on : Linked
-    pub no-number : numberOf (vertexAt s i) ≡ 0
-    pub in-range : normalInRange (normalAt s i) ≡ true
+    pub no-number : numberOf (vertexAtPosition s i) ≡ 0
+    pub in-range : normalInRange (normalAtPosition s i) ≡ true
 
   pub passing : positionCode limit s i ≡ 0 → Passing
   unfolding positionCode
   passing e =
       let n = due-neither (linkCode limit s i) (recordCode s i) e in
-      let m = due-neither (numberOf (vertexAt s i)) (normalCode (normalAt s i)) (n .1) in
-      record { on = linked (n .0); no-number = m .0; in-range = quiet (normalInRange (normalAt s i)) (m .1) }
+      let m = due-neither (numberOf (vertexAtPosition s i)) (normalCode (normalAtPosition s i)) (n .1) in
+      record { on = linked (n .0); no-number = m .0; in-range = quiet (normalInRange (normalAtPosition s i)) (m .1) }

@@ -14,7 +14,7 @@ use Rattle.grid.specs.Number.{finite, inRange, roundEighths}
 use Rattle.grid.specs.Point.{point}
 use Rattle.reader.specs.File.{offset, firstNumber, secondNumber, thirdNumber}
 use Rattle.reader.specs.Record.{known, heightOf, everyNumber, numbersCode, vertexUnless}
-use Rattle.reader.specs.Chain.{heightBefore, vertexAt, numberOf}
+use Rattle.reader.specs.Chain.{heightBefore, vertexAtPosition, numberOf}
 use Rattle.reader.specs.Chain as chain
 use Rattle.reader.specs.Order.{record-at}
 use Rattle.reader.specs.Due.{HasRecords, kindAt, tailZeroAt, floatsAt, DueAt, kind-unknown, no-height, not-finite, tail-not-zero, out-of-range}
@@ -45,16 +45,16 @@ module _ (s : List ℕ) (i : ℕ) where
   abbrev pub levelFloats : List Float
   levelFloats = firstNumber s (offset s (chain.link s i)) ∷ secondNumber s (offset s (chain.link s i)) ∷ []
 
-  pub record-number : numberOf (vertexAt s i) ≡ tests (eqb (kindAt s i) 1) (eqb (kindAt s i) 2) (known (heightBefore s i)) (tailZeroAt s i) pointFloats levelFloats
+  pub record-number : numberOf (vertexAtPosition s i) ≡ tests (eqb (kindAt s i) 1) (eqb (kindAt s i) 2) (known (heightBefore s i)) (tailZeroAt s i) pointFloats levelFloats
   record-number =
       ap numberOf (shape-is (eqb (kindAt s i) 1) (eqb (kindAt s i) 2) (known (heightBefore s i)) (tailZeroAt s i) s (offset s (chain.link s i)) (heightOf (heightBefore s i)) refl refl refl)
       ∙ shape-number (eqb (kindAt s i) 1) (eqb (kindAt s i) 2) (known (heightBefore s i)) (tailZeroAt s i) (firstNumber s (offset s (chain.link s i))) (secondNumber s (offset s (chain.link s i))) (thirdNumber s (offset s (chain.link s i))) (heightOf (heightBefore s i))
 
   -- the numbers of a record come before 18
-  pub record-most : numberOf (vertexAt s i) ≤ 9
+  pub record-most : numberOf (vertexAtPosition s i) ≤ 9
   record-most = by (eqb (kindAt s i) 1) (eqb (kindAt s i) 2) (known (heightBefore s i)) (tailZeroAt s i) record-number
     where
-      by : (one two kn tail : Bool) → numberOf (vertexAt s i) ≡ tests one two kn tail pointFloats levelFloats → numberOf (vertexAt s i) ≤ 9
+      by : (one two kn tail : Bool) → numberOf (vertexAtPosition s i) ≡ tests one two kn tail pointFloats levelFloats → numberOf (vertexAtPosition s i) ≤ 9
       by true two kn tail e = omega (arith, e, numbers-most pointFloats)
       by false true true true e = omega (arith, e, numbers-most levelFloats)
       by false true true false e = omega (arith, e)
@@ -62,46 +62,46 @@ module _ (s : List ℕ) (i : ℕ) where
       by false false kn tail e = omega (arith, e)
 
   -- ---- of a level point
-  level-number : kindAt s i ≡ 2 → numberOf (vertexAt s i) ≡ cond (known (heightBefore s i)) (cond (tailZeroAt s i) (numbersCode levelFloats) 8) 7
+  level-number : kindAt s i ≡ 2 → numberOf (vertexAtPosition s i) ≡ cond (known (heightBefore s i)) (cond (tailZeroAt s i) (numbersCode levelFloats) 8) 7
   level-number k = record-number ∙ no _ _ (ne-eqb (kindAt s i) 1 (λ e. omega arith)) ∙ yes _ _ (eq-eqb (kindAt s i) 2 k)
 
   -- ---- a number that is due on the record: the one that is given is at most that
-  pub kind-given : (kindAt s i ≡ 1 → ⊥) → (kindAt s i ≡ 2 → ⊥) → numberOf (vertexAt s i) ≡ 6
+  pub kind-given : (kindAt s i ≡ 1 → ⊥) → (kindAt s i ≡ 2 → ⊥) → numberOf (vertexAtPosition s i) ≡ 6
   kind-given a b = record-number ∙ no _ _ (ne-eqb (kindAt s i) 1 a) ∙ no _ _ (ne-eqb (kindAt s i) 2 b)
 
-  pub height-given : kindAt s i ≡ 2 → ((j : ℕ) → j < i → kindAt s j ≡ 1 → ⊥) → numberOf (vertexAt s i) ≡ 7
+  pub height-given : kindAt s i ≡ 2 → ((j : ℕ) → j < i → kindAt s j ≡ 1 → ⊥) → numberOf (vertexAtPosition s i) ≡ 7
   height-given k none = level-number k ∙ no _ _ (no-height-known s i none)
 
-  pub tail-given : kindAt s i ≡ 2 → tailZeroAt s i ≡ false → UpTo 8 (numberOf (vertexAt s i))
+  pub tail-given : kindAt s i ≡ 2 → tailZeroAt s i ≡ false → UpTo 8 (numberOf (vertexAtPosition s i))
   tail-given k t = by (known (heightBefore s i)) refl
     where
-      by : (b : Bool) → known (heightBefore s i) ≡ b → UpTo 8 (numberOf (vertexAt s i))
-      by false p = let e : numberOf (vertexAt s i) ≡ 7 = level-number k ∙ no _ _ p in record { some = omega arith; most = omega arith }
-      by true p = let e : numberOf (vertexAt s i) ≡ 8 = level-number k ∙ yes _ _ p ∙ no _ _ t in record { some = omega arith; most = omega arith }
+      by : (b : Bool) → known (heightBefore s i) ≡ b → UpTo 8 (numberOf (vertexAtPosition s i))
+      by false p = let e : numberOf (vertexAtPosition s i) ≡ 7 = level-number k ∙ no _ _ p in record { some = omega arith; most = omega arith }
+      by true p = let e : numberOf (vertexAtPosition s i) ≡ 8 = level-number k ∙ yes _ _ p ∙ no _ _ t in record { some = omega arith; most = omega arith }
 
   -- of a float: 7, 8, or what the floats give
-  floats-given : (k : ℕ) (v : Float) → 8 ≤ k → List·Memᴰ v (floatsAt s i) → ((vs : List Float) → List·Memᴰ v vs → UpTo k (numbersCode vs)) → UpTo k (numberOf (vertexAt s i))
+  floats-given : (k : ℕ) (v : Float) → 8 ≤ k → List·Memᴰ v (floatsAt s i) → ((vs : List Float) → List·Memᴰ v vs → UpTo k (numbersCode vs)) → UpTo k (numberOf (vertexAtPosition s i))
   floats-given k v h m code = by (eqb (kindAt s i) 1) (eqb (kindAt s i) 2) (known (heightBefore s i)) (tailZeroAt s i) refl refl refl refl
     where
       member : {vs : List Float} → floatsAt s i ≡ vs → List·Memᴰ v vs
       member e = subst (λ (l : List Float). List·Memᴰ v l) e m
 
-      upto : {c : ℕ} → numberOf (vertexAt s i) ≡ c → UpTo k c → UpTo k (numberOf (vertexAt s i))
+      upto : {c : ℕ} → numberOf (vertexAtPosition s i) ≡ c → UpTo k c → UpTo k (numberOf (vertexAtPosition s i))
       upto e u = record { some = omega (arith, u .some); most = omega (arith, u .most) }
 
-      by : (one two kn tail : Bool) → eqb (kindAt s i) 1 ≡ one → eqb (kindAt s i) 2 ≡ two → known (heightBefore s i) ≡ kn → tailZeroAt s i ≡ tail → UpTo k (numberOf (vertexAt s i))
+      by : (one two kn tail : Bool) → eqb (kindAt s i) 1 ≡ one → eqb (kindAt s i) 2 ≡ two → known (heightBefore s i) ≡ kn → tailZeroAt s i ≡ tail → UpTo k (numberOf (vertexAtPosition s i))
       by true two kn tail a b c d = upto (record-number ∙ yes _ _ a) (code pointFloats (member (yes _ _ a)))
       by false true true true a b c d = upto (record-number ∙ no _ _ a ∙ yes _ _ b ∙ yes _ _ c ∙ yes _ _ d) (code levelFloats (member (no _ _ a ∙ yes _ _ b)))
       by false true true false a b c d = upto (record-number ∙ no _ _ a ∙ yes _ _ b ∙ yes _ _ c ∙ no _ _ d) (record { some = omega arith; most = h })
       by false true false tail a b c d = upto (record-number ∙ no _ _ a ∙ yes _ _ b ∙ no _ _ c) (record { some = omega arith; most = omega arith })
       by false false kn tail a b c d = absurd (List·Memᴰ·not-nil (member (no _ _ a ∙ no _ _ b)))
 
-  pub finite-given : (v : Float) → List·Memᴰ v (floatsAt s i) → finite v ≡ false → UpTo 8 (numberOf (vertexAt s i))
+  pub finite-given : (v : Float) → List·Memᴰ v (floatsAt s i) → finite v ≡ false → UpTo 8 (numberOf (vertexAtPosition s i))
   finite-given v m f =
       floats-given 8 v (omega arith) m
       (λ vs n. let e : numbersCode vs ≡ 8 = finite-code vs (every-not finite vs v n f) in record { some = omega arith; most = omega arith })
 
-  pub range-given : (v : Float) → List·Memᴰ v (floatsAt s i) → inRange v ≡ false → UpTo 9 (numberOf (vertexAt s i))
+  pub range-given : (v : Float) → List·Memᴰ v (floatsAt s i) → inRange v ≡ false → UpTo 9 (numberOf (vertexAtPosition s i))
   range-given v m f = floats-given 9 v (omega arith) m (λ vs n. range-code vs (every-not inRange vs v n f))
 
   -- ---- the number that is given is due
@@ -119,7 +119,7 @@ module _ (s : List ℕ) (i : ℕ) where
             subst (λ (k : ℕ). DueAt limit s (record-at i) k) d (out-of-range i (w .value) has (subst (λ (l : List Float). List·Memᴰ (w .value) l) (sym u) (w .member)) (w .fails))
         by true true p q d = absurd (omega (arith, d))
 
-    pub record-due : (c : ℕ) → numberOf (vertexAt s i) ≡ suc c → DueAt limit s (record-at i) (suc c)
+    pub record-due : (c : ℕ) → numberOf (vertexAtPosition s i) ≡ suc c → DueAt limit s (record-at i) (suc c)
     record-due c e = by (eqb (kindAt s i) 1) (eqb (kindAt s i) 2) (known (heightBefore s i)) (tailZeroAt s i) refl refl refl refl (sym record-number ∙ e)
       where
         by : (one two kn tail : Bool) → eqb (kindAt s i) 1 ≡ one → eqb (kindAt s i) 2 ≡ two → known (heightBefore s i) ≡ kn → tailZeroAt s i ≡ tail →

@@ -19,7 +19,7 @@ use Rattle.polygon.proofs.Points.{point-equal}
 use Rattle.polygon.proofs.Validity.{repeated-none}
 use Rattle.reader.specs.File.{offset, firstNumber, secondNumber, thirdNumber}
 use Rattle.reader.specs.Record.{known, heightOf, numbersCode, vertexUnless}
-use Rattle.reader.specs.Chain.{heightBefore, vertexAt, numberOf, pointOf, verticesOf}
+use Rattle.reader.specs.Chain.{heightBefore, vertexAtPosition, numberOf, pointOf, verticesOf}
 use Rattle.reader.specs.Chain as chain
 use Rattle.reader.specs.Due.{kindAt, tailZeroAt, floatsAt, OnGridAt, xAt, yAt, heightAt, HasVertex, a-point, a-level-point}
 use Rattle.reader.proofs.Tables.{table-at}
@@ -31,7 +31,7 @@ use Rattle.reader.proofs.RecordNumbers.{tests, pointFloats, levelFloats
 module _ (s : List ℕ) where
   -- the vertex by its tests
   vertex-shape : (i : ℕ) (one two kn tail : Bool) → eqb (kindAt s i) 1 ≡ one → eqb (kindAt s i) 2 ≡ two → known (heightBefore s i) ≡ kn → tailZeroAt s i ≡ tail →
-      vertexAt s i ≡ shape one two kn tail (firstNumber s (offset s (chain.link s i))) (secondNumber s (offset s (chain.link s i))) (thirdNumber s (offset s (chain.link s i))) (heightOf (heightBefore s i))
+      vertexAtPosition s i ≡ shape one two kn tail (firstNumber s (offset s (chain.link s i))) (secondNumber s (offset s (chain.link s i))) (thirdNumber s (offset s (chain.link s i))) (heightOf (heightBefore s i))
   vertex-shape i one two kn tail a b c d = rw c (shape-is one two kn tail s (offset s (chain.link s i)) (heightOf (heightBefore s i)) a b d)
 
   grid-code : (i : ℕ) (vs : List Float) → floatsAt s i ≡ vs → OnGridAt s i → numbersCode vs ≡ 0
@@ -40,7 +40,7 @@ module _ (s : List ℕ) where
       (every-all inRange vs (λ v m. g .all-in-range v (subst (λ (l : List Float). List·Memᴰ v l) (sym e) m)))
 
   -- a vertex that a record gives is the one that the reader has for it
-  pub vertex-is : (i : ℕ) (p : GridPoint) → HasVertex s i p → pointOf (vertexAt s i) ≡ p
+  pub vertex-is : (i : ℕ) (p : GridPoint) → HasVertex s i p → pointOf (vertexAtPosition s i) ≡ p
   unfolding shape
   vertex-is _ _ (a-point i k g) =
       let one : eqb (kindAt s i) 1 ≡ true = eq-eqb (kindAt s i) 1 k in
@@ -59,7 +59,7 @@ module _ (s : List ℕ) where
     sound-point : kindAt s i ≡ 1 → OnGridAt s i → Sound i
     sound-level : kindAt s i ≡ 2 → known (heightBefore s i) ≡ true → tailZeroAt s i ≡ true → OnGridAt s i → Sound i
 
-  sound : (i : ℕ) → numberOf (vertexAt s i) ≡ 0 → Sound i
+  sound : (i : ℕ) → numberOf (vertexAtPosition s i) ≡ 0 → Sound i
   sound i e = by (eqb (kindAt s i) 1) (eqb (kindAt s i) 2) (known (heightBefore s i)) (tailZeroAt s i) refl refl refl refl (sym (record-number s i) ∙ e)
     where
       on-grid : (vs : List Float) → floatsAt s i ≡ vs → numbersCode vs ≡ 0 → OnGridAt s i
@@ -82,13 +82,13 @@ module _ (s : List ℕ) where
   sound-on-grid i (sound-point k g) = g
   sound-on-grid i (sound-level k c t g) = g
 
-  pub has-vertex : (i : ℕ) → ((j : ℕ) → j < suc i → numberOf (vertexAt s j) ≡ 0) → HasVertex s i (pointOf (vertexAt s i))
+  pub has-vertex : (i : ℕ) → ((j : ℕ) → j < suc i → numberOf (vertexAtPosition s j) ≡ 0) → HasVertex s i (pointOf (vertexAtPosition s i))
   has-vertex i none = by (sound i (none i (omega arith)))
     where
-      listed : (p : GridPoint) → HasVertex s i p → HasVertex s i (pointOf (vertexAt s i))
+      listed : (p : GridPoint) → HasVertex s i p → HasVertex s i (pointOf (vertexAtPosition s i))
       listed p h = subst (λ (q : GridPoint). HasVertex s i q) (sym (vertex-is i p h)) h
 
-      by : Sound i → HasVertex s i (pointOf (vertexAt s i))
+      by : Sound i → HasVertex s i (pointOf (vertexAtPosition s i))
       by (sound-point k g) = listed (point (xAt s i) (yAt s i) (heightAt s i)) (a-point i k g)
       by (sound-level k c t g) =
           let f = last-point s i c in
@@ -98,8 +98,8 @@ module _ (s : List ℕ) where
 
   -- ---- the reader's list
   -- vertex i of the list is the vertex at position i
-  pub vertex-in-table : (n i : ℕ) → i < n → polygon.vertexAt (verticesOf s n) i ≡ pointOf (vertexAt s i)
-  vertex-in-table = table-at (λ i. pointOf (vertexAt s i)) origin
+  pub vertex-in-table : (n i : ℕ) → i < n → polygon.vertexAt (verticesOf s n) i ≡ pointOf (vertexAtPosition s i)
+  vertex-in-table = table-at (λ i. pointOf (vertexAtPosition s i)) origin
 
   -- where two vertices of the list are equal
   pub record Repeated (n : ℕ) : Type 0 where
@@ -107,7 +107,7 @@ module _ (s : List ℕ) where
     pub j : ℕ
     pub before : i < j
     pub within : j < n
-    pub equal : pointOf (vertexAt s i) ≡ pointOf (vertexAt s j)
+    pub equal : pointOf (vertexAtPosition s i) ≡ pointOf (vertexAtPosition s j)
 
   pub repeated : (n : ℕ) → repeatedVertex (verticesOf s n) n ≡ true → Repeated n
   unfolding repeatedVertex
@@ -126,5 +126,5 @@ module _ (s : List ℕ) where
             ∙ vertex-in-table n (f .at) (f .high);
       }
 
-  pub not-repeated : (n i j : ℕ) → repeatedVertex (verticesOf s n) n ≡ false → i < j → j < n → pointOf (vertexAt s i) ≡ pointOf (vertexAt s j) → ⊥
+  pub not-repeated : (n i j : ℕ) → repeatedVertex (verticesOf s n) n ≡ false → i < j → j < n → pointOf (vertexAtPosition s i) ≡ pointOf (vertexAtPosition s j) → ⊥
   not-repeated n i j r h l e = repeated-none (verticesOf s n) n r i j h l (vertex-in-table n i (omega arith) ∙ e ∙ sym (vertex-in-table n j l))

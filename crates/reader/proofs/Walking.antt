@@ -26,7 +26,7 @@ use Rattle.grid.specs.Point.{OnGrid}
 use Rattle.grid.specs.Number.{roundEighths}
 use Rattle.reader.specs.File.{u16At, firstRecord, recordCount, maxRecords, recordNumbers, offset, kind, thirdNumber}
 use Rattle.reader.specs.Record.{known, heightOf, recordAt, vertexOf, normalIn}
-use Rattle.reader.specs.Chain.{link, metBefore, heightBefore, vertexAt, numberOf, normalAt, overLimit, linkCode, recordCode, positionCode}
+use Rattle.reader.specs.Chain.{link, metBefore, heightBefore, vertexAtPosition, numberOf, normalAtPosition, overLimit, linkCode, recordCode, positionCode}
 use Rattle.reader.specs.Steps.{Walking, Stepped}
 use Rattle.reader.specs.declared.Progress.{Progress}
 use Rattle.reader.specs.declared.Height.{Height}
@@ -109,14 +109,14 @@ module _ {limit : ℕ} {s : List ℕ} {w : Progress} (v : Walking limit s w) whe
           (no 3 _ link-fine ∙ no 4 _ (sym met-here ∙ new) ∙ yes (overLimit limit) _ (le-leb limit (w .n) (omega arith)))
 
       module _ (room : w .n < limit) (at : ℕ) (place : at ≡ offset s (w .link)) where
-        record-code : positionCode limit s (w .n) ≡ firstDue (numberOf (vertexAt s (w .n))) (normalCode (normalAt s (w .n)))
+        record-code : positionCode limit s (w .n) ≡ firstDue (numberOf (vertexAtPosition s (w .n))) (normalCode (normalAtPosition s (w .n)))
         unfolding positionCode linkCode
         record-code = due-on (recordCode s (w .n)) (no 3 _ link-fine ∙ no 4 _ (sym met-here ∙ new) ∙ no (overLimit limit) _ (lt-leb limit (w .n) room))
 
         starts : at ≡ offset s (link s (w .n))
         starts = place ∙ ap (λ (k : ℕ). offset s k) (v .here)
 
-        vertex-here : vertexOf (recordAt s at (known (w .height))) (heightOf (w .height)) ≡ vertexAt s (w .n)
+        vertex-here : vertexOf (recordAt s at (known (w .height))) (heightOf (w .height)) ≡ vertexAtPosition s (w .n)
         vertex-here =
             ap (λ (i : ℕ). vertexOf (recordAt s i (known (w .height))) (heightOf (w .height))) starts
             ∙ ap (λ (h : Height). vertexOf (recordAt s (offset s (link s (w .n))) (known h)) (heightOf h)) (v .level)
@@ -125,7 +125,7 @@ module _ {limit : ℕ} {s : List ℕ} {w : Progress} (v : Walking limit s w) whe
         pub record-stops : {r : Progress} (k : ℕ) → vertexOf (recordAt s at (known (w .height))) (heightOf (w .height)) ≡ Refused k → r .code ≡ k → Stepped limit s w r
         record-stops k e c =
             let some = refused-positive s at (known (w .height)) (heightOf (w .height)) k e in
-            stopped-by k some (record-code ∙ due-here (normalCode (normalAt s (w .n))) (sym (ap numberOf (sym vertex-here ∙ e))) (λ z. omega arith)) c
+            stopped-by k some (record-code ∙ due-here (normalCode (normalAtPosition s (w .n))) (sym (ap numberOf (sym vertex-here ∙ e))) (λ z. omega arith)) c
 
         -- past the record here: it is marked, and its height is known
         marked-next : (k : ℕ) → k < recordNumbers → getD (set (w .met) (w .link) true) k false ≡ metBefore s (suc (w .n)) k
@@ -148,12 +148,12 @@ module _ {limit : ℕ} {s : List ℕ} {w : Progress} (v : Walking limit s w) whe
 
         -- the record here has a vertex, and this normal
         module _ (p : GridPoint) (has-vertex : vertexOf (recordAt s at (known (w .height))) (heightOf (w .height)) ≡ At p) (q : Normal) (has-normal : q ≡ normalIn s at) where
-          normal-here : q ≡ normalAt s (w .n)
+          normal-here : q ≡ normalAtPosition s (w .n)
           normal-here = has-normal ∙ ap (λ (i : ℕ). normalIn s i) starts
 
           normal-code : {b : Bool} → normalInRange q ≡ b → positionCode limit s (w .n) ≡ cond b 0 18
           normal-code f =
-              record-code ∙ due-on (normalCode (normalAt s (w .n))) (ap numberOf (sym vertex-here ∙ has-vertex))
+              record-code ∙ due-on (normalCode (normalAtPosition s (w .n))) (ap numberOf (sym vertex-here ∙ has-vertex))
               ∙ ap normalCode (sym normal-here) ∙ ap (λ (b : Bool). cond b 0 18) f
 
           -- the normal is refused

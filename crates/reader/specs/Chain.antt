@@ -36,8 +36,8 @@ heightBefore s (suc i) =
     cond (eqb (kind s (offset s (link s i))) 1) (Known (roundEighths (thirdNumber s (offset s (link s i))))) (heightBefore s i)
 
 -- the vertex at position i, or the first number due on its record (rule 1.8)
-abbrev pub vertexAt : List ℕ → ℕ → Vertex
-vertexAt s i = vertexOf (recordAt s (offset s (link s i)) (known (heightBefore s i))) (heightOf (heightBefore s i))
+abbrev pub vertexAtPosition : List ℕ → ℕ → Vertex
+vertexAtPosition s i = vertexOf (recordAt s (offset s (link s i)) (known (heightBefore s i))) (heightOf (heightBefore s i))
 
 abbrev pub numberOf : Vertex → ℕ
 numberOf (At p) = 0
@@ -48,8 +48,8 @@ pointOf (At p) = p
 pointOf (Refused k) = origin
 
 -- the normal of the record at position i (rule 1.13)
-abbrev pub normalAt : List ℕ → ℕ → Normal
-normalAt s i = normalIn s (offset s (link s i))
+abbrev pub normalAtPosition : List ℕ → ℕ → Normal
+normalAtPosition s i = normalIn s (offset s (link s i))
 
 -- the number of a record that is one too many: 5 at the largest limit, 20 at any other (rules 4.5, 4.20)
 abbrev pub overLimit : ℕ → ℕ
@@ -65,7 +65,7 @@ linkCode limit s i =
 
 -- the first number due on the record at position i (rule 4.31): 6 to 9, then 18 on its normal
 abbrev pub recordCode : List ℕ → ℕ → ℕ
-recordCode s i = firstDue (numberOf (vertexAt s i)) (normalCode (normalAt s i))
+recordCode s i = firstDue (numberOf (vertexAtPosition s i)) (normalCode (normalAtPosition s i))
 
 -- the first number due at position i (rule 4.31): on the link that leads there, then on the record
 unfoldable pub positionCode : ℕ → List ℕ → ℕ → ℕ
@@ -95,8 +95,8 @@ vertexCount s = endFrom s 0 (suc maxVertices)
 
 -- the first n vertices in the chain's order (rule 1.8), and the origin in the places after them
 abbrev pub verticesOf : List ℕ → ℕ → List GridPoint
-verticesOf s n = filled (over 0 n (λ i. pointOf (vertexAt s i) ∷ [])) (replicate maxVertices origin)
+verticesOf s n = filled (over 0 n (λ i. pointOf (vertexAtPosition s i) ∷ [])) (replicate maxVertices origin)
 
 -- the normals of the first n vertices (rules 1.13, 1.14), and none in the places after them
 abbrev pub normalsOf : List ℕ → ℕ → List Normal
-normalsOf s n = filled (over 0 n (λ i. normalAt s i ∷ [])) (replicate maxVertices noNormal)
+normalsOf s n = filled (over 0 n (λ i. normalAtPosition s i ∷ [])) (replicate maxVertices noNormal)

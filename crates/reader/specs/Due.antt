@@ -33,8 +33,8 @@ pub record HasRecords (s : List ℕ) (m : ℕ) : Type 0 where
   pub different : (i j : ℕ) → i < j → j < m → link s i ≡ link s j → ⊥
 
 -- the chain has at most m records (rule 1.5)
-abbrev pub AtMost : List ℕ → ℕ → Type 0
-AtMost s m = HasRecords s (suc m) → ⊥
+abbrev pub ChainAtMost : List ℕ → ℕ → Type 0
+ChainAtMost s m = HasRecords s (suc m) → ⊥
 
 -- the kind of the record at position i, and whether the four bytes after its first two floats are zero (rules 1.3, 1.7)
 abbrev pub kindAt : List ℕ → ℕ → ℕ

@@ -14,7 +14,7 @@ use Rattle.grid.specs.declared.GridNumber.{GridNumber}
 use Rattle.grid.specs.declared.GridNumber.the-variants.{Value, NotFinite, OutOfRange}
 use Rattle.reader.specs.File.{recordNumbers}
 use Rattle.reader.specs.Record.{heightOf}
-use Rattle.reader.specs.Chain.{link, metBefore, heightBefore, vertexAt, normalAt, positionCode, chainCode, vertexCount, verticesOf, normalsOf}
+use Rattle.reader.specs.Chain.{link, metBefore, heightBefore, vertexAtPosition, normalAtPosition, positionCode, chainCode, vertexCount, verticesOf, normalsOf}
 use Rattle.reader.specs.declared.Chain.{Chain}
 use Rattle.reader.specs.declared.Progress.{Progress}
 use Rattle.reader.specs.declared.Vertex.{Vertex}
@@ -59,8 +59,8 @@ pub record Stepped (limit : ℕ) (s : List ℕ) (w r : Progress) : Type 0 where
   pub number : r .code ≡ positionCode limit s (w .n)
   pub walking : r .code ≡ 0 → Walking limit s r
   pub next : r .code ≡ 0 → r .n ≡ w .n + 1
-  pub vertex-is : r .code ≡ 0 → vertexAt s (w .n) ≡ At (r .vertex)
-  pub normal-is : r .code ≡ 0 → r .normal ≡ normalAt s (w .n)
+  pub vertex-is : r .code ≡ 0 → vertexAtPosition s (w .n) ≡ At (r .vertex)
+  pub normal-is : r .code ≡ 0 → r .normal ≡ normalAtPosition s (w .n)
 
 -- what the loop over the steps returns
 abbrev pub stoppedAt : ℕ → Chain

@@ -12,7 +12,7 @@ use lib.Dec.{eqb, ltb}
 use borrow.Author.Tests.{eqb-true, eqb-false, eq-eqb, ltb-true, ltb-false, lt-ltb}
 use Rattle.terms.specs.Entries.{entryAt, outer, inner, rowWeight}
 use Rattle.lists.proofs.Choice.{no, not-true-false, true-not-false}
-use Rattle.triangulation.specs.Jobs.{pairWeight}
+use Rattle.triangulation.specs.Problems.{pairWeight}
 use Rattle.rows.specs.Search.{RowsAscend, Cut, rowIsBefore, rowOrZero}
 
 -- (x, y) is before (o, i), or is not

@@ -9,7 +9,7 @@ use lib.ListN.{length, take, drop, getD, length-drop}
 use lib.Seq.{getD-take, getD-drop, length-take-le}
 use lib.Dec.{eqb}
 use Rattle.terms.specs.Entries.{entryAt, outer, inner, rowWeight}
-use Rattle.triangulation.specs.Jobs.{pairWeight}
+use Rattle.triangulation.specs.Problems.{pairWeight}
 use Rattle.rows.specs.Search.{RowsAscend, Cut, Run, rowIsBefore}
 use Rattle.rows.proofs.Bisection.{before-true, before-false, is-before, names-false, skip, none}
 

@@ -6,7 +6,7 @@ use mathlib.Core.List.{List}
 use lib.ListN.{length}
 use lib.Dec.{eqb, ltb}
 use Rattle.terms.specs.Entries.{entryAt, outer, inner, rowWeight}
-use Rattle.triangulation.specs.Jobs.{pairWeight}
+use Rattle.triangulation.specs.Problems.{pairWeight}
 
 -- a row is before (o, i)
 abbrev pub rowIsBefore : List ℕ → ℕ → ℕ → Bool

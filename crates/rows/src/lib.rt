@@ -2,7 +2,7 @@
 ghost use mathlib.Core.Path.{_≡_};
 ghost use Prim.Native.Nat.{_+_, _<_, _≤_};
 ghost use Rattle.terms.specs.Limits.{maxTriples};
-ghost use Rattle.triangulation.specs.Jobs.{pairWeight};
+ghost use Rattle.triangulation.specs.Problems.{pairWeight};
 ghost use Rattle.rows.specs.Search.{RowsAscend, rowIsBefore, rowOrZero, Cut};
 
 // The row is before (outer, inner).

@@ -6,8 +6,8 @@ use mathlib.Core.List.{List, [], _∷_, _++_}
 use native.Mathlib.Omega.{arith}
 use lib.ListN.{length, length-append}
 use Rattle.terms.specs.Limits.{maxWeight}
-use Rattle.triangulation.specs.Triangulations.{Job, Valid}
-use Rattle.triangulation.specs.Jobs.{Bounded}
+use Rattle.triangulation.specs.Triangulations.{Problem, ValidProblem}
+use Rattle.triangulation.specs.Problems.{Bounded}
 use Rattle.triangulation.specs.Recursion.{bestUnder, bestFrom, costOf, maxTotal}
 use Rattle.triangulation.proofs.Parts.{Part, edge, node, hingeWeight, part-length}
 use Rattle.triangulation.proofs.Recursion.{Best, Root, none, some, edge-best, root-is}
@@ -17,7 +17,7 @@ pub data Shape (u : ℕ) (k : List ℕ) : Type 0 where
   nil : k ≡ [] → Shape u k
   cons : (x : ℕ) (l : List ℕ) → k ≡ x ∷ u ∷ l → x + maxWeight ≤ maxTotal → Shape u k
 
-module _ (job : Job) (good : Valid job) (bound : Bounded job) where
+module _ (job : Problem) (good : ValidProblem job) (bound : Bounded job) where
   hinge-light : (t : ℕ) (l : List ℕ) → hingeWeight job t l ≤ maxWeight
   hinge-light t [] = omega arith
   hinge-light t (u ∷ l) = bound .row-light t u

@@ -9,7 +9,7 @@ use native.Mathlib.Nat.{le-antisymm}
 use lib.ListN.{length}
 use lib.Dec.{eqb}
 use borrow.Author.Tests.{eqb-true, eqb-false}
-use Rattle.triangulation.specs.Triangulations.{Job, Valid, Answer, none, patch, answerOf, sum, upFrom, subsets, noLater, least, isTriangulation, triangulations, totalWeight, preorder, key, bestKey, best}
+use Rattle.triangulation.specs.Triangulations.{Problem, ValidProblem, Answer, none, patch, answerOf, sum, upFrom, subsets, noLater, least, isTriangulation, triangulations, totalWeight, preorder, key, bestKey, best}
 use Rattle.triangulation.specs.Demand3.{Triangulates, Earlier, here, later, Optimal, Demand3, NamesOnce, HandedBack}
 use Rattle.triangulation.proofs.Sums.{Mem, mem-keep, keep-mem, once-apart}
 use Rattle.triangulation.proofs.Parts.{part-length}
@@ -87,7 +87,7 @@ pub sum-ones : (s : List ℕ) → sum (λ k. 1) s ≡ length s
 sum-ones [] = refl
 sum-ones (x ∷ s) = omega (arith, sum-ones s)
 
-module _ (job : Job) (good : Valid job) where
+module _ (job : Problem) (good : ValidProblem job) where
   -- the members of a tiling are candidates
   pub members : (s : List ℕ) → Triangulates job s → (k : ℕ) → Mem k s → k < job .size
   members s h k m = omega (arith, upFrom-mem 0 (job .size) k (subset-mem (upFrom 0 (job .size)) s (h .0) k m))

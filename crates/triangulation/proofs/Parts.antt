@@ -8,7 +8,7 @@ use native.Mathlib.Omega.{arith}
 use lib.ListN.{length, length-append}
 use lib.Dec.{eqb}
 use borrow.Author.Tests.{eqb-true, eqb-false}
-use Rattle.triangulation.specs.Triangulations.{Job, Valid, only, longEdge, shortEdge, countBetween, countOutside}
+use Rattle.triangulation.specs.Triangulations.{Problem, ValidProblem, only, longEdge, shortEdge, countBetween, countOutside}
 use Rattle.triangulation.proofs.Sums.{sum-append}
 
 -- 1 where (i, j) is the edge (p, q)
@@ -97,7 +97,7 @@ within-node h k ea ec (miss₂ e t) (inr y) (inl z) = inr (omega arith)
 within-node h k ea ec (miss₂ e t) (inl y) (inr z) = inr (omega arith)
 within-node h k ea ec (miss₂ e t) (inr y) (inr z) = absurd (omega arith)
 
-module _ (job : Job) where
+module _ (job : Problem) where
   -- the row weight of the first triangle of a list to the triangle o that it hangs on
   abbrev pub hingeWeight : ℕ → List ℕ → ℕ
   hingeWeight o [] = 0
@@ -114,7 +114,7 @@ module _ (job : Job) where
   part-length (edge e) = omega arith
   part-length (node {l = l} {r = r} u h ei ej wl wr) = omega (arith, part-length wl, part-length wr, length-append l r)
 
-  module _ (good : Valid job) where
+  module _ (good : ValidProblem job) where
     -- each edge is in as many triangles on one side as on the other, but for the edge (i, j) and the rim
     pub boundary : {i j : ℕ} {l : List ℕ} {x : ℕ} → Part i j l x → (p q : ℕ) → countOutside job l p q + isEdge i j p q ≡ countBetween job l p q + isStep i j p q
     unfolding countBetween countOutside

@@ -8,7 +8,7 @@ use native.Mathlib.Omega.{arith}
 use native.Mathlib.Nat.{le-antisymm}
 use lib.Dec.{eqb, leb}
 use borrow.Author.Tests.{eqb-true, eqb-false, eq-eqb, ne-eqb, leb-true, le-leb}
-use Rattle.triangulation.specs.Triangulations.{Job, Valid, only, sum, keep, upFrom, allBelow, longEdge, shortEdge, countBetween, countOutside, totalWeight, preorderFrom, isBoundary, edgeOk, isTriangulation}
+use Rattle.triangulation.specs.Triangulations.{Problem, ValidProblem, only, sum, keep, upFrom, allBelow, longEdge, shortEdge, countBetween, countOutside, totalWeight, preorderFrom, isBoundary, edgeOk, isTriangulation}
 use Rattle.triangulation.proofs.Sums.{Mem, count, sum-same, count-mono, mem-count, mem-keep, keep-mem}
 use Rattle.triangulation.proofs.Parts.{Part, edge, node, boundary, within, Within, between-le, isEdge, isStep, IsEdge, IsStep, isEdge-cases, isStep-cases}
 use Rattle.triangulation.proofs.SetParts.{Set, longEdge-is, share, part-total, part-list, and-true}
@@ -55,7 +55,7 @@ count-keep p q (x ∷ xs) = go (q x) (count-keep p q xs)
     go true ih = omega arith
     go false ih = omega arith
 
-module _ (job : Job) (good : Valid job) where
+module _ (job : Problem) (good : ValidProblem job) where
   pub valid : {i j : ℕ} {l : List ℕ} {x : ℕ} → Part job i j l x → (k : ℕ) → Mem k l → k < job .size
   valid (edge e) k m = absurd (List·Memᴰ·not-nil m)
   valid (node {l = l} u h ei ej wl wr) k m =

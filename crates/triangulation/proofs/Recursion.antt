@@ -8,7 +8,7 @@ use native.Mathlib.Omega.{arith}
 use lib.ListN.{length}
 use lib.Dec.{eqb}
 use borrow.Author.Tests.{eqb-true, eqb-false, eq-eqb, ne-eqb}
-use Rattle.triangulation.specs.Triangulations.{Job, Valid, keep, upFrom, noLater, least, longEdge, bestKey}
+use Rattle.triangulation.specs.Triangulations.{Problem, ValidProblem, keep, upFrom, noLater, least, longEdge, bestKey}
 use Rattle.triangulation.specs.Recursion.{addRow, join, bestUnder, bestFrom}
 use Rattle.triangulation.proofs.Sums.{Mem, mem-keep, keep-mem}
 use Rattle.triangulation.proofs.Parts.{Part, edge, node, hingeWeight, part-length}
@@ -35,7 +35,7 @@ row-noLater w x y l r p = go (noLater-cases x y l r p)
     go (less a) = noLater-less (x + w) (y + w) l r (omega arith)
     go (same a h) = noLater-same (x + w) (y + w) l r (omega arith) h
 
-module _ (job : Job) where
+module _ (job : Problem) where
   -- k is the key of the least part from i to j under t, or [] where there is none
   pub data Best (t i j : ℕ) (k : List ℕ) : Type 0 where
     none : k ≡ [] → ((l : List ℕ) (x : ℕ) → Part job i j l x → ⊥) → Best t i j k
@@ -57,7 +57,7 @@ module _ (job : Job) where
   root-best u k k′ (some l x e w h) (some r y e′ w′ h′) = some l r x y (ap₂ (join (job .weight u) u) e e′) w w′
       (λ l′ r′ x′ y′ v v′. join-noLater (job .weight u) u (x + hingeWeight job u l) (x′ + hingeWeight job u l′) (y + hingeWeight job u r) (y′ + hingeWeight job u r′) l l′ r r′ (omega (arith, part-length job w, part-length job v)) (h l′ x′ v) (h′ r′ y′ v′))
 
-  module _ (good : Valid job) (t i j : ℕ) where
+  module _ (good : ValidProblem job) (t i j : ℕ) where
     rim-low : {i j y : ℕ} {r : List ℕ} → Part job i j r y → j ≡ i + 1 → noLater (0 ∷ []) ((y + hingeWeight job t r) ∷ r) ≡ true
     rim-low (edge e) h = refl
     rim-low (node u k ei ej wl wr) h = absurd (omega (arith, good .ab u k, good .bc u k))
@@ -123,7 +123,7 @@ module _ (job : Job) where
           go [] e = none e (λ l x w. false≢true (rw e at (low l x w)))
           go (k ∷ ks) e = pick k ks e (map-mem keyOf (k ∷ ks) these (member keys k ks e))
 
-  pub edge-best : Valid job → (f t i j : ℕ) → i < j → j ≤ f + i → Best t i j (bestUnder job f t i j)
+  pub edge-best : ValidProblem job → (f t i j : ℕ) → i < j → j ≤ f + i → Best t i j (bestUnder job f t i j)
   unfolding bestUnder
   edge-best good zero t i j h b = absurd (omega arith)
   edge-best good (suc f) t i j h b = go (eqb j (i + 1)) refl (λ t i j. edge-best good f t i j)
@@ -142,7 +142,7 @@ module _ (job : Job) where
   best-unique t i j k k′ (some l x e w h) (some l′ x′ e′ w′ h′) = e ∙ noLater-antisym _ _ (h l′ x′ w′) (h′ l x w) ∙ sym e′
 
   -- The answer, by the recursion: t is a number that no row has for its outer.
-  pub best-edge : Valid job → (t : ℕ) → ((u : ℕ) → job .row t u ≡ 0) → (f : ℕ) → job .n ≤ f → bestKey job ≡ bestUnder job f t 0 (job .n - 1)
+  pub best-edge : ValidProblem job → (t : ℕ) → ((u : ℕ) → job .row t u ≡ 0) → (f : ℕ) → job .n ≤ f → bestKey job ≡ bestUnder job f t 0 (job .n - 1)
   best-edge good t z f b = go (edge-best good f t 0 (job .n - 1) (omega (arith, good .n3)) (omega arith))
     where
       no-row : (l : List ℕ) → hingeWeight job t l ≡ 0
@@ -156,7 +156,7 @@ module _ (job : Job) where
       go (none e h) = best-none job good h ∙ sym e
       go (some l x e w h) = best-is job good l x w (λ k y v. ap₂ noLater (sym (plain l x)) (sym (plain k y)) ∙ h k y v) ∙ sym (plain l x) ∙ sym e
 
-  module _ (good : Valid job) where
+  module _ (good : ValidProblem job) where
     -- enough fuel is enough
     pub edge-fuel : (f g t i j : ℕ) → i < j → j ≤ f + i → j ≤ g + i → bestUnder job f t i j ≡ bestUnder job g t i j
     edge-fuel f g t i j h p q = best-unique t i j _ _ (edge-best good f t i j h p) (edge-best good g t i j h q)

@@ -8,7 +8,7 @@ use native.Mathlib.Omega.{arith}
 use native.Mathlib.Nat.{le-antisymm}
 use lib.Dec.{eqb}
 use borrow.Author.Tests.{eqb-true, eqb-false, eq-eqb}
-use Rattle.triangulation.specs.Triangulations.{Job, Valid, sum, keep, joined, allBelow, longEdge, shortEdge, countBetween, countOutside, totalWeight, preorderFrom, preorder, isBoundary, edgeOk, isTriangulation}
+use Rattle.triangulation.specs.Triangulations.{Problem, ValidProblem, sum, keep, joined, allBelow, longEdge, shortEdge, countBetween, countOutside, totalWeight, preorderFrom, preorder, isBoundary, edgeOk, isTriangulation}
 use Rattle.triangulation.proofs.Sums.{Mem, count, sum-same, count-mono, mem-count, Any, any, none, some, One, one, the-one}
 use Rattle.triangulation.proofs.Parts.{Part, edge, node, boundary, between-le, isStep, IsEdge, IsStep, isEdge-cases, isStep-cases}
 use Rattle.triangulation.proofs.Parts as W
@@ -26,7 +26,7 @@ pub or-cases : (x y : Bool) → (x || y) ≡ true → (x ≡ true) ⊎ (y ≡ tr
 or-cases true y e = inl refl
 or-cases false y e = inr e
 
-module _ (job : Job) where
+module _ (job : Problem) where
   pub shortEdge-cases : (i j u : ℕ) → shortEdge job i j u ≡ true → ((job .a u ≡ i) × (job .b u ≡ j)) ⊎ ((job .b u ≡ i) × (job .c u ≡ j))
   shortEdge-cases i j u t = ⊎-elim (λ e. inl (both-eq (job .a u) i (job .b u) j e)) (λ e. inr (both-eq (job .b u) i (job .c u) j e)) (or-cases _ _ t)
 
@@ -59,7 +59,7 @@ module _ (job : Job) where
       go true y e = refl
       go false y e = e
 
-  module _ (good : Valid job) (s : List ℕ) (valid : (k : ℕ) → Mem k s → k < job .size) (isTriangulated : isTriangulation job s ≡ true) where
+  module _ (good : ValidProblem job) (s : List ℕ) (valid : (k : ℕ) → Mem k s → k < job .size) (isTriangulated : isTriangulation job s ≡ true) where
     pub at : (i j : ℕ) → i < j → j < job .n → Edge i j (countBetween job s i j) (countOutside job s i j)
     unfolding isTriangulation
     at i j h k = edge-of i j _ _ (below-true j _ (below-true (job .n) _ isTriangulated j k) i h)

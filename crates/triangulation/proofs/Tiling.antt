@@ -10,7 +10,7 @@ use lib.ListN.{length, getD}
 use lib.Dec.{eqb}
 use borrow.Author.Tests.{eqb-true, eqb-false, eq-eqb}
 use Rattle.lists.proofs.Members.{Ascending, empty, more, ascending-at, member-entry}
-use Rattle.triangulation.specs.Triangulations.{Job, Valid, upFrom, subsets, longEdge, shortEdge, countBetween, countOutside, isBoundary, edgeOk, isTriangulation}
+use Rattle.triangulation.specs.Triangulations.{Problem, ValidProblem, upFrom, subsets, longEdge, shortEdge, countBetween, countOutside, isBoundary, edgeOk, isTriangulation}
 use Rattle.triangulation.specs.Demand3.{Triangulates}
 use Rattle.triangulation.specs.Tiling.{RimEdge, to-next, closing, ExactlyOne, of-ab, of-bc, of-ac, HasEdge, edge, Between, between, Outside, before, after, Inner, unused, in-two, Tiling}
 use Rattle.triangulation.proofs.Sums.{Mem, count, mem-keep, the-one, One, one, mem-count, Any, any, none, some}
@@ -93,7 +93,7 @@ or-right : (x y : Bool) → y ≡ true → (x || y) ≡ true
 or-right true y e = refl
 or-right false y e = e
 
-module _ (job : Job) (good : Valid job) where
+module _ (job : Problem) (good : ValidProblem job) where
   -- ---- an edge of a candidate as a test and as a fact
   module _ (i j k : ℕ) (below : k < job .size) where
     to-between : longEdge job i j k ≡ true → Between job i j k

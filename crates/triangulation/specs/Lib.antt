@@ -1,5 +1,5 @@
 pub mod Triangulations
-pub mod Jobs
+pub mod Problems
 pub mod Demand3
 pub mod Tiling
 pub mod Recursion

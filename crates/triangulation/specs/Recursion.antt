@@ -4,7 +4,7 @@ use mathlib.Core.Bool.{cond}
 use mathlib.Core.List.{List, [], _∷_, _++_, map}
 use lib.Dec.{eqb}
 use Rattle.terms.specs.Limits.{maxVertices, maxWeight}
-use Rattle.triangulation.specs.Triangulations.{Job, keep, upFrom, least, longEdge}
+use Rattle.triangulation.specs.Triangulations.{Problem, keep, upFrom, least, longEdge}
 
 -- a key whose total has a row's weight added
 abbrev pub addRow : ℕ → List ℕ → List ℕ
@@ -35,7 +35,7 @@ abbrev pub restOf : List ℕ → List ℕ
 restOf [] = []
 restOf (x ∷ l) = l
 
-module _ (job : Job) where
+module _ (job : Problem) where
   -- the best key beneath the edge (i, j) of triangle t, with the row to t; the first argument bounds the depth
   unfoldable pub bestUnder : ℕ → ℕ → ℕ → ℕ → List ℕ
   bestUnder zero t i j = []

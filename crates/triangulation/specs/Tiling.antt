@@ -4,7 +4,7 @@ use Prim.Native.Nat.{ℕ, _+_, _-_, _<_}
 use mathlib.Core.Path.{_≡_}
 use mathlib.Core.List.{List, List·Memᴰ}
 use lib.ListN.{length, getD}
-use Rattle.triangulation.specs.Triangulations.{Job}
+use Rattle.triangulation.specs.Triangulations.{Problem}
 
 -- of vertices i < j < n, (i, j) is a rim edge (rule 3.2)
 pub data RimEdge (n i j : ℕ) : Type 0 where
@@ -18,7 +18,7 @@ pub record ExactlyOne (P : ℕ → Type 0) (s : List ℕ) : Type 0 where
   pub has : P the
   pub only : (k : ℕ) → List·Memᴰ k s → P k → k ≡ the
 
-module _ (job : Job) where
+module _ (job : Problem) where
   -- candidate k has the edge (i, j), where i < j, and v is its third vertex (rule 3.3)
   pub data Third (i j k v : ℕ) : Type 0 where
     of-ab : job .a k ≡ i → job .b k ≡ j → job .c k ≡ v → Third i j k v

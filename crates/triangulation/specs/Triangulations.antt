@@ -7,7 +7,7 @@ use lib.Dec.{ltb, eqb}
 
 -- A job has n vertices and `size` candidates, numbered from 0 (rule 3.1). Candidate k is the triangle (a k, b k, c k) and weighs `weight k`.
 -- `row o i` is the weight of the row with outer o and inner i, and 0 where there is none (rule 3.4).
-pub record Job : Type 0 where
+pub record Problem : Type 0 where
   pub n : ℕ
   pub size : ℕ
   pub a : ℕ → ℕ
@@ -17,7 +17,7 @@ pub record Job : Type 0 where
   pub row : ℕ → ℕ → ℕ
 
 -- what the theorems ask of a job: at least three vertices, and a < b < c < n for each candidate; an accepted job and a rim's have it (rules 4.14, 4.15)
-pub record Valid (job : Job) : Type 0 where
+pub record ValidProblem (job : Problem) : Type 0 where
   pub n3 : 3 ≤ job .n
   pub ab : (k : ℕ) → k < job .size → job .a k < job .b k
   pub bc : (k : ℕ) → k < job .size → job .b k < job .c k
@@ -79,7 +79,7 @@ abbrev pub answerOf : List ℕ → Answer
 answerOf [] = none
 answerOf (x ∷ l) = patch x l
 
-module _ (job : Job) where
+module _ (job : Problem) where
   -- (i, j) is an edge of candidate k, with the third vertex between i and j (rule 3.3)
   abbrev pub longEdge : ℕ → ℕ → ℕ → Bool
   longEdge i j k = eqb (job .a k) i && eqb (job .c k) j

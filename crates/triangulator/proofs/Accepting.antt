@@ -8,7 +8,7 @@ use native.Mathlib.Omega.{arith}
 use lib.ListN.{length}
 use lib.Dec.{eqb}
 use Rattle.triangulation.specs.Triangulations.{best}
-use Rattle.triangulation.specs.Jobs.{jobOf, pairWeight}
+use Rattle.triangulation.specs.Problems.{problemFrom, pairWeight}
 use Rattle.triangulation.specs.Demand3.{Demand3}
 use Rattle.triangulation.proofs.Demand3.{demand3}
 use Rattle.terms.specs.Limits.{maxVertices, maxWeight}
@@ -65,5 +65,5 @@ module _ (n : ℕ) (candidates : List (List ℕ)) (weights : List ℕ) (rows : L
       (well-formed (a .at-least) (a .at-most) (a .lists), a .work-room, omega (arith, a .triangle-room))
 
   -- Demand 3 for every direct job on which no number is due.
-  pub accepted-demand3 : (places work-places : ℕ) → jobCode n candidates weights rows places work-places ≡ 0 → Demand3 (jobOf n candidates weights rows) (best (jobOf n candidates weights rows))
-  accepted-demand3 places work-places e = demand3 (jobOf n candidates weights rows) (accepted-well-formed places work-places e .0 .valid)
+  pub accepted-demand3 : (places work-places : ℕ) → jobCode n candidates weights rows places work-places ≡ 0 → Demand3 (problemFrom n candidates weights rows) (best (problemFrom n candidates weights rows))
+  accepted-demand3 places work-places e = demand3 (problemFrom n candidates weights rows) (accepted-well-formed places work-places e .0 .valid)

@@ -7,8 +7,8 @@ use lib.ListN.{length}
 use borrow.Author.Tests.{eq-eqb, ne-eqb}
 use Rattle.lists.proofs.Choice.{yes, no}
 use Rattle.lists.proofs.Writing.{filled-take}
-use Rattle.triangulation.specs.Triangulations.{Job, Valid, Answer, none, patch, best}
-use Rattle.triangulation.specs.Jobs.{jobOf}
+use Rattle.triangulation.specs.Triangulations.{Problem, ValidProblem, Answer, none, patch, best}
+use Rattle.triangulation.specs.Problems.{problemFrom}
 use Rattle.triangulation.specs.Demand3.{Optimal, Demand3, HandedBack}
 use Rattle.triangulation.proofs.Demand3.{demand3, handed-back}
 use Rattle.jobs.specs.Job.{jobCode}
@@ -35,7 +35,7 @@ not-taken e a-patch = let z : _≡_ {A = ℕ} 0 1 = cc in omega arith
 not-taken e a-none = let z : _≡_ {A = ℕ} 0 1 = cc in omega arith
 
 -- the part handed back with that outcome and table is as promised
-pub settled-handed : (job : Job) → Valid job → (count : ℕ) (triangles work : List ℕ) →
+pub settled-handed : (job : Problem) → ValidProblem job → (count : ℕ) (triangles work : List ℕ) →
     Handed job (partOf (settled (best job) count triangles work .outcome) (settled (best job) count triangles work .triangles)) (settled (best job) count triangles work .outcome)
 settled-handed job good count triangles work = go (best job) (demand3 job good .patch-is)
   where
@@ -45,11 +45,11 @@ settled-handed job good count triangles work = go (best job) (demand3 job good .
         let b = handed-back job good total l (h total l refl) in
         with-patch {total = total} (b .count) (rw (part-patch l triangles total) b)
 
-pub refused-handed : (job : Job) (number : ℕ) (triangles : List ℕ) → Handed job (partOf (Refused number) triangles) (Refused number)
+pub refused-handed : (job : Problem) (number : ℕ) (triangles : List ℕ) → Handed job (partOf (Refused number) triangles) (Refused number)
 refused-handed job number triangles = with-refusal (part-empty (Refused number) triangles refl)
 
 -- what is handed back with a patch
-pub patch-handed : {job : Job} {part : List ℕ} {count total : ℕ} → Handed job part (Patch count total) → HandedBack job total part
+pub patch-handed : {job : Problem} {part : List ℕ} {count total : ℕ} → Handed job part (Patch count total) → HandedBack job total part
 patch-handed (with-patch c h) = h
 
 module _ (n : ℕ) (candidates : List (List ℕ)) (weights : List ℕ) (rows : List (List ℕ)) (triangles work : List ℕ) where
@@ -59,7 +59,7 @@ module _ (n : ℕ) (candidates : List (List ℕ)) (weights : List ℕ) (rows : L
   number : ℕ
   number = jobCode n candidates weights rows (length triangles) (length work)
 
-  settled-call : number ≡ 0 → call ≡ settled (best (jobOf n candidates weights rows)) (length candidates) triangles work
+  settled-call : number ≡ 0 → call ≡ settled (best (problemFrom n candidates weights rows)) (length candidates) triangles work
   unfolding call number triangulated
   settled-call e = yes _ _ (eq-eqb number 0 e)
 
@@ -72,7 +72,7 @@ module _ (n : ℕ) (candidates : List (List ℕ)) (weights : List ℕ) (rows : L
   unfolding call number
   job-taken a =
       subst (λ (r : Result). Taken (r .outcome)) (sym (settled-call (accepted-zero n candidates weights rows (length triangles) (length work) a)))
-      (settled-taken (best (jobOf n candidates weights rows)) (length candidates) triangles work)
+      (settled-taken (best (problemFrom n candidates weights rows)) (length candidates) triangles work)
 
   pub job-taken-only : Taken (triangulated n candidates weights rows triangles work .outcome) → Accepted n candidates weights rows (length triangles) (length work)
   unfolding call number
@@ -97,28 +97,28 @@ module _ (n : ℕ) (candidates : List (List ℕ)) (weights : List ℕ) (rows : L
   job-refused-only k r = by number refl
     where
       by : (j : ℕ) → number ≡ j → FirstDue n candidates weights rows (length triangles) (length work) k
-      by zero e = absurd (not-taken r (subst (λ (r : Result). Taken (r .outcome)) (sym (settled-call e)) (settled-taken (best (jobOf n candidates weights rows)) (length candidates) triangles work)))
+      by zero e = absurd (not-taken r (subst (λ (r : Result). Taken (r .outcome)) (sym (settled-call e)) (settled-taken (best (problemFrom n candidates weights rows)) (length candidates) triangles work)))
       by (suc j) e =
           let q : suc j ≡ k = ap numberOf (sym (ap (λ (r : Result). r .outcome) (refused-call j e)) ∙ r) in
           subst (λ (i : ℕ). FirstDue n candidates weights rows (length triangles) (length work) i) q (code-due n candidates weights rows (length triangles) (length work) j e)
 
   -- the answer to an accepted job is the right one (rule 3.7)
   pub job-demand3 : Accepted n candidates weights rows (length triangles) (length work) →
-      Demand3 (jobOf n candidates weights rows) (stated (triangulated n candidates weights rows triangles work .outcome) (triangulated n candidates weights rows triangles work .triangles))
+      Demand3 (problemFrom n candidates weights rows) (stated (triangulated n candidates weights rows triangles work .outcome) (triangulated n candidates weights rows triangles work .triangles))
   unfolding call number
   job-demand3 a =
       let e = accepted-zero n candidates weights rows (length triangles) (length work) a in
-      subst (λ (x : Answer). Demand3 (jobOf n candidates weights rows) x)
-      (sym (ap (λ (r : Result). stated (r .outcome) (r .triangles)) (settled-call e) ∙ settled-states (best (jobOf n candidates weights rows)) (length candidates) triangles work))
+      subst (λ (x : Answer). Demand3 (problemFrom n candidates weights rows) x)
+      (sym (ap (λ (r : Result). stated (r .outcome) (r .triangles)) (settled-call e) ∙ settled-states (best (problemFrom n candidates weights rows)) (length candidates) triangles work))
       (accepted-demand3 n candidates weights rows (length triangles) (length work) e)
 
   -- what the caller is handed back, after every call (rules 3.8, 4.30)
-  pub job-handed : Handed (jobOf n candidates weights rows) (partOf (triangulated n candidates weights rows triangles work .outcome) (triangulated n candidates weights rows triangles work .triangles)) (triangulated n candidates weights rows triangles work .outcome)
+  pub job-handed : Handed (problemFrom n candidates weights rows) (partOf (triangulated n candidates weights rows triangles work .outcome) (triangulated n candidates weights rows triangles work .triangles)) (triangulated n candidates weights rows triangles work .outcome)
   unfolding call number
   job-handed = by number refl
     where
-      by : (k : ℕ) → number ≡ k → Handed (jobOf n candidates weights rows) (partOf (call .outcome) (call .triangles)) (call .outcome)
-      by zero e = subst (λ (r : Result). Handed (jobOf n candidates weights rows) (partOf (r .outcome) (r .triangles)) (r .outcome)) (sym (settled-call e))
-          (settled-handed (jobOf n candidates weights rows) (accepted-well-formed n candidates weights rows (length triangles) (length work) e .0 .valid) (length candidates) triangles work)
-      by (suc k) e = subst (λ (r : Result). Handed (jobOf n candidates weights rows) (partOf (r .outcome) (r .triangles)) (r .outcome)) (sym (refused-call k e))
-          (refused-handed (jobOf n candidates weights rows) (suc k) triangles)
+      by : (k : ℕ) → number ≡ k → Handed (problemFrom n candidates weights rows) (partOf (call .outcome) (call .triangles)) (call .outcome)
+      by zero e = subst (λ (r : Result). Handed (problemFrom n candidates weights rows) (partOf (r .outcome) (r .triangles)) (r .outcome)) (sym (settled-call e))
+          (settled-handed (problemFrom n candidates weights rows) (accepted-well-formed n candidates weights rows (length triangles) (length work) e .0 .valid) (length candidates) triangles work)
+      by (suc k) e = subst (λ (r : Result). Handed (problemFrom n candidates weights rows) (partOf (r .outcome) (r .triangles)) (r .outcome)) (sym (refused-call k e))
+          (refused-handed (problemFrom n candidates weights rows) (suc k) triangles)

@@ -6,7 +6,7 @@ use lib.ListN.{length, replicate}
 use lib.Dec.{eqb}
 use Rattle.lists.specs.Lists.{filled, firstPlaces}
 use Rattle.triangulation.specs.Triangulations.{Answer, none, patch, best}
-use Rattle.triangulation.specs.Jobs.{jobOf}
+use Rattle.triangulation.specs.Problems.{problemFrom}
 use Rattle.jobs.specs.Job.{jobCode}
 use Rattle.triangulator.specs.declared.Outcome.{Outcome}
 use Rattle.triangulator.specs.declared.Outcome.the-variants.{Patch, None, Refused}
@@ -75,4 +75,4 @@ refusedOr number triangles work otherwise = cond (eqb number 0) otherwise (resul
 unfoldable pub triangulated : ℕ → List (List ℕ) → List ℕ → List (List ℕ) → List ℕ → List ℕ → Result
 triangulated n candidates weights rows triangles work =
     refusedOr (jobCode n candidates weights rows (length triangles) (length work)) triangles work
-    (settled (best (jobOf n candidates weights rows)) (length candidates) triangles work)
+    (settled (best (problemFrom n candidates weights rows)) (length candidates) triangles work)

@@ -3,7 +3,7 @@ use mathlib.Core.Path.{_≡_}
 use mathlib.Core.List.{List, []}
 use Prim.Native.Nat.{ℕ, _-_}
 use lib.ListN.{take}
-use Rattle.triangulation.specs.Triangulations.{Job, Answer, none, patch}
+use Rattle.triangulation.specs.Triangulations.{Problem, Answer, none, patch}
 use Rattle.triangulation.specs.Demand3.{HandedBack}
 use Rattle.triangulator.specs.declared.Outcome.{Outcome}
 use Rattle.triangulator.specs.declared.Outcome.the-variants.{Patch, None, Refused}
@@ -21,7 +21,7 @@ pub data Taken : Outcome → Type 0 where
   a-none : Taken None
 
 -- the part handed back with an outcome (rules 3.8, 4.30): after a patch its n - 2 triangles in walk order, each once; after anything else nothing
-pub data Handed (job : Job) (part : List ℕ) : Outcome → Type 0 where
+pub data Handed (job : Problem) (part : List ℕ) : Outcome → Type 0 where
   with-patch : {count total : ℕ} → count ≡ job .n - 2 → HandedBack job total part → Handed job part (Patch count total)
   with-none : part ≡ [] → Handed job part None
   with-refusal : {number : ℕ} → part ≡ [] → Handed job part (Refused number)

@@ -3,7 +3,7 @@ ghost use mathlib.Core.Path.{_≡_};
 ghost use Prim.Native.Nat.{_+_, _≤_};
 ghost use lib.ListN.{length};
 ghost use Rattle.triangulation.specs.Triangulations.{best};
-ghost use Rattle.triangulation.specs.Jobs.{jobOf};
+ghost use Rattle.triangulation.specs.Problems.{problemFrom};
 ghost use Rattle.minimum_weight.specs.Tables.{WellFormed};
 ghost use Rattle.jobs.specs.Job.{jobCode};
 ghost use Rattle.triangulator.specs.Call.{numberOf, trianglesOf, totalOf, valuesOf, answerValues, dueValues, partOf, result, settled, triangulated};
@@ -69,8 +69,8 @@ pub fn best_triangulation(
     work: &mut [u64],
 ) -> Outcome
     requires { ⌜ WellFormed n (now candidates) (now weights) (now rows) × (length (now candidates) ≤ length (now work)) × (n ≤ length (now triangles) + 2) ⌝ }
-    ensures { λ r. ⌜ result r (now (triangles .exit)) (now (work .exit)) ≡ settled (best (jobOf n (now (candidates .entry)) (now (weights .entry)) (now (rows .entry)))) (length (now (candidates .entry))) (now (triangles .entry)) (now (work .entry)) ⌝ }
-    ensures { λ r. ⌜ valuesOf r ≡ answerValues n (best (jobOf n (now (candidates .entry)) (now (weights .entry)) (now (rows .entry)))) ⌝ }
+    ensures { λ r. ⌜ result r (now (triangles .exit)) (now (work .exit)) ≡ settled (best (problemFrom n (now (candidates .entry)) (now (weights .entry)) (now (rows .entry)))) (length (now (candidates .entry))) (now (triangles .entry)) (now (work .entry)) ⌝ }
+    ensures { λ r. ⌜ valuesOf r ≡ answerValues n (best (problemFrom n (now (candidates .entry)) (now (weights .entry)) (now (rows .entry)))) ⌝ }
 {
     let least = minimum_weight::solve(n, candidates, weights, rows, triangles, work);
     if minimum_weight::NONE <= least {
@@ -92,7 +92,7 @@ pub fn triangulate(
     work: &mut [u64],
 ) -> Outcome
     ensures { λ r. ⌜ result r (now (triangles .exit)) (now (work .exit)) ≡ triangulated n (now (candidates .entry)) (now (weights .entry)) (now (rows .entry)) (now (triangles .entry)) (now (work .entry)) ⌝ }
-    ensures { λ r. ⌜ valuesOf r ≡ dueValues (jobCode n (now (candidates .entry)) (now (weights .entry)) (now (rows .entry)) (length (now (triangles .entry))) (length (now (work .entry)))) n (best (jobOf n (now (candidates .entry)) (now (weights .entry)) (now (rows .entry)))) ⌝ }
+    ensures { λ r. ⌜ valuesOf r ≡ dueValues (jobCode n (now (candidates .entry)) (now (weights .entry)) (now (rows .entry)) (length (now (triangles .entry))) (length (now (work .entry)))) n (best (problemFrom n (now (candidates .entry)) (now (weights .entry)) (now (rows .entry)))) ⌝ }
 {
     let number = jobs::job_code(n, candidates, weights, rows, triangles.len(), work.len());
     if number != 0 {

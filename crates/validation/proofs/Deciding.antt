@@ -12,17 +12,17 @@ use Rattle.lists.proofs.Ranges.{every-at, every-all}
 use Rattle.lists.proofs.Members.{member-entry, entry-member}
 use Rattle.terms.specs.Limits.{maxVertices}
 use Rattle.jobs.specs.Job.{unless}
-use Rattle.triangulation.specs.Triangulations.{Job, Valid, isTriangulation, countBetween, countOutside, totalWeight}
-use Rattle.triangulation.specs.Jobs.{jobOf}
+use Rattle.triangulation.specs.Triangulations.{Problem, ValidProblem, isTriangulation, countBetween, countOutside, totalWeight}
+use Rattle.triangulation.specs.Problems.{problemFrom}
 use Rattle.triangulation.proofs.Sums.{Mem}
 use Rattle.validation.specs.Validation.{isTiling, listTotal, listCode}
 use Rattle.validation.specs.Edges.{Triangles, allBelowBound, namesTriangles}
 use Rattle.validation.proofs.Naming.{tiling-names}
 use Rattle.validation.proofs.Tilings.{total-is, tiling-length, tiling-edges}
 
-module _ (n : ℕ) (candidates : List (List ℕ)) (weights : List ℕ) (rows : List (List ℕ)) (good : Valid (jobOf n candidates weights rows)) (few : n ≤ maxVertices) (list : List ℕ) (stated : ℕ) where
-  abbrev job : Job
-  job = jobOf n candidates weights rows
+module _ (n : ℕ) (candidates : List (List ℕ)) (weights : List ℕ) (rows : List (List ℕ)) (good : ValidProblem (problemFrom n candidates weights rows)) (few : n ≤ maxVertices) (list : List ℕ) (stated : ℕ) where
+  abbrev job : Problem
+  job = problemFrom n candidates weights rows
 
   no-tiling : (isTiling job list ≡ true → ⊥) → 21 ≡ listCode job list stated
   unfolding listCode
@@ -50,22 +50,22 @@ module _ (n : ℕ) (candidates : List (List ℕ)) (weights : List ℕ) (rows : L
     }
 
     -- the code's edge test looks at n and the candidates alone, its total at all but n
-    edges-are : isTriangulation (jobOf n candidates [] []) list ≡ isTiling job list
+    edges-are : isTriangulation (problemFrom n candidates [] []) list ≡ isTiling job list
     unfolding isTriangulation countBetween countOutside
     edges-are = sym (tiling-edges job list good member-below)
 
-    total-of : isTiling job list ≡ true → totalWeight (jobOf 0 candidates weights rows) list ≡ listTotal job list
+    total-of : isTiling job list ≡ true → totalWeight (problemFrom 0 candidates weights rows) list ≡ listTotal job list
     unfolding totalWeight
     total-of t = sym (total-is job list t)
 
-    right : isTiling job list ≡ true → unless (isTiling job list) 21 (unless (eqb stated (totalWeight (jobOf 0 candidates weights rows) list)) 22 0) ≡ listCode job list stated
+    right : isTiling job list ≡ true → unless (isTiling job list) 21 (unless (eqb stated (totalWeight (problemFrom 0 candidates weights rows) list)) 22 0) ≡ listCode job list stated
     unfolding listCode
     right t = ap (λ (w : ℕ). unless (isTiling job list) 21 (unless (eqb stated w) 22 0)) (total-of t)
 
-    pub code-is : {tiles : Bool} {total : ℕ} → tiles ≡ isTriangulation (jobOf n candidates [] []) list → total ≡ totalWeight (jobOf 0 candidates weights rows) list
+    pub code-is : {tiles : Bool} {total : ℕ} → tiles ≡ isTriangulation (problemFrom n candidates [] []) list → total ≡ totalWeight (problemFrom 0 candidates weights rows) list
         → unless tiles 21 (unless (eqb stated total) 22 0) ≡ listCode job list stated
     code-is {tiles} {total} e f = ap₂ (λ b t. unless b 21 (unless (eqb stated t) 22 0)) (e ∙ edges-are) f ∙ go (truth (isTiling job list))
       where
-        go : Truth (isTiling job list) → unless (isTiling job list) 21 (unless (eqb stated (totalWeight (jobOf 0 candidates weights rows) list)) 22 0) ≡ listCode job list stated
+        go : Truth (isTiling job list) → unless (isTiling job list) 21 (unless (eqb stated (totalWeight (problemFrom 0 candidates weights rows) list)) 22 0) ≡ listCode job list stated
         go (holds t) = right t
         go (fails t) = no _ _ t ∙ no-tiling (λ h. true-not-false h t)

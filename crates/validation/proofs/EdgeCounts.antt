@@ -14,7 +14,7 @@ use Rattle.lists.proofs.Members.{entry-member}
 use Rattle.terms.specs.Limits.{maxVertices}
 use Rattle.terms.specs.Entries.{entryAt, vertexA, vertexB, vertexC}
 use Rattle.triangulation.specs.Triangulations.{only, longEdge, shortEdge, countBetween, countOutside, isBoundary, edgeOk, isTriangulation}
-use Rattle.triangulation.specs.Jobs.{jobOf}
+use Rattle.triangulation.specs.Problems.{problemFrom}
 use Rattle.triangulation.proofs.SetParts.{either-split}
 use Rattle.triangulation.proofs.PartsToSets.{only-le}
 use Rattle.validation.specs.Edges.{edgeAt, edgePlaces, countAt, added, Room, Triangle, Triangles, candidatesAlone, between, outside, Sums, Counted, verticesAlone, edgesFit}
@@ -115,7 +115,7 @@ zeros-sums g list e = record {
 }
 
 pub edges-triangulation : (n : ℕ) (candidates : List (List ℕ)) (list betweens outsides : List ℕ) → Counted candidates list betweens outsides → n ≤ maxVertices
-    → edgesFit n betweens outsides ≡ isTriangulation (jobOf n candidates [] []) list
+    → edgesFit n betweens outsides ≡ isTriangulation (problemFrom n candidates [] []) list
 unfolding isTriangulation countBetween countOutside
 edges-triangulation n candidates list betweens outsides counted h = below-same n _ _ (λ j hj. below-same j _ _ (λ i hi.
     ap₂ (λ x y. edgeOk (verticesAlone n) (isBoundary (verticesAlone n) i j) x y) (counted .on-between .at i j (omega arith) (omega arith)) (counted .on-outside .at i j (omega arith) (omega arith))))

@@ -8,7 +8,7 @@ use Rattle.terms.specs.Entries.{entryAt, vertexA, vertexB, vertexC}
 use Rattle.lists.specs.Lists.{both, either}
 use Rattle.jobs.specs.Job.{hangs}
 use Rattle.triangulation.specs.Triangulations.{shortEdge}
-use Rattle.triangulation.specs.Jobs.{jobOf}
+use Rattle.triangulation.specs.Problems.{problemFrom}
 use Rattle.triangulation.proofs.SetParts.{eqb-sym}
 
 as-or-and : (p q r s : Bool) → either (both p q) (both r s) ≡ (p && q || r && s)
@@ -19,7 +19,7 @@ as-or-and false q true s = refl
 as-or-and false q false s = refl
 
 pub hangs-is : (n : ℕ) (candidates : List (List ℕ)) (weights : List ℕ) (rows : List (List ℕ)) (i o : ℕ) →
-    hangs (entryAt candidates i) (entryAt candidates o) ≡ shortEdge (jobOf n candidates weights rows) (vertexA (entryAt candidates i)) (vertexC (entryAt candidates i)) o
+    hangs (entryAt candidates i) (entryAt candidates o) ≡ shortEdge (problemFrom n candidates weights rows) (vertexA (entryAt candidates i)) (vertexC (entryAt candidates i)) o
 unfolding hangs
 hangs-is n candidates weights rows i o =
     let t = entryAt candidates i in

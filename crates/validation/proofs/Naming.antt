@@ -9,7 +9,7 @@ use native.Mathlib.Nat.{le-antisymm}
 use lib.Dec.{eqb, ltb, leb}
 use borrow.Author.Tests.{eqb-true, eq-eqb, ltb-true, lt-ltb}
 use Rattle.lists.proofs.Choice.{Truth, truth, holds, fails}
-use Rattle.triangulation.specs.Triangulations.{Job, only, sum, upFrom, subsets, isTriangulation}
+use Rattle.triangulation.specs.Triangulations.{Problem, only, sum, upFrom, subsets, isTriangulation}
 use Rattle.triangulation.specs.Demand3.{Triangulates}
 use Rattle.triangulation.proofs.Sums.{Mem, count, sum-ext, sum-same, mem-count, mem-keep, keep-mem, Any, any, none, some}
 use Rattle.triangulation.proofs.SetParts.{and-true, and-left, and-right, eqb-sym}
@@ -61,7 +61,7 @@ names-test size (k ∷ list) h =
     (names-test size list (record { candidate = λ x m. h .candidate x (List·Memᴰ·tail m); once = λ x. omega (arith, h .once x) })))
 
 -- ---- the set of the candidates that stand there
-module _ (job : Job) (list : List ℕ) where
+module _ (job : Problem) (list : List ℕ) where
   pub named-mem : (k : ℕ) → Mem k (named job list) → (k < job .size) × Mem k list
   unfolding named
   named-mem k m =

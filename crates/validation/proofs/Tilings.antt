@@ -8,7 +8,7 @@ use lib.ListN.{length}
 use lib.Dec.{eqb}
 use borrow.Author.Tests.{eqb-true}
 use Rattle.lists.proofs.Choice.{Truth, truth, holds, fails, true-not-false, not-true-false}
-use Rattle.triangulation.specs.Triangulations.{Job, Valid, only, sum, longEdge, shortEdge, countBetween, countOutside, isBoundary, edgeOk, isTriangulation, totalWeight}
+use Rattle.triangulation.specs.Triangulations.{Problem, ValidProblem, only, sum, longEdge, shortEdge, countBetween, countOutside, isBoundary, edgeOk, isTriangulation, totalWeight}
 use Rattle.triangulation.proofs.Sums.{Mem, sum-ext, count-mono}
 use Rattle.triangulation.proofs.SetParts.{longEdge-is}
 use Rattle.triangulation.proofs.SetsToParts.{triangulation-set}
@@ -18,10 +18,10 @@ use Rattle.validation.proofs.Fronts.{below-same}
 use Rattle.validation.proofs.Naming.{Names, named-sum, tiling-names, tiling-tiles, names-tiling}
 
 -- what triangle o adds to the total of a list
-abbrev pub share : Job → List ℕ → ℕ → ℕ
+abbrev pub share : Problem → List ℕ → ℕ → ℕ
 share job list o = job .weight o + sum (λ i. only (shortEdge job (job .a i) (job .c i) o) (job .row o i)) list
 
-module _ (job : Job) (list : List ℕ) where
+module _ (job : Problem) (list : List ℕ) where
   -- ---- the set and the list have the same counts and the same total
   named-triangulation : Names (job .size) list → isTriangulation job (named job list) ≡ isTriangulation job list
   unfolding isTriangulation countBetween countOutside
@@ -35,7 +35,7 @@ module _ (job : Job) (list : List ℕ) where
       sum-ext (share job (named job list)) (share job list) (named job list) (λ o m. ap (λ x. job .weight o + x) (named-sum job list h (λ i. only (shortEdge job (job .a i) (job .c i) o) (job .row o i))))
       ∙ named-sum job list h (share job list)
 
-  module _ (good : Valid job) where
+  module _ (good : ValidProblem job) where
     -- a list of another length is no tiling
     pub tiling-length : isTiling job list ≡ true → length list ≡ job .n - 2
     tiling-length e =

@@ -8,8 +8,8 @@ use lib.Dec.{eqb, ltb}
 use Rattle.lists.specs.Lists.{every, both}
 use Rattle.terms.specs.Limits.{maxVertices}
 use Rattle.terms.specs.Entries.{entryAt, vertexA, vertexB, vertexC}
-use Rattle.triangulation.specs.Triangulations.{Job, only, sum, allBelow, longEdge, shortEdge, isBoundary, edgeOk}
-use Rattle.triangulation.specs.Jobs.{jobOf}
+use Rattle.triangulation.specs.Triangulations.{Problem, only, sum, allBelow, longEdge, shortEdge, isBoundary, edgeOk}
+use Rattle.triangulation.specs.Problems.{problemFrom}
 
 -- the place of the edge (i, j), and how many places there are
 abbrev pub edgeAt : ℕ → ℕ → ℕ
@@ -42,12 +42,12 @@ pub record Triangles (candidates : List (List ℕ)) (list : List ℕ) : Type 0 w
   pub short-list : length list ≤ maxVertices
 
 -- a job's candidates alone, without its n
-abbrev pub candidatesAlone : List (List ℕ) → Job
-candidatesAlone candidates = jobOf 0 candidates [] []
+abbrev pub candidatesAlone : List (List ℕ) → Problem
+candidatesAlone candidates = problemFrom 0 candidates [] []
 
 -- its n alone
-abbrev pub verticesAlone : ℕ → Job
-verticesAlone n = jobOf n [] [] []
+abbrev pub verticesAlone : ℕ → Problem
+verticesAlone n = problemFrom n [] [] []
 
 -- 1 where candidate k has the edge (i, j) with its third vertex between, and where it has it with that vertex outside
 abbrev pub between : List (List ℕ) → ℕ → ℕ → ℕ → ℕ

@@ -3,7 +3,7 @@ use Prim.Native.Nat.{ℕ}
 use mathlib.Core.List.{List}
 use Rattle.terms.specs.Entries.{entryAt, vertexA, vertexC}
 use Rattle.triangulation.specs.Triangulations.{only, sum, shortEdge}
-use Rattle.triangulation.specs.Jobs.{pairWeight}
+use Rattle.triangulation.specs.Problems.{pairWeight}
 use Rattle.validation.specs.Edges.{candidatesAlone}
 
 -- the weight of the row from candidate o to candidate i, where i hangs on o

@@ -4,7 +4,7 @@ use mathlib.Core.Bool.{Bool, true, _&&_}
 use mathlib.Core.List.{List, [], _∷_}
 use lib.Dec.{eqb, ltb}
 use Rattle.jobs.specs.Job.{unless}
-use Rattle.triangulation.specs.Triangulations.{Job, only, sum, keep, upFrom, isTriangulation, totalWeight}
+use Rattle.triangulation.specs.Triangulations.{Problem, only, sum, keep, upFrom, isTriangulation, totalWeight}
 
 -- how often k stands in a list (rule 3.13)
 abbrev pub times : ℕ → List ℕ → ℕ
@@ -15,7 +15,7 @@ abbrev pub distinctCandidates : ℕ → List ℕ → Bool
 distinctCandidates size [] = true
 distinctCandidates size (k ∷ list) = ltb k size && (eqb (times k list) 0 && distinctCandidates size list)
 
-module _ (job : Job) where
+module _ (job : Problem) where
   -- the set of the candidates that the list names, in whatever order it does (rule 3.13)
   unfoldable pub named : List ℕ → List ℕ
   named list = keep (λ k. ltb 0 (times k list)) (upFrom 0 (job .size))

@@ -6,7 +6,7 @@ ghost use lib.ListN.{replicate};
 ghost use Rattle.terms.specs.Limits.{maxVertices};
 ghost use Rattle.terms.specs.Entries.{vertexA, vertexB, vertexC};
 ghost use Rattle.triangulation.specs.Triangulations.{isBoundary, edgeOk, allBelow, isTriangulation};
-ghost use Rattle.triangulation.specs.Jobs.{jobOf};
+ghost use Rattle.triangulation.specs.Problems.{problemFrom};
 ghost use Rattle.validation.specs.Edges.{edgeAt, edgePlaces, added, Room, Triangles, Counted, verticesAlone, edgeFits, edgesFit};
 
 const EDGES: usize = terms::MAX_VERTICES * terms::MAX_VERTICES;
@@ -124,7 +124,7 @@ fn edges_fit(n: usize, between: &[u8; EDGES], outside: &[u8; EDGES]) -> bool
 // The list passes the edge test as it stands.
 pub fn is_triangulation(n: usize, candidates: &[[u8; 3]], list: &[u16]) -> bool
     requires { ⌜ (n ≤ maxVertices) × Triangles (now candidates) (now list) ⌝ }
-    ensures { λ r. ⌜ r ≡ isTriangulation (jobOf n (now (candidates .entry)) [] []) (now (list .entry)) ⌝ }
+    ensures { λ r. ⌜ r ≡ isTriangulation (problemFrom n (now (candidates .entry)) [] []) (now (list .entry)) ⌝ }
 {
     let mut between = [0u8; EDGES];
     let mut outside = [0u8; EDGES];

@@ -8,8 +8,8 @@ ghost use mathlib.Core.Path.{_≡_};
 ghost use Prim.Native.Nat.{_≤_};
 ghost use lib.ListN.{length};
 ghost use Rattle.terms.specs.Limits.{maxVertices};
-ghost use Rattle.triangulation.specs.Triangulations.{Valid};
-ghost use Rattle.triangulation.specs.Jobs.{jobOf};
+ghost use Rattle.triangulation.specs.Triangulations.{ValidProblem};
+ghost use Rattle.triangulation.specs.Problems.{problemFrom};
 ghost use Rattle.rows.specs.Search.{RowsAscend};
 ghost use Rattle.validation.specs.Validation.{listCode};
 
@@ -22,8 +22,8 @@ pub fn list_code(
     list: &[u16],
     stated: u64,
 ) -> u32
-    requires { ⌜ Valid (jobOf n (now candidates) (now weights) (now rows)) × (n ≤ maxVertices) × (length (now candidates) ≤ length (now weights)) × RowsAscend (now rows) ⌝ }
-    ensures { λ r. ⌜ r ≡ listCode (jobOf n (now (candidates .entry)) (now (weights .entry)) (now (rows .entry))) (now (list .entry)) stated ⌝ }
+    requires { ⌜ ValidProblem (problemFrom n (now candidates) (now weights) (now rows)) × (n ≤ maxVertices) × (length (now candidates) ≤ length (now weights)) × RowsAscend (now rows) ⌝ }
+    ensures { λ r. ⌜ r ≡ listCode (problemFrom n (now (candidates .entry)) (now (weights .entry)) (now (rows .entry))) (now (list .entry)) stated ⌝ }
 {
     if !names::names_triangles(n, candidates.len(), list) {
         return codes::NOT_A_TRIANGULATION;

@@ -3,7 +3,7 @@ ghost use mathlib.Core.Path.{_≡_};
 ghost use Prim.Native.Nat.{_^_, _≤_, _<_};
 ghost use lib.ListN.{length, getD};
 ghost use Rattle.triangulation.specs.Triangulations.{totalWeight};
-ghost use Rattle.triangulation.specs.Jobs.{jobOf};
+ghost use Rattle.triangulation.specs.Problems.{problemFrom};
 ghost use Rattle.rows.specs.Search.{RowsAscend};
 ghost use Rattle.validation.specs.Edges.{Triangles};
 ghost use Rattle.validation.specs.Totals.{hangingRow, hangingRows};
@@ -35,7 +35,7 @@ fn hanging_rows(candidates: &[[u8; 3]], rows: &[[u32; 3]], list: &[u16], o: usiz
 // The total of the list as it stands.
 pub fn total(candidates: &[[u8; 3]], weights: &[u32], rows: &[[u32; 3]], list: &[u16]) -> u64
     requires { ⌜ Triangles (now candidates) (now list) × (length (now candidates) ≤ length (now weights)) × RowsAscend (now rows) ⌝ }
-    ensures { λ r. ⌜ r ≡ totalWeight (jobOf 0 (now (candidates .entry)) (now (weights .entry)) (now (rows .entry))) (now (list .entry)) ⌝ }
+    ensures { λ r. ⌜ r ≡ totalWeight (problemFrom 0 (now (candidates .entry)) (now (weights .entry)) (now (rows .entry))) (now (list .entry)) ⌝ }
 {
     let mut total = 0;
     for k in 0..list.len() {

@@ -9,7 +9,7 @@ use Rattle.lists.specs.Lists.{both}
 use Rattle.lists.proofs.Choice.{both-left, both-right}
 use Rattle.lists.proofs.Maps.{map-at}
 use Rattle.polygon.specs.declared.Polygon.{Polygon}
-use Rattle.polygon.specs.Polygon.{Valid}
+use Rattle.polygon.specs.Polygon.{ValidPolygon}
 use Rattle.polygon.specs.Normal.{isNone, normalAt}
 use Rattle.geometry.specs.declared.Vector.{Vector}
 use Rattle.geometry.specs.Bounds.{maxLength, maxBend}
@@ -32,7 +32,7 @@ edgesAt p a b c = edgeNormals (p .n) a b c (normalAt (p .normals) a) (normalAt (
 abbrev pub edgesOf : Polygon → List ℕ → EdgeNormals
 edgesOf p t = edgesAt p (vertexA t) (vertexB t) (vertexC t)
 
-pub edges-in-range : {p : Polygon} {t : List ℕ} → Valid p → Corners p t → EdgesInRange (edgesOf p t)
+pub edges-in-range : {p : Polygon} {t : List ℕ} → ValidPolygon p → Corners p t → EdgesInRange (edgesOf p t)
 edges-in-range {p} {t} v c =
     let a = v .normals-in-range (vertexA t) (c .a<n) in
     let b = v .normals-in-range (vertexB t) (c .b<n) in
@@ -55,7 +55,7 @@ none-outside area bend normal e h =
     )
 
 -- no own weight is above what a direct job may have
-pub own-weight-bound : {p : Polygon} {t : List ℕ} → Valid p → Corners p t → ownWeight p t ≤ maxWeight
+pub own-weight-bound : {p : Polygon} {t : List ℕ} → ValidPolygon p → Corners p t → ownWeight p t ≤ maxWeight
 own-weight-bound {p} {t} v c =
     let area : areaWeight p t ≤ maxAreaFactor * maxLength = area-weight-bound (v .area-factor) (length-bound (face-within v c)) in
     let bend : (x y : ℕ) → outsideWeight p t x y ≤ maxBendFactor * maxBend = λ x y. outside-bound (p .«bend_factor») (faceNormal p t) (outsideNormal p x y) (v .bend-factor) in

@@ -9,7 +9,7 @@ use Rattle.integers.specs.Order.{equal}
 use Rattle.integers.proofs.Order.{zero-bits, other-bits}
 use Rattle.integers.proofs.Bounds.{signed-fits}
 use Rattle.polygon.specs.declared.Polygon.{Polygon}
-use Rattle.polygon.specs.Polygon.{Valid}
+use Rattle.polygon.specs.Polygon.{ValidPolygon}
 use Rattle.geometry.specs.declared.sphere.Lifted.{Lifted}
 use Rattle.geometry.specs.declared.sphere.Pencil.{Pencil}
 use Rattle.geometry.specs.declared.sphere.Sphere.{Sphere}
@@ -48,7 +48,7 @@ module _ (g : At tie.In-loop) where
   abbrev polygon : Polygon
   polygon = g .before .before .before .args .p
 
-  valid : Valid polygon
+  valid : ValidPolygon polygon
   valid = g .before .before .before .pre
 
   abbrev lifted : List Lifted

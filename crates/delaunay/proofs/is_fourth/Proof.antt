@@ -2,7 +2,7 @@
 use mathlib.Core.Path.{_∙_, ap}
 use mathlib.Core.Bool.{not}
 use borrow.Author.Needs.{needs}
-use Rattle.delaunay.specs.Candidates.{isCorner}
+use Rattle.delaunay.specs.Candidates.{isOneOf}
 use Rattle.delaunay.specs.Search.{isOn}
 use Rattle.delaunay.proofs.Placing.{on-border, off-border, not-on}
 use Rattle.delaunay.proofs.is_fourth.Statement.{statement}
@@ -17,10 +17,10 @@ is-corner-requires c κs = search needs
 returns : tie.Need-returns
 returns c =
     let g = c .before .before .before .args in
-    ap not (c .is-corner .ensures) ∙ on-border (isCorner (g .a) (g .b) (g .c) (g .v)) (g .place) (ap isOn (c .before .enum-told .given .1))
+    ap not (c .is-corner .ensures) ∙ on-border (isOneOf (g .a) (g .b) (g .c) (g .v)) (g .place) (ap isOn (c .before .enum-told .given .1))
 
 returns-2 : tie.Need-returns-2
-returns-2 c = let g = c .before .args in off-border (isCorner (g .a) (g .b) (g .c) (g .v)) (g .place) (not-on (g .place) (c .match .keys2))
+returns-2 c = let g = c .before .args in off-border (isOneOf (g .a) (g .b) (g .c) (g .v)) (g .place) (not-on (g .place) (c .match .keys2))
 
 pub is-fourth-spec : {M : Type 1} → statement M
 is-fourth-spec = tie.close (tie.spec enum-told is-corner-requires returns returns-2)

@@ -9,7 +9,7 @@ use borrow.Author.Tests.{eq-eqb, ne-eqb}
 use lib.ListN.{length, length-replicate}
 use Rattle.lists.proofs.Choice.{yes, no}
 use Rattle.polygon.specs.declared.Polygon.{Polygon}
-use Rattle.polygon.specs.Polygon.{codeOf, Valid}
+use Rattle.polygon.specs.Polygon.{codeOf, ValidPolygon}
 use Rattle.polygon.proofs.Validity.{code-valid}
 use Rattle.faces.specs.Masks.{has}
 use Rattle.faces.proofs.Sets.{none-in}
@@ -37,7 +37,7 @@ module _ (g : tie.Else1) where
   code-0 : codeOf polygon ≡ 0
   code-0 = sym (g .before .polygon-code .ensures) ∙ g .if1 .left
 
-  valid : Valid polygon
+  valid : ValidPolygon polygon
   valid = code-valid polygon code-0
 
 mark-candidates-requires : tie.Need-mark-candidates-requires

@@ -2,7 +2,7 @@
 use mathlib.Core.Path.{_≡_, sym, _∙_}
 use mathlib.Core.Bool.{false}
 use borrow.Author.Needs.{needs}
-use Rattle.polygon.specs.Polygon.{Valid}
+use Rattle.polygon.specs.Polygon.{ValidPolygon}
 use Rattle.polygon.proofs.Validity.{code-valid}
 use Rattle.finder.specs.Finding.{numberDue}
 use Rattle.finder.proofs.Answers.{clear, sizes-refused, sizes-known, sizes-values}
@@ -23,7 +23,7 @@ none-due g = sym (g .before .search .ensures .is-due) ∙ g .if1 .left
 count-places-requires : tie.Need-count-places-requires
 count-places-requires c κs =
     let p = c .before .before .before .before .args .p in
-    let v : Valid p = code-valid p (clear p false (none-due (c .before)) .code) in
+    let v : ValidPolygon p = code-valid p (clear p false (none-due (c .before)) .code) in
     (v .least, v .most)
 
 returns-2 : tie.Need-returns-2

@@ -4,8 +4,8 @@ use mathlib.Core.Path.{_≡_, sym, _∙_}
 use native.Mathlib.Omega.{arith}
 use lib.ListN.{length}
 use Rattle.terms.proofs.Numbers.{due-here, due-on}
-use Rattle.triangulation.specs.Triangulations.{Job}
-use Rattle.triangulation.specs.Jobs.{jobOf}
+use Rattle.triangulation.specs.Triangulations.{Problem}
+use Rattle.triangulation.specs.Problems.{problemFrom}
 use Rattle.minimum_weight.specs.Tables.{WellFormed}
 use Rattle.minimum_weight.proofs.Answer.{cleared}
 use Rattle.triangulator.proofs.Accepting.{accepted-well-formed}
@@ -19,8 +19,8 @@ use borrow.Author.Needs.{needs}
 use Rattle.judge.proofs.judge.Statement.{statement}
 use Rattle.judge.proofs.judge.Tie as tie
 
-abbrev job : tie.Start → Job
-job s = jobOf (s .args .n) (s .args .candidates .now) (s .args .weights .now) (s .args .rows .now)
+abbrev job : tie.Start → Problem
+job s = problemFrom (s .args .n) (s .args .candidates .now) (s .args .weights .now) (s .args .rows .now)
 
 code-without-triangles-requires : tie.Need-code-without-triangles-requires
 code-without-triangles-requires c κs = search needs

@@ -5,7 +5,7 @@ use borrow.Author.Tests.{eq-eqb, ne-eqb}
 use Rattle.lists.proofs.Choice.{yes, no}
 use Rattle.triangulator.specs.declared.Outcome.the-variants.{Refused}
 use Rattle.triangulation.specs.Triangulations.{best}
-use Rattle.triangulation.specs.Jobs.{jobOf}
+use Rattle.triangulation.specs.Problems.{problemFrom}
 use Rattle.triangulator.specs.Call.{result, triangulated, dueValues}
 use Rattle.triangulator.proofs.Accepting.{accepted-well-formed}
 use Rattle.triangulator.proofs.Settling.{refused-values}
@@ -40,7 +40,7 @@ returns-2 c =
     let b = c .before .before .before .before in
     let z = sym (b .before .before .before .before .job-code .ensures) ∙ b .before .before .before .if1 .left in
     let s = b .before .before .before .before .before .before .before .before in
-    let J = jobOf (s .args .n) (s .args .candidates .now) (s .args .weights .now) (s .args .rows .now) in (
+    let J = problemFrom (s .args .n) (s .args .candidates .now) (s .args .weights .now) (s .args .rows .now) in (
       b .best-triangulation .ensures .0 ∙ sym (yes _ _ (eq-eqb _ 0 z)),
       b .best-triangulation .ensures .1 ∙ ap (λ (k : ℕ). dueValues k (J .n) (best J)) (sym z),
     )

@@ -7,7 +7,7 @@ use native.Mathlib.Omega.{arith}
 use Rattle.integers.proofs.Order.{zero-bits, other-bits}
 use Rattle.integers.proofs.Bounds.{signed-fits}
 use Rattle.polygon.specs.declared.Polygon.{Polygon}
-use Rattle.polygon.specs.Polygon.{Valid}
+use Rattle.polygon.specs.Polygon.{ValidPolygon}
 use Rattle.geometry.specs.declared.sphere.Lifted.{Lifted}
 use Rattle.geometry.specs.declared.sphere.Sphere.{Sphere}
 use Rattle.geometry.specs.Bounds.{SphereBounds}
@@ -112,7 +112,7 @@ module _ (g : At tie.In-three) where
   abbrev polygon : Polygon
   polygon = start .args .p
 
-  valid : Valid polygon
+  valid : ValidPolygon polygon
   valid = start .pre .0
 
   abbrev A : ℕ

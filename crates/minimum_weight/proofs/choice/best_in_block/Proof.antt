@@ -6,7 +6,7 @@ use mathlib.Core.Path.{_≡_}
 use native.Mathlib.Omega.{arith}
 use borrow.Author.Needs.{needs}
 use lib.ListN.{getD}
-use Rattle.triangulation.specs.Jobs.{pairWeight}
+use Rattle.triangulation.specs.Problems.{pairWeight}
 use Rattle.minimum_weight.specs.Tables.{pickBelow, onEdge, pickUnder}
 use Rattle.minimum_weight.proofs.choice.best_in_block.Statement.{statement}
 use Rattle.minimum_weight.proofs.choice.best_in_block.Tie as tie

@@ -3,14 +3,14 @@ use Prim.Native.Nat.{_≤_}
 use native.Mathlib.Omega.{arith}
 use borrow.Author.Needs.{needs}
 use lib.ListN.{getD}
-use Rattle.triangulation.specs.Jobs.{jobOf}
+use Rattle.triangulation.specs.Problems.{problemFrom}
 use Rattle.minimum_weight.specs.Tables.{Filled}
 use Rattle.minimum_weight.proofs.Filling.{fill-start, fill-end, filled-down, filled-then}
 use Rattle.minimum_weight.proofs.costs.fill.Statement.{statement}
 use Rattle.minimum_weight.proofs.costs.fill.Tie as tie
 
 abbrev Inv-loop : tie.InvT-loop
-Inv-loop n starts candidates weights rows work₀ v₀ work v = (v ≤ n) × Filled (jobOf n candidates weights rows) work₀ (getD starts v 0) work
+Inv-loop n starts candidates weights rows work₀ v₀ work v = (v ≤ n) × Filled (problemFrom n candidates weights rows) work₀ (getD starts v 0) work
 
 abbrev μ-loop : tie.MeasureT-loop
 μ-loop n starts candidates weights rows work₀ v₀ work v = v

@@ -3,7 +3,7 @@ use Prim.Native.Nat.{_+_, _-_, _<_}
 use native.Mathlib.Omega.{arith}
 use borrow.Author.Needs.{needs}
 use lib.ListN.{length, getD}
-use Rattle.triangulation.specs.Jobs.{jobOf}
+use Rattle.triangulation.specs.Problems.{problemFrom}
 use Rattle.rows.specs.Search.{Cut}
 use Rattle.blocks.proofs.Starts.{starts-up}
 use Rattle.rows.proofs.Runs.{run-of}
@@ -12,7 +12,7 @@ use Rattle.minimum_weight.proofs.costs.fill_block.Statement.{statement}
 use Rattle.minimum_weight.proofs.costs.fill_block.Tie as tie
 
 abbrev Inv-loop : tie.InvT-loop
-Inv-loop n starts candidates weights rows work₀ v end t₀ first₀ work t first = Filling (jobOf n candidates weights rows) work₀ (getD starts v 0) (getD starts (v + 1) 0) t work × Cut rows t 0 first first
+Inv-loop n starts candidates weights rows work₀ v end t₀ first₀ work t first = Filling (problemFrom n candidates weights rows) work₀ (getD starts v 0) (getD starts (v + 1) 0) t work × Cut rows t 0 first first
 
 abbrev μ-loop : tie.MeasureT-loop
 μ-loop n starts candidates weights rows work₀ v end t₀ first₀ work t first = end - t

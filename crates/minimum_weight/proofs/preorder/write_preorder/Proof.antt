@@ -9,8 +9,8 @@ use borrow.Author.Needs.{needs}
 use lib.ListN.{length, set}
 use Rattle.lists.specs.Lists.{filled}
 use Rattle.lists.proofs.Writing.{filled-length}
-use Rattle.triangulation.specs.Triangulations.{Job}
-use Rattle.triangulation.specs.Jobs.{jobOf}
+use Rattle.triangulation.specs.Triangulations.{Problem}
+use Rattle.triangulation.specs.Problems.{problemFrom}
 use Rattle.triangulation.specs.Recursion.{bestUnder, costOf, restOf}
 use Rattle.minimum_weight.specs.declared.preorder.Part.{Part}
 use Rattle.minimum_weight.specs.Preorder.{waiting, beneath, mostParts, Waits, Listing}
@@ -22,13 +22,13 @@ use Rattle.minimum_weight.proofs.preorder.write_preorder.Statement.{sta
 use Rattle.minimum_weight.proofs.preorder.write_preorder.Tie as tie
 
 abbrev Inv-loop : tie.InvT-loop
-Inv-loop n starts candidates weights rows work triangles₀ last stack₀ height₀ count₀ triangles stack height count = Listing (jobOf n candidates weights rows) (restOf (bestUnder (jobOf n candidates weights rows) n (length candidates) 0 (n - 1))) triangles₀ stack height count triangles
+Inv-loop n starts candidates weights rows work triangles₀ last stack₀ height₀ count₀ triangles stack height count = Listing (problemFrom n candidates weights rows) (restOf (bestUnder (problemFrom n candidates weights rows) n (length candidates) 0 (n - 1))) triangles₀ stack height count triangles
 
 abbrev μ-loop : tie.MeasureT-loop
 μ-loop n starts candidates weights rows work triangles₀ last stack₀ height₀ count₀ triangles stack height count = n - 2 - count
 
-abbrev job : tie.Start Inv-loop μ-loop → Job
-job s = jobOf (s .args .n) (s .args .candidates .now) (s .args .weights .now) (s .args .rows .now)
+abbrev job : tie.Start Inv-loop μ-loop → Problem
+job s = problemFrom (s .args .n) (s .args .candidates .now) (s .args .weights .now) (s .args .rows .now)
 
 tiled : (s : tie.Start Inv-loop μ-loop) → HasTriangulation (job s)
 tiled s = record { valid = s .pre .0 .0 .valid; bounded = s .pre .0 .0 .bounded; some = omega (arith, s .pre .1 .1, ap costOf (answer-whole (s .args .n) _ _ _ (s .pre .0 .0))) }

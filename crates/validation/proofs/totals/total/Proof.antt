@@ -5,7 +5,7 @@ use native.Mathlib.Omega.{arith}
 use lib.ListN.{length, getD, take}
 use lib.Seq.{take-length}
 use Rattle.triangulation.specs.Triangulations.{sum, totalWeight}
-use Rattle.triangulation.specs.Jobs.{jobOf}
+use Rattle.triangulation.specs.Problems.{problemFrom}
 use Rattle.validation.proofs.Tilings.{share}
 use Rattle.validation.proofs.Fronts.{sum-next}
 use Rattle.validation.proofs.EdgeCounts.{triangle-at}
@@ -13,7 +13,7 @@ use Rattle.validation.proofs.totals.total.Statement.{statement}
 use Rattle.validation.proofs.totals.total.Tie as tie
 
 abbrev Inv-loop : tie.InvT-loop
-Inv-loop candidates weights rows list total₀ k₀ k-end total k = (k-end ≡ length list) × (k ≤ length list) × (total ≡ sum (share (jobOf 0 candidates weights rows) list) (take k list)) × (total ≤ 2 ^ 40 * k)
+Inv-loop candidates weights rows list total₀ k₀ k-end total k = (k-end ≡ length list) × (k ≤ length list) × (total ≡ sum (share (problemFrom 0 candidates weights rows) list) (take k list)) × (total ≤ 2 ^ 40 * k)
 
 abbrev μ-loop : tie.MeasureT-loop
 μ-loop candidates weights rows list total₀ k₀ k-end total k = k-end - k
@@ -69,7 +69,7 @@ loop-again c =
     let o = getD (s .list .now) (l .k) 0 in (
       l .inv .0,
       omega arith,
-      ap₂ (λ (x y : ℕ). x + (getD (s .weights .now) o 0 + y)) (l .inv .2) (c .hanging-rows .ensures .0) ∙ sym (sum-next (share (jobOf 0 (s .candidates .now) (s .weights .now) (s .rows .now)) (s .list .now)) (s .list .now) (l .k) (omega arith)),
+      ap₂ (λ (x y : ℕ). x + (getD (s .weights .now) o 0 + y)) (l .inv .2) (c .hanging-rows .ensures .0) ∙ sym (sum-next (share (problemFrom 0 (s .candidates .now) (s .weights .now) (s .rows .now)) (s .list .now)) (s .list .now) (l .k) (omega arith)),
       omega (arith, c .hanging-rows .ensures .1, c .before .shared-slice-known4 .given o),
     )
 
@@ -80,8 +80,8 @@ returns c =
     let l = c .before .loop in
     let e : l .k ≡ length (a .list .now) = omega arith in
     l .inv .2
-    ∙ ap (λ (k : ℕ). sum (share (jobOf 0 (a .candidates .now) (a .weights .now) (a .rows .now)) (a .list .now)) (take k (a .list .now))) e
-    ∙ ap (sum (share (jobOf 0 (a .candidates .now) (a .weights .now) (a .rows .now)) (a .list .now))) (take-length (a .list .now))
+    ∙ ap (λ (k : ℕ). sum (share (problemFrom 0 (a .candidates .now) (a .weights .now) (a .rows .now)) (a .list .now)) (take k (a .list .now))) e
+    ∙ ap (sum (share (problemFrom 0 (a .candidates .now) (a .weights .now) (a .rows .now)) (a .list .now))) (take-length (a .list .now))
 
 pub total-spec : {M : Type 1} → statement M
 total-spec =

@@ -6,7 +6,7 @@ use lib.ListN.{length, getD}
 use lib.Dec.{eqb}
 use Rattle.terms.specs.Limits.{maxVertices, maxWeight}
 use Rattle.terms.specs.Entries.{entryAt, vertexA, vertexB, vertexC, outer, inner, rowWeight}
-use Rattle.triangulation.specs.Triangulations.{Job}
+use Rattle.triangulation.specs.Triangulations.{Problem}
 
 -- the weight of the row with outer o and inner i, 0 where there is none (rule 3.4)
 abbrev pub pairWeight : List (List ℕ) → ℕ → ℕ → ℕ
@@ -14,8 +14,8 @@ pairWeight [] o i = 0
 pairWeight (r ∷ rows) o i = cond (eqb (outer r) o && eqb (inner r) i) (rowWeight r) (pairWeight rows o i)
 
 -- of candidates (a, b, c), their weights, and rows (outer, inner, weight) (rule 3.1)
-abbrev pub jobOf : ℕ → List (List ℕ) → List ℕ → List (List ℕ) → Job
-jobOf n candidates weights rows = record {
+abbrev pub problemFrom : ℕ → List (List ℕ) → List ℕ → List (List ℕ) → Problem
+problemFrom n candidates weights rows = record {
   n = n;
   size = length candidates;
   a = λ k. vertexA (entryAt candidates k);
@@ -26,7 +26,7 @@ jobOf n candidates weights rows = record {
 }
 
 -- what rules 4.14 and 4.17 leave: the vertices and every weight within their limits
-pub record Bounded (job : Job) : Type 0 where
+pub record Bounded (job : Problem) : Type 0 where
   pub few : job .n ≤ maxVertices
   pub light : (k : ℕ) → k < job .size → job .weight k ≤ maxWeight
   pub row-light : (o i : ℕ) → job .row o i ≤ maxWeight
