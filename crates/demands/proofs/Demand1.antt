@@ -61,6 +61,15 @@ module _ (p : Polygon) (t : Tables) where
   true-short (weights h) = either-right (ltb (length (t .triangles)) (placesOf p .triangles)) _ (either-right (ltb (length (t .work)) (length (candidatesOf p))) _ (either-right (ltb (length (t .candidates)) (length (candidatesOf p))) _ (either-left _ _ (lt-ltb _ _ h))))
   true-short (rows h) = either-right (ltb (length (t .triangles)) (placesOf p .triangles)) _ (either-right (ltb (length (t .work)) (length (candidatesOf p))) _ (either-right (ltb (length (t .candidates)) (length (candidatesOf p))) _ (either-right (ltb (length (t .weights)) (length (candidatesOf p))) _ (lt-ltb _ _ h))))
 
+-- a patch and 'none' are no refusal, and have no number
+pub never-refused : {o : Outcome} {k : ℕ} → o ≡ Refused k → Taken o → ⊥
+never-refused e a-patch = let z : _≡_ {A = ℕ} 0 1 = cc in omega arith
+never-refused e a-none = let z : _≡_ {A = ℕ} 0 1 = cc in omega arith
+
+pub never-given : {o : Outcome} {k : ℕ} → Taken o → numberOf o ≡ suc k → ⊥
+never-given a-patch q = omega (arith, q)
+never-given a-none q = omega (arith, q)
+
 -- nothing is asked of the polygon that stands for a file which the reader refuses
 nothing-12 : Degenerate emptyPolygon → ⊥
 nothing-12 (on-sphere r) = omega (arith, r .fifth<n)
@@ -155,10 +164,6 @@ module _ (limit : ℕ) (file : List ℕ) (bytes : Bytes file) (t : Tables) where
   unfolding patchFile
   accepted-by e = ap (λ (n : ℕ). patchBy n (polygonOf file) t) e
 
-  never-refused : {o : Outcome} {k : ℕ} → o ≡ Refused (refusal k) → Taken o → ⊥
-  never-refused e a-patch = let z : _≡_ {A = ℕ} 0 1 = cc in omega arith
-  never-refused e a-none = let z : _≡_ {A = ℕ} 0 1 = cc in omega arith
-
   taken : fileNumber limit file t ≡ 0 → Taken (patchFile limit file t .outcome)
   taken e =
       subst (λ (x : Patching). Taken (x .outcome)) (sym (accepted-by e))
@@ -177,12 +182,8 @@ module _ (limit : ℕ) (file : List ℕ) (bytes : Bytes file) (t : Tables) where
   pub given-first : (k : ℕ) → numberOf (patchFile limit file t .outcome) ≡ suc k → First (CallDue limit file t) (suc k)
   given-first k h = by (fileNumber limit file t) refl
     where
-      untaken : {o : Outcome} → Taken o → numberOf o ≡ suc k → ⊥
-      untaken a-patch q = omega (arith, q)
-      untaken a-none q = omega (arith, q)
-
       by : (n : ℕ) → fileNumber limit file t ≡ n → First (CallDue limit file t) (suc k)
-      by zero e = absurd (untaken (taken e) h)
+      by zero e = absurd (never-given (taken e) h)
       by (suc j) e = verdict-given verdict (e ∙ sym (ap (λ (x : Patching). numberOf (x .outcome)) (refused-by j e)) ∙ h)
 
   -- the call ends in a patch or 'none' exactly when no number is due

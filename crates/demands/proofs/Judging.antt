@@ -3,7 +3,7 @@ use mathlib.Core.Path.{_≡_, sym, _∙_, subst}
 use mathlib.Core.List.{List}
 use Prim.Native.Nat.{ℕ, _-_, _≤_}
 use native.Mathlib.Omega.{arith}
-use lib.ListN.{length, take, replicate}
+use lib.ListN.{length, replicate}
 use Rattle.jobs.specs.Job.{jobOf}
 use Rattle.lists.specs.Lists.{filled}
 use Rattle.polygon.specs.declared.Polygon.{Polygon}
@@ -24,6 +24,7 @@ use Rattle.judge.proofs.Demands.{handed-accepted}
 use Rattle.pipeline.specs.Patching.{Tables, weightsIn, rowsIn, problemIn, patchFile}
 use Rattle.pipeline.proofs.Accepted.{lists-accepted}
 use Rattle.demands.specs.Demand1.{polygonIn, CallDue}
+use Rattle.demands.specs.Demand3.{candidatesLeft, weightsLeft, rowsLeft}
 use Rattle.demands.proofs.Demand1.{taken-only-when, accepted}
 use Rattle.demands.proofs.Demands.{file-handed}
 use Rattle.demands.proofs.Patched.{first-candidates, first-weights, first-rows}
@@ -46,9 +47,10 @@ module _ (limit : ℕ) (file : List ℕ) (bytes : Bytes file) (t : Tables) where
   left = patchFile limit file t .left
 
   -- the patch of a rim file, with the lists that the call left, is accepted with excess 0 (rules 3.13, 3.14)
-  pub file-patch-accepted : (count total : ℕ) (work : List ℕ) → length (candidatesOf (polygonIn limit file)) ≤ length work → patchFile limit file t .outcome ≡ Patch count total
-      → judged (polygonIn limit file .n) (take (length (candidatesOf (polygonIn limit file))) (patchFile limit file t .left .candidates)) (take (length (candidatesOf (polygonIn limit file))) (patchFile limit file t .left .weights))
-      (take (length (rowsIn (polygonIn limit file))) (patchFile limit file t .left .rows)) (partOf (Patch count total) (patchFile limit file t .left .triangles)) total work
+  pub file-patch-accepted : (count total : ℕ) (work : List ℕ) → length (candidatesOf (polygonIn limit file)) ≤ length work →
+      patchFile limit file t .outcome ≡ Patch count total →
+      judged (polygonIn limit file .n) (candidatesLeft (polygonIn limit file) (patchFile limit file t .left)) (weightsLeft (polygonIn limit file) (patchFile limit file t .left))
+      (rowsLeft (polygonIn limit file) (patchFile limit file t .left)) (partOf (Patch count total) (patchFile limit file t .left .triangles)) total work
       ≡ result (judgement.Accepted 0) (filled (replicate (length (candidatesOf (polygonIn limit file))) 0) work)
   file-patch-accepted count total work room e =
       let none : None = taken-only-when limit file bytes t (subst Taken (sym e) a-patch) in

@@ -4,6 +4,9 @@ pub mod Tables
 pub mod Patched
 pub mod Demand1
 pub mod Demands
+pub mod PolygonNumbers
+pub mod Finding
+pub mod Polygons
 pub mod Flat
 pub mod Judging
 pub mod Sizes

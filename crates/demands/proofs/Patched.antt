@@ -1,6 +1,6 @@
 -- Demands 2 and 3 of a call that takes a valid polygon through its stages, whichever call it is. Assumes nothing.
 use mathlib.Core.Path.{_≡_, refl, sym, ap, _∙_, subst}
-use lib.ListN.{length, take}
+use lib.ListN.{length}
 use Rattle.lists.proofs.Writing.{filled-take}
 use Rattle.polygon.specs.declared.Polygon.{Polygon}
 use Rattle.polygon.specs.Polygon.{ValidPolygon}
@@ -14,19 +14,19 @@ use Rattle.triangulator.proofs.Demands.{settled-states, settled-handed}
 use Rattle.pipeline.specs.Patching.{Tables, Patching, weightsIn, rowsIn, problemIn, patched}
 use Rattle.pipeline.proofs.Values.{valid-job}
 use Rattle.pipeline.proofs.Accepted.{weight-count}
-use Rattle.demands.specs.Demand3.{ListsLeft, jobLeft, answerIn, handedBack, RightOfTables}
+use Rattle.demands.specs.Demand3.{ListsLeft, candidatesLeft, weightsLeft, rowsLeft, jobLeft, answerIn, handedBack, RightOfTables}
 use Rattle.demands.proofs.Tables.{filled-hold}
 
 module _ (p : Polygon) (t : Tables) {x : Patching} (e : x ≡ patched p t) where
   -- the lists in the first places of the tables
-  pub first-candidates : take (length (candidatesOf p)) (x .left .candidates) ≡ candidatesOf p
-  first-candidates = ap (λ (x : Patching). take (length (candidatesOf p)) (x .left .candidates)) e ∙ filled-take (candidatesOf p) (t .candidates) (length (candidatesOf p)) refl
+  pub first-candidates : candidatesLeft p (x .left) ≡ candidatesOf p
+  first-candidates = ap (λ (x : Patching). candidatesLeft p (x .left)) e ∙ filled-take (candidatesOf p) (t .candidates) _ refl
 
-  pub first-weights : take (length (candidatesOf p)) (x .left .weights) ≡ weightsIn p
-  first-weights = ap (λ (x : Patching). take (length (candidatesOf p)) (x .left .weights)) e ∙ filled-take (weightsIn p) (t .weights) (length (candidatesOf p)) (sym (weight-count p))
+  pub first-weights : weightsLeft p (x .left) ≡ weightsIn p
+  first-weights = ap (λ (x : Patching). weightsLeft p (x .left)) e ∙ filled-take (weightsIn p) (t .weights) _ (sym (weight-count p))
 
-  pub first-rows : take (length (rowsIn p)) (x .left .rows) ≡ rowsIn p
-  first-rows = ap (λ (x : Patching). take (length (rowsIn p)) (x .left .rows)) e ∙ filled-take (rowsIn p) (t .rows) (length (rowsIn p)) refl
+  pub first-rows : rowsLeft p (x .left) ≡ rowsIn p
+  first-rows = ap (λ (x : Patching). rowsLeft p (x .left)) e ∙ filled-take (rowsIn p) (t .rows) _ refl
 
   -- so they state the polygon's job
   pub job-left : jobLeft p (x .left) ≡ problemIn p

@@ -17,6 +17,6 @@ pub record SameAnswers (limit : ℕ) (s t : List ℕ) : Type 0 where
   pub weights : weightsIn (polygonIn limit s) ≡ weightsIn (polygonIn limit t)
   pub rows : rowsIn (polygonIn limit s) ≡ rowsIn (polygonIn limit t)
   pub sizes : sizesFile limit s ≡ sizesFile limit t
-  pub lists :
-      (candidates : List (List ℕ)) (weights : List ℕ) (rows : List (List ℕ)) → findFile limit s candidates weights rows ≡ findFile limit t candidates weights rows
+  pub lists : (candidates : List (List ℕ)) (weights : List ℕ) (rows : List (List ℕ)) →
+      findFile limit s candidates weights rows ≡ findFile limit t candidates weights rows
   pub patch : (lent : Tables) → patchFile limit s lent ≡ patchFile limit t lent

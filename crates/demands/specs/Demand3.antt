@@ -17,10 +17,19 @@ abbrev pub ListsLeft : Polygon → Tables → Tables → Type 0
 ListsLeft p t left =
     TablesHold p (placesOf p .candidates) (placesOf p .rows) (t .candidates) (t .weights) (t .rows) (left .candidates) (left .weights) (left .rows)
 
--- the job that the first places of these tables state (rules 3.1, 3.9)
+-- what these tables have in their first places, one for each candidate and one for each row (rule 3.9)
+abbrev pub candidatesLeft : Polygon → Tables → List (List ℕ)
+candidatesLeft p left = take (placesOf p .candidates) (left .candidates)
+
+abbrev pub weightsLeft : Polygon → Tables → List ℕ
+weightsLeft p left = take (placesOf p .candidates) (left .weights)
+
+abbrev pub rowsLeft : Polygon → Tables → List (List ℕ)
+rowsLeft p left = take (placesOf p .rows) (left .rows)
+
+-- the job that they state (rule 3.1)
 abbrev pub jobLeft : Polygon → Tables → Problem
-jobLeft p left =
-    problemFrom (p .n) (take (placesOf p .candidates) (left .candidates)) (take (placesOf p .candidates) (left .weights)) (take (placesOf p .rows) (left .rows))
+jobLeft p left = problemFrom (p .n) (candidatesLeft p left) (weightsLeft p left) (rowsLeft p left)
 
 -- the triangles that a call hands back, as candidate numbers in walk order (rule 3.8)
 abbrev pub handedBack : Patching → List ℕ

@@ -70,11 +70,11 @@ module _ (vertices : List GridPoint) (normals : List Normal) where
   pub none-due : (i : ℕ) → pointOnGrid (vertexAt vertices i) ≡ true → normalInRange (normalAt normals i) ≡ true → vertexCode vertices normals i ≡ 0
   none-due i h r = past-nine i h ∙ ap (λ (b : Bool). cond b 0 18) r
 
-  record Clear (i : ℕ) : Type 0 where
-    on-grid : pointOnGrid (vertexAt vertices i) ≡ true
-    in-range : normalInRange (normalAt normals i) ≡ true
+  pub record Clear (i : ℕ) : Type 0 where
+    pub on-grid : pointOnGrid (vertexAt vertices i) ≡ true
+    pub in-range : normalInRange (normalAt normals i) ≡ true
 
-  clear : (i : ℕ) → vertexCode vertices normals i ≡ 0 → Clear i
+  pub clear : (i : ℕ) → vertexCode vertices normals i ≡ 0 → Clear i
   clear i h = by (pointOnGrid (vertexAt vertices i)) (normalInRange (normalAt normals i)) refl refl h
     where
       by : (g r : Bool) → pointOnGrid (vertexAt vertices i) ≡ g → normalInRange (normalAt normals i) ≡ r → _≡_ {A = ℕ} (cond g (cond r 0 18) 9) 0 → Clear i

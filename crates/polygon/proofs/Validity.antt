@@ -32,6 +32,27 @@ module _ (vertices : List GridPoint) (n : ℕ) where
       let f = some-found 0 j (λ i. samePoint (vertexAt vertices i) (vertexAt vertices j)) h in
       d (f .at) j (f .high) k (point-equal (vertexAt vertices (f .at)) (vertexAt vertices j) (f .true-at)))
 
+  -- two vertices at one grid point
+  pub record Repeated : Type 0 where
+    pub first : ℕ
+    pub second : ℕ
+    pub apart : first < second
+    pub below : second < n
+    pub at-one : vertexAt vertices first ≡ vertexAt vertices second
+
+  pub repeated-found : repeatedVertex vertices n ≡ true → Repeated
+  unfolding repeatedVertex
+  repeated-found h =
+      let g = some-found 0 n (λ j. some 0 j (λ i. samePoint (vertexAt vertices i) (vertexAt vertices j))) h in
+      let f = some-found 0 (g .at) (λ i. samePoint (vertexAt vertices i) (vertexAt vertices (g .at))) (g .true-at) in
+      record {
+        first = f .at;
+        second = g .at;
+        apart = f .high;
+        below = g .high;
+        at-one = point-equal (vertexAt vertices (f .at)) (vertexAt vertices (g .at)) (f .true-at);
+      }
+
 -- the tests one after the other: the code is 0 exactly where each is passed
 tests : Bool → Bool → Bool → ℕ → Bool → Bool → ℕ
 tests area bend most each least same = cond area 2 (cond bend 2 (cond most 5 (firstDue each (cond least 10 (cond same 11 0)))))

@@ -1,5 +1,7 @@
 -- Where a number can be due on a rim file, which of two comes first, and what the first number due is. Definitions only.
 use Prim.Native.Nat.{ℕ, _≤_, _<_}
+use Rattle.terms.specs.Order as order
+pub use Rattle.terms.specs.Order.{by-place, by-number, NoneDue}
 
 -- a number is due on the limit that the caller asks for, on the header, on the link that leads to a position of the chain, on the record there, or on the
 -- rim as a whole (rule 4.31)
@@ -26,17 +28,9 @@ pub data Before : Place → Place → Type 0 where
   link-rim : {i : ℕ} → Before (link-to i) rim
   record-rim : {i : ℕ} → Before (record-at i) rim
 
--- number j at one place comes before number k at another (rule 4.31): by the place, and at one place by the number
-pub data Precedes : Place → ℕ → Place → ℕ → Type 0 where
-  by-place : {p q : Place} {j k : ℕ} → Before p q → Precedes p j q k
-  by-number : {p : Place} {j k : ℕ} → j < k → Precedes p j p k
+-- number j at one place comes before number k at another, and k is the first of the numbers that are due (rule 4.31)
+abbrev pub Precedes : Place → ℕ → Place → ℕ → Type 0
+Precedes = order.Precedes Before
 
--- k is the first of the numbers that are due (rule 4.31): it is due at a place, and no number that comes before it is
-pub record First (due : Place → ℕ → Type 0) (k : ℕ) : Type 0 where
-  pub place : Place
-  pub is-due : due place k
-  pub none-before : (p : Place) (j : ℕ) → Precedes p j place k → due p j → ⊥
-
--- no number is due (rule 4.33)
-pub record NoneDue (due : Place → ℕ → Type 0) : Type 0 where
-  pub none : (p : Place) (k : ℕ) → due p k → ⊥
+abbrev pub First : (Place → ℕ → Type 0) → ℕ → Type 0
+First = order.First Before
