@@ -62,7 +62,7 @@ module _ (p : Polygon) (t : Tables) where
   true-short (rows h) = either-right (ltb (length (t .triangles)) (placesOf p .triangles)) _ (either-right (ltb (length (t .work)) (length (candidatesOf p))) _ (either-right (ltb (length (t .candidates)) (length (candidatesOf p))) _ (either-right (ltb (length (t .weights)) (length (candidatesOf p))) _ (lt-ltb _ _ h))))
 
 -- a patch and 'none' are no refusal, and have no number
-pub never-refused : {o : Outcome} {k : ℕ} → o ≡ Refused k → Taken o → ⊥
+pub never-refused : {o : Outcome} {k : ℕ} → o ≡ Refused (refusal k) → Taken o → ⊥
 never-refused e a-patch = let z : _≡_ {A = ℕ} 0 1 = cc in omega arith
 never-refused e a-none = let z : _≡_ {A = ℕ} 0 1 = cc in omega arith
 

@@ -9,6 +9,7 @@ use native.Mathlib.Omega.{arith}
 use borrow.Author.Tests.{ltb-true, lt-ltb}
 use lib.Dec.{ltb}
 use lib.ListN.{length}
+use Rattle.codes.specs.Refusals.{refusal}
 use Rattle.lists.proofs.Choice.{Truth, holds, fails, truth, no, either-left, either-right}
 use Rattle.terms.specs.Order.{NoneDue}
 use Rattle.terms.proofs.Order.{Verdict, none-first, verdict-either, verdict-first, verdict-given, verdict-zero, verdict-none}
@@ -50,7 +51,7 @@ module _ (p : Polygon) (candidates : List (List ℕ)) (weights : List ℕ) (rows
 
   -- the first number due is given, and every lent table holds what it held
   pub refused-first : (k : ℕ) → First (FindDue p candidates weights rows) k →
-      findCall p candidates weights rows ≡ finding (Refused k) candidates weights rows
+      findCall p candidates weights rows ≡ finding (Refused (refusal k)) candidates weights rows
   refused-first zero f = absurd (none-first (verdict-none verdict (verdict-first ordered verdict f)) f)
   refused-first (suc k) f = by-number (verdict-first ordered verdict f)
 
@@ -74,5 +75,5 @@ module _ (p : Polygon) (candidates : List (List ℕ)) (weights : List ℕ) (rows
       by : (n : ℕ) → findNumber p candidates weights rows ≡ n → findNumber p candidates weights rows ≡ 0
       by zero d = d
       by (suc n) d =
-          let q : Refused (suc n) ≡ Lists count row-count = sym (ap (λ (x : Finding). x .answer) (by-number d)) ∙ e in
+          let q : Refused (refusal (suc n)) ≡ Lists count row-count = sym (ap (λ (x : Finding). x .answer) (by-number d)) ∙ e in
           absurd (let z : _≡_ {A = ℕ} 0 1 = cc in omega arith)

@@ -52,7 +52,7 @@ linePlaces = 62
 abbrev pub verticesOf : Outcome → ℕ
 verticesOf (Patch count total) = count + 2
 verticesOf None = 0
-verticesOf (Refused number) = 0
+verticesOf (Refused r) = 0
 
 -- what is printed after a call: its outcome, the number of vertices, and the lines in the first places (rule 5.4)
 abbrev pub printoutAfter : Patching → Printout

@@ -25,7 +25,7 @@ wrongCalls =
     -- nothing done
     call single (result None (9 ∷ 9 ∷ []) (9 ∷ 9 ∷ []))
     -- every job refused
-    ∷ call single (result (Refused 14) (9 ∷ 9 ∷ []) (9 ∷ 9 ∷ []))
+    ∷ call single (result (Refused (refusal 14)) (9 ∷ 9 ∷ []) (9 ∷ 9 ∷ []))
     -- 'none' without a look
     ∷ call single (result None (9 ∷ 9 ∷ []) (0 ∷ 9 ∷ []))
     -- a total of its own

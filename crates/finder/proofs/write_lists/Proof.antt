@@ -93,9 +93,10 @@ slice-aggregate-write-rows c = let w = c .before .before .before .before in sym 
 write-rows-requires : tie.Need-write-rows-requires
 write-rows-requires c κs =
     let w = c .before .before .before .before .before in
-    let g = listed w in
-    (
-      proper g, starts-of (found g) (proper g .sorted .by-first) (w .before .before .block-starts .ensures), lengths-are w,
+    let g = listed w in (
+      proper g,
+      starts-of (found g) (proper g .sorted .by-first) (w .before .before .block-starts .ensures),
+      lengths-are w,
       omega (arith, ap (λ (l : List (List ℕ)). length (rowsOf (polygon g) l)) (found-are g), begin g .pre .1 .for-rows),
     )
 
