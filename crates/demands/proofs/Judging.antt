@@ -4,7 +4,7 @@ use mathlib.Core.List.{List}
 use Prim.Native.Nat.{ℕ, _-_, _≤_}
 use native.Mathlib.Omega.{arith}
 use lib.ListN.{length, replicate}
-use Rattle.jobs.specs.Job.{jobOf}
+use Rattle.jobs.specs.Job.{Job}
 use Rattle.lists.specs.Lists.{filled}
 use Rattle.polygon.specs.declared.Polygon.{Polygon}
 use Rattle.polygon.specs.Polygon.{ValidPolygon}
@@ -21,18 +21,18 @@ use Rattle.judge.specs.Call.{result, judged}
 use Rattle.judge.specs.Demands.{JobAccepted}
 use Rattle.triangulator.proofs.Demands.{patch-handed}
 use Rattle.judge.proofs.Demands.{handed-accepted}
-use Rattle.pipeline.specs.Patching.{Tables, weightsIn, rowsIn, problemIn, patchFile}
+use Rattle.pipeline.specs.Patching.{Tables, problemIn, patchFile, jobIn}
 use Rattle.pipeline.proofs.Accepted.{lists-accepted}
 use Rattle.demands.specs.Demand1.{polygonIn, CallDue}
-use Rattle.demands.specs.Demand3.{candidatesLeft, weightsLeft, rowsLeft}
+use Rattle.demands.specs.Demand3.{jobLeft}
 use Rattle.demands.proofs.Demand1.{taken-only-when, accepted}
 use Rattle.demands.proofs.Demands.{file-handed}
-use Rattle.demands.proofs.Patched.{first-candidates, first-weights, first-rows}
+use Rattle.demands.proofs.Patched.{job-left}
 
 -- none of 13 to 17 is due on the lists of a rim beside a work table that is long enough (rule 4.36)
-pub rim-job-accepted : (p : Polygon) → ValidPolygon p → (workPlaces : ℕ) → length (candidatesOf p) ≤ workPlaces → JobAccepted (jobOf (p .n) (candidatesOf p) (weightsIn p) (rowsIn p)) workPlaces
+pub rim-job-accepted : (p : Polygon) → ValidPolygon p → (workPlaces : ℕ) → length (candidatesOf p) ≤ workPlaces → JobAccepted (jobIn p) workPlaces
 rim-job-accepted p v workPlaces h =
-    fitting-accepted (jobOf (p .n) (candidatesOf p) (weightsIn p) (rowsIn p)) (p .n - 2) workPlaces
+    fitting-accepted (jobIn p) (p .n - 2) workPlaces
     (record { at-least = v .least; at-most = v .most; triangle-room = omega arith; work-room = h; lists = lists-accepted p v })
 
 module _ (limit : ℕ) (file : List ℕ) (bytes : Bytes file) (t : Tables) where
@@ -49,13 +49,12 @@ module _ (limit : ℕ) (file : List ℕ) (bytes : Bytes file) (t : Tables) where
   -- the patch of a rim file, with the lists that the call left, is accepted with excess 0 (rules 3.13, 3.14)
   pub file-patch-accepted : (count total : ℕ) (work : List ℕ) → length (candidatesOf (polygonIn limit file)) ≤ length work →
       patchFile limit file t .outcome ≡ Patch count total →
-      judged (polygonIn limit file .n) (candidatesLeft (polygonIn limit file) (patchFile limit file t .left)) (weightsLeft (polygonIn limit file) (patchFile limit file t .left))
-      (rowsLeft (polygonIn limit file) (patchFile limit file t .left)) (partOf (Patch count total) (patchFile limit file t .left .triangles)) total work
+      judged (jobLeft (polygonIn limit file) (patchFile limit file t .left)) (partOf (Patch count total) (patchFile limit file t .left .triangles)) total work
       ≡ result (judgement.Accepted 0) (filled (replicate (length (candidatesOf (polygonIn limit file))) 0) work)
   file-patch-accepted count total work room e =
       let none : None = taken-only-when limit file bytes t (subst Taken (sym e) a-patch) in
       let is = accepted limit file bytes t none .call-is in
-      (λ i. judged (jobOf (p .n) (first-candidates p t is i) (first-weights p t is i) (first-rows p t is i)) (partOf (Patch count total) (left .triangles)) total work)
-      ∙ handed-accepted (jobOf (p .n) (candidatesOf p) (weightsIn p) (rowsIn p)) total (partOf (Patch count total) (left .triangles)) work
+      ap (λ (j : Job). judged j (partOf (Patch count total) (left .triangles)) total work) (job-left p t is)
+      ∙ handed-accepted (jobIn p) total (partOf (Patch count total) (left .triangles)) work
       (rim-job-accepted p (accepted limit file bytes t none .polygon-valid) (length work) room)
       (patch-handed (subst (λ (o : Outcome). Handed (problemIn p) (partOf o (left .triangles)) o) e (file-handed limit file bytes t none)))

@@ -1,17 +1,18 @@
 -- Demands 2 and 3 of a call that takes a valid polygon through its stages, whichever call it is. Assumes nothing.
 use mathlib.Core.Path.{_≡_, refl, sym, ap, _∙_, subst}
 use lib.ListN.{length}
+use Rattle.jobs.specs.Job.{Job, jobOf}
 use Rattle.lists.proofs.Writing.{filled-take}
 use Rattle.polygon.specs.declared.Polygon.{Polygon}
 use Rattle.polygon.specs.Polygon.{ValidPolygon}
 use Rattle.delaunay.specs.Candidates.{candidatesOf}
-use Rattle.triangulation.specs.Triangulations.{Problem, Answer, best}
-use Rattle.triangulation.specs.Problems.{problemFrom}
+use Rattle.triangulation.specs.Triangulations.{Answer, best}
+use Rattle.triangulation.specs.Problems.{problemOf}
 use Rattle.triangulation.specs.Demand3.{Demand3}
 use Rattle.triangulation.proofs.Demand3.{demand3}
 use Rattle.triangulator.specs.Demands.{Handed}
 use Rattle.triangulator.proofs.Demands.{settled-states, settled-handed}
-use Rattle.pipeline.specs.Patching.{Tables, Patching, weightsIn, rowsIn, problemIn, patched}
+use Rattle.pipeline.specs.Patching.{Tables, Patching, weightsIn, rowsIn, problemIn, patched, jobIn}
 use Rattle.pipeline.proofs.Values.{valid-job}
 use Rattle.pipeline.proofs.Accepted.{weight-count}
 use Rattle.demands.specs.Demand3.{ListsLeft, candidatesLeft, weightsLeft, rowsLeft, jobLeft, answerIn, handedBack, RightOfTables}
@@ -29,8 +30,8 @@ module _ (p : Polygon) (t : Tables) {x : Patching} (e : x ≡ patched p t) where
   first-rows = ap (λ (x : Patching). rowsLeft p (x .left)) e ∙ filled-take (rowsIn p) (t .rows) _ refl
 
   -- so they state the polygon's job
-  pub job-left : jobLeft p (x .left) ≡ problemIn p
-  job-left = λ i. problemFrom (p .n) (first-candidates i) (first-weights i) (first-rows i)
+  pub job-left : jobLeft p (x .left) ≡ jobIn p
+  job-left = λ i. jobOf (p .n) (first-candidates i) (first-weights i) (first-rows i)
 
   module _ (v : ValidPolygon p) where
     pub patched-demand2 : ListsLeft p t (x .left)
@@ -42,7 +43,7 @@ module _ (p : Polygon) (t : Tables) {x : Patching} (e : x ≡ patched p t) where
         (demand3 (problemIn p) (valid-job p v))
 
     pub patched-demand3-of-tables : RightOfTables p x
-    patched-demand3-of-tables = subst (λ (j : Problem). Demand3 j (answerIn x)) (sym job-left) patched-demand3
+    patched-demand3-of-tables = subst (λ (j : Job). Demand3 (problemOf j) (answerIn x)) (sym job-left) patched-demand3
 
     pub patched-handed : Handed (problemIn p) (handedBack x) (x .outcome)
     patched-handed =

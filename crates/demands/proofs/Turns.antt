@@ -3,12 +3,12 @@ use Prim.Native.Nat.{ℕ}
 use mathlib.Core.Path.{_≡_, sym, _∙_}
 use mathlib.Core.List.{List}
 use lib.ListN.{length}
-use Rattle.jobs.specs.Job.{jobOf}
+use Rattle.jobs.specs.Job.{Job}
 use Rattle.rim_file.specs.File.{Bytes}
 use Rattle.reader.specs.Order.{NoneDue}
 use Rattle.delaunay.specs.Candidates.{candidatesOf}
 use Rattle.triangulation.specs.Triangulations.{Answer, patch}
-use Rattle.triangulation.specs.Problems.{problemFrom}
+use Rattle.triangulation.specs.Problems.{problemOf}
 use Rattle.triangulation.specs.Demand3.{Demand3}
 use Rattle.triangulation.proofs.Demand3.{demand3-unique}
 use Rattle.minimum_weight.specs.Tables.{WellFormed}
@@ -20,20 +20,22 @@ use Rattle.triangulator.specs.Call.{triangulated}
 use Rattle.triangulator.specs.Demands.{stated}
 use Rattle.triangulator.proofs.Accepting.{well-formed, accepted-well-formed}
 use Rattle.triangulator.proofs.Demands.{job-demand3}
-use Rattle.pipeline.specs.Patching.{Tables, weightsIn, rowsIn, problemIn, patchFile}
+use Rattle.pipeline.specs.Patching.{Tables, problemIn, patchFile, jobIn}
 use Rattle.pipeline.proofs.Accepted.{lists-accepted}
 use Rattle.demands.specs.Demand1.{polygonIn, CallDue}
 use Rattle.demands.proofs.Demand1.{accepted}
 use Rattle.demands.proofs.Demands.{file-demand3}
 
-module _ (n : ℕ) (candidates : List (List ℕ)) (weights : List ℕ) (rows : List (List ℕ)) where
+module _ (job : Job) where
   -- an answer of which demand 3 holds is the answer
-  right-answer : WellFormed n candidates weights rows → (a : Answer) → Demand3 (problemFrom n candidates weights rows) a → (total : ℕ) (l : List ℕ) → a ≡ patch total l → TurnByTurn (problemFrom n candidates weights rows) l
-  right-answer ok a d total l e = turn-by-turn n candidates weights rows ok total l (sym (demand3-unique (problemFrom n candidates weights rows) (ok .valid) a d) ∙ e)
+  right-answer : WellFormed (job .n) (job .candidates) (job .weights) (job .rows) → (a : Answer) → Demand3 (problemOf job) a → (total : ℕ) (l : List ℕ) → a ≡ patch total l →
+      TurnByTurn (problemOf job) l
+  right-answer ok a d total l e =
+      turn-by-turn (job .n) (job .candidates) (job .weights) (job .rows) ok total l (sym (demand3-unique (problemOf job) (ok .valid) a d) ∙ e)
 
   -- of every patch that the call for direct jobs gives
   pub job-turn-by-turn : (triangles work : List ℕ) → Accepted job (length triangles) (length work) → (total : ℕ) (l : List ℕ)
-      → stated (triangulated job triangles work .outcome) (triangulated job triangles work .triangles) ≡ patch total l → TurnByTurn (problemFrom n candidates weights rows) l
+      → stated (triangulated job triangles work .outcome) (triangulated job triangles work .triangles) ≡ patch total l → TurnByTurn (problemOf job) l
   job-turn-by-turn triangles work a =
       right-answer (accepted-well-formed job (length triangles) (length work) (accepted-zero job (length triangles) (length work) a) .0)
       _ (job-demand3 job triangles work a)
@@ -44,5 +46,5 @@ pub file-turn-by-turn : (limit : ℕ) (file : List ℕ) → Bytes file → (t : 
 file-turn-by-turn limit file bytes t none =
     let p = polygonIn limit file in
     let v = accepted limit file bytes t none .polygon-valid in
-    right-answer (p .n) (candidatesOf p) (weightsIn p) (rowsIn p) (well-formed (jobOf (p .n) (candidatesOf p) (weightsIn p) (rowsIn p)) (v .least) (v .most) (lists-accepted p v))
+    right-answer (jobIn p) (well-formed (jobIn p) (v .least) (v .most) (lists-accepted p v))
     _ (file-demand3 limit file bytes t none)

@@ -4,8 +4,9 @@ use Prim.Native.Nat.{ℕ}
 use lib.ListN.{take}
 use Rattle.polygon.specs.declared.Polygon.{Polygon}
 use Rattle.finder.specs.Sizes.{placesOf}
-use Rattle.triangulation.specs.Triangulations.{Problem, Answer}
-use Rattle.triangulation.specs.Problems.{problemFrom}
+use Rattle.jobs.specs.Job.{Job, jobOf}
+use Rattle.triangulation.specs.Triangulations.{Answer}
+use Rattle.triangulation.specs.Problems.{problemOf}
 use Rattle.triangulation.specs.Demand3.{Demand3}
 use Rattle.triangulator.specs.Call.{partOf}
 use Rattle.triangulator.specs.Demands.{stated}
@@ -28,8 +29,8 @@ abbrev pub rowsLeft : Polygon → Tables → List (List ℕ)
 rowsLeft p left = take (placesOf p .rows) (left .rows)
 
 -- the job that they state (rule 3.1)
-abbrev pub jobLeft : Polygon → Tables → Problem
-jobLeft p left = problemFrom (p .n) (candidatesLeft p left) (weightsLeft p left) (rowsLeft p left)
+abbrev pub jobLeft : Polygon → Tables → Job
+jobLeft p left = jobOf (p .n) (candidatesLeft p left) (weightsLeft p left) (rowsLeft p left)
 
 -- the triangles that a call hands back, as candidate numbers in walk order (rule 3.8)
 abbrev pub handedBack : Patching → List ℕ
@@ -41,4 +42,4 @@ answerIn x = stated (x .outcome) (x .left .triangles)
 
 -- the answer is right for the lists that the call left (rule 3.7)
 abbrev pub RightOfTables : Polygon → Patching → Type 0
-RightOfTables p x = Demand3 (jobLeft p (x .left)) (answerIn x)
+RightOfTables p x = Demand3 (problemOf (jobLeft p (x .left))) (answerIn x)

@@ -22,7 +22,7 @@ use Rattle.triangulator.proofs.Accepting.{well-formed}
 use Rattle.pipeline.specs.Patching.{Tables, Patching, patching, weightsIn, rowsIn, problemIn, tablesShort, patchBy, polygonNumber, patchPolygon, fileNumber, patchFile}
 use Rattle.pipeline.proofs.Accepted.{lists-accepted}
 
-pub valid-job : (p : Polygon) → ValidPolygon p → triangulations.Valid (problemIn p)
+pub valid-job : (p : Polygon) → ValidPolygon p → triangulations.ValidProblem (problemIn p)
 valid-job p v = well-formed (jobOf (p .n) (candidatesOf p) (weightsIn p) (rowsIn p)) (v .least) (v .most) (lists-accepted p v) .valid
 
 module _ (p : Polygon) (t : Tables) where

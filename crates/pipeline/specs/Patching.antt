@@ -3,6 +3,7 @@ use mathlib.Core.Bool.{Bool}
 use mathlib.Core.List.{List}
 use Prim.Native.Nat.{ℕ, zero, suc, _-_}
 use lib.ListN.{length}
+use Rattle.jobs.specs.Job.{Job, jobOf}
 use Rattle.codes.specs.Refusals.{refusal}
 use Rattle.lists.specs.Lists.{either, filled}
 use Rattle.polygon.specs.declared.Polygon.{Polygon}
@@ -14,7 +15,7 @@ use Rattle.dihedrals.specs.Dihedrals.{rowsOf}
 use Rattle.weights.specs.Weights.{weightsOf}
 use Rattle.finder.specs.Finding.{short, numberDue}
 use Rattle.triangulation.specs.Triangulations.{Problem, best}
-use Rattle.triangulation.specs.Problems.{problemFrom}
+use Rattle.triangulation.specs.Problems.{problemOf}
 use Rattle.triangulator.specs.declared.Outcome.{Outcome}
 use Rattle.triangulator.specs.declared.Outcome.the-variants.{Refused}
 use Rattle.triangulator.specs.Call.{Result, settled}
@@ -50,11 +51,14 @@ weightsIn p = weightsOf p (candidatesOf p)
 abbrev pub rowsIn : Polygon → List (List ℕ)
 rowsIn p = rowsOf p (candidatesOf p)
 
-abbrev pub problemWith : List ℕ → Polygon → Problem
-problemWith weights p = problemFrom (p .n) (candidatesOf p) weights (rowsIn p)
+abbrev pub jobWith : List ℕ → Polygon → Job
+jobWith weights p = jobOf (p .n) (candidatesOf p) weights (rowsIn p)
+
+abbrev pub jobIn : Polygon → Job
+jobIn p = jobWith (weightsIn p) p
 
 abbrev pub problemIn : Polygon → Problem
-problemIn p = problemWith (weightsIn p) p
+problemIn p = problemOf (jobIn p)
 
 -- one of the five tables has too few places (rule 4.13)
 unfoldable pub tablesShort : Polygon → Tables → Bool
@@ -73,7 +77,7 @@ patchedBy r weights p t =
     (tables (r .triangles) (filled (candidatesOf p) (t .candidates)) (filled weights (t .weights)) (filled (rowsIn p) (t .rows)) (r .work))
 
 abbrev pub patchedWith : List ℕ → Polygon → Tables → Patching
-patchedWith weights p t = patchedBy (settled (best (problemWith weights p)) (length (candidatesOf p)) (t .triangles) (t .work)) weights p t
+patchedWith weights p t = patchedBy (settled (best (problemOf (jobWith weights p))) (length (candidatesOf p)) (t .triangles) (t .work)) weights p t
 
 -- with the own weights (rule 2.15)
 abbrev pub patched : Polygon → Tables → Patching

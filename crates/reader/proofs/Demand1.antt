@@ -10,7 +10,8 @@ use Rattle.polygon.specs.Polygon.{emptyPolygon}
 use Rattle.rim_file.specs.File.{isEdition2}
 use Rattle.reader.specs.Order.{First, NoneDue}
 use Rattle.reader.specs.Due.{DueAt}
-use Rattle.reader.specs.Reading.{numberDue, polygonOf, answer, readingOf, statusNumber}
+use Rattle.reader.specs.declared.Reading.{Reading}
+use Rattle.reader.specs.Reading.{numberDue, polygonOf, refusedReading, answer, readingOf, statusNumber}
 use Rattle.reader.specs.declared.Status.the-variants.{Complete}
 use Rattle.reader.proofs.Normals.{no-18-in-edition-1}
 use Rattle.reader.proofs.Answers.{answer-number}
@@ -58,6 +59,10 @@ module _ (limit : ℕ) (s : List ℕ) where
   pub first-given : (k : ℕ) → First (DueAt limit s) k → statusNumber (readingOf limit s .status) ≡ k
   first-given k f = number-is ∙ verdict-first verdict f
 
+  -- as an answer without a polygon
+  pub first-refused : (k : ℕ) → First (DueAt limit s) k → readingOf limit s ≡ refusedReading k
+  first-refused zero f = absurd (none-first (verdict-none verdict (verdict-first verdict f)) f)
+  first-refused (suc k) f = ap (λ (i : ℕ). answer i (polygonOf s)) (verdict-first verdict f)
+
   pub refused-empty : (k : ℕ) → First (DueAt limit s) k → readingOf limit s .polygon ≡ emptyPolygon
-  refused-empty zero f = absurd (none-first (verdict-none verdict (verdict-first verdict f)) f)
-  refused-empty (suc k) f = ap (λ (i : ℕ). answer i (polygonOf s) .polygon) (verdict-first verdict f)
+  refused-empty k f = ap (λ (r : Reading). r .polygon) (first-refused k f)

@@ -1,0 +1,174 @@
+-- The page of promises, proved: each promise by the theorem of its name. Assumes nothing.
+use mathlib.Core.Path.{_≡_, sym, ap, _∙_}
+use mathlib.Core.List.{List}
+use Prim.Native.Nat.{ℕ}
+use Rattle.rim_file.specs.File.{Bytes}
+use Rattle.rim_file.proofs.Layouts as layouts
+use Rattle.grid.proofs.Unique as unique
+use Rattle.polygon.specs.declared.Polygon.{Polygon}
+use Rattle.reader.proofs.Demand1 as reader
+use Rattle.reader.proofs.Accepted as accepted
+use Rattle.reader.proofs.HalfSteps as half-steps
+use Rattle.jobs.specs.Job.{Job}
+use Rattle.triangulation.specs.Triangulations.{Problem}
+use Rattle.triangulation.proofs.Tiling as tiling
+use Rattle.triangulator.proofs.Demands as jobs
+use Rattle.judge.proofs.Demands as judge
+use Rattle.judge.proofs.Refusals as refusals
+use Rattle.converter.proofs.Numbers as numbers
+use Rattle.converter.proofs.Demands as converter
+use Rattle.pipeline.specs.Patching.{Tables}
+use Rattle.demands.proofs.Base as base
+use Rattle.demands.proofs.Conversion as conversion
+use Rattle.demands.proofs.Demand1 as demand1
+use Rattle.demands.proofs.Demands as demands
+use Rattle.demands.proofs.Finding as finding
+use Rattle.demands.proofs.Flat as flat
+use Rattle.demands.proofs.Judging as judging
+use Rattle.demands.proofs.Limits as limits
+use Rattle.demands.proofs.OnePatch as one-patch
+use Rattle.demands.proofs.Polygons as polygons
+use Rattle.demands.proofs.Sizes as sizes
+use Rattle.demands.proofs.Tables as tables
+use Rattle.demands.proofs.Turns as turns
+use Rattle.promises.specs.Promises.{Reading, Finding, RimFile, HandBuilt, DirectJob, Tilings, Editions, Converting, HalfSteps, Limits, Turns, FlatRims, Judging, Promises}
+
+reads : (limit : ℕ) (file : List ℕ) → Reading limit file
+reads limit file = record {
+  read-when = reader.read-when limit file;
+  read-only-when = reader.read-only-when limit file;
+  first-given = reader.first-refused limit file;
+  given-first = reader.given-first limit file;
+  vertices = accepted.read-vertices limit file;
+  normals = accepted.read-normals limit file;
+}
+
+finds : (p : Polygon) (candidates : List (List ℕ)) (weights : List ℕ) (rows : List (List ℕ)) → Finding p candidates weights rows
+finds p candidates weights rows = record {
+  found-when = finding.found-when p candidates weights rows;
+  found-only-when = finding.found-only-when p candidates weights rows;
+  refused-first = finding.refused-first p candidates weights rows;
+  given-first = finding.given-first p candidates weights rows;
+  lists = tables.find-hold p candidates weights rows;
+}
+
+closes : (limit : ℕ) (file : List ℕ) → Bytes file → (t : Tables) → RimFile limit file t
+closes limit file bytes t = record {
+  taken-when = demand1.taken-when limit file bytes t;
+  taken-only-when = demand1.taken-only-when limit file bytes t;
+  refused-first = demand1.refused-first limit file bytes t;
+  given-first = demand1.given-first limit file bytes t;
+  lists = demands.file-demand2 limit file bytes t;
+  right = demands.file-demand3-of-tables limit file bytes t;
+  handed = demands.file-handed limit file bytes t;
+  sizes-refused = sizes.sizes-refused limit file t;
+  shorter-13 = λ e. sizes.shorter-13 limit file t e;
+  enough-taken = λ e. sizes.enough-taken limit file t e;
+}
+
+by-hand : (p : Polygon) (t : Tables) → HandBuilt p t
+by-hand p t = record {
+  taken-when = polygons.taken-when p t;
+  taken-only-when = polygons.taken-only-when p t;
+  refused-first = polygons.refused-first p t;
+  given-first = polygons.given-first p t;
+  lists = polygons.polygon-demand2 p t;
+  right = polygons.polygon-demand3-of-tables p t;
+  handed = polygons.polygon-handed p t;
+}
+
+tiles : (job : Job) (triangles work : List ℕ) → DirectJob job triangles work
+tiles job triangles work = record {
+  taken-when = jobs.job-taken job triangles work;
+  taken-only-when = jobs.job-taken-only job triangles work;
+  refused-first = jobs.job-refused job triangles work;
+  given-first = jobs.job-refused-only job triangles work;
+  right = jobs.job-demand3 job triangles work;
+  handed = jobs.job-handed job triangles work;
+}
+
+in-editions : (file : List ℕ) → Editions file
+in-editions file = record {
+  layout-1 = layouts.edition-1-layout file;
+  layout-2 = layouts.edition-2-layout file;
+  answer-1 = λ one limit t. base.edition-1-answer limit file one t;
+  answer-2 = λ one same limit t. base.edition-2-answer limit one same t;
+}
+
+converts : (file out : List ℕ) → Converting file out
+converts file out = record {
+  converted-when = numbers.converted-when file out;
+  converted-only-when = numbers.converted-only-when file out;
+  refused-first = numbers.refused-first file out;
+  given-first = numbers.given-first file out;
+  other-edition = converter.other-edition file out;
+  same-rim = converter.same-rim file out;
+  same-answers = conversion.converted-answers file out;
+  back = converter.back file out;
+}
+
+rounds : HalfSteps
+rounds = record {
+  none-nearer = unique.none-nearer;
+  only-number = unique.only-number;
+  vertices-rounded = λ limit file. half-steps.vertices-rounded file limit;
+  vertices-fixed = λ limit file. half-steps.vertices-fixed file limit;
+  one-patch = one-patch.file-fixes-patch;
+}
+
+within : (file : List ℕ) → Limits file
+within file = record {
+  limit-refused = λ limit bytes t. limits.limit-refused limit file bytes t;
+  one-answer = λ least below most. limits.one-answer least below most file;
+  more-vertices = λ least below most. limits.more-vertices least below most file;
+  five-given = λ limit bytes t. limits.five-given limit file bytes t;
+  twenty-given = λ limit bytes t. limits.twenty-given limit file bytes t;
+  trim-as-bench = limits.trim-as-bench file;
+}
+
+in-turns : Turns
+in-turns = record { of-jobs = turns.job-turn-by-turn; of-files = turns.file-turn-by-turn }
+
+in-plane : FlatRims
+in-plane = record {
+  flat-candidate = flat.flat-candidate;
+  solid-candidate = flat.solid-candidate;
+  circle-gets-12 = flat.circle-gets-12;
+  twelve-by-circle = flat.twelve-by-circle;
+  line-gets-none = flat.line-gets-none;
+  triangle-gets-patch = flat.triangle-gets-patch;
+}
+
+judges : (job : Job) (list : List ℕ) (total : ℕ) (work : List ℕ) → Judging job list total work
+judges job list total work = record {
+  accepts-when = judge.accepts-when job list total work;
+  accepts-only-when = judge.accepts-only-when job list total work;
+  accepted-excess = judge.accepted-excess job list total work;
+  accepted-work = judge.accepted-work job list total work;
+  refused-first = judge.refused-first job list total work;
+  given-first = judge.given-first job list total work;
+  gives-21 = refusals.gives-21 job list total work;
+  given-21 = refusals.given-21 job list total work;
+  gives-22 = refusals.gives-22 job list total work;
+  given-22 = refusals.given-22 job list total work;
+  any-order = λ list′. judge.order-never-matters job list list′ total work;
+  own-patch = judge.handed-accepted job total list work;
+}
+
+pub promises : Promises
+promises = record {
+  reading = reads;
+  finding = finds;
+  rim-files = closes;
+  hand-built = by-hand;
+  direct-jobs = tiles;
+  tilings = λ problem. record { tiling-of = tiling.true-tiling problem; of-tiling = tiling.tiling-true problem };
+  editions = in-editions;
+  converting = converts;
+  half-steps = rounds;
+  limits = within;
+  turns = in-turns;
+  flat-rims = in-plane;
+  judging = judges;
+  own-patches = judging.file-patch-accepted;
+}
