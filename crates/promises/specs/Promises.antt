@@ -22,7 +22,7 @@ use Rattle.polygon.specs.declared.Polygon.{Polygon}
 use Rattle.polygon.specs.Polygon as polygon
 use Rattle.polygon.specs.Normal as polygon-normals
 use Rattle.polygon.specs.Due as polygon-due
-use Rattle.rim_file.specs.File.{Bytes, isEdition2}
+use Rattle.rim_file.specs.File.{Bytes, u16At, isEdition2}
 use Rattle.rim_file.specs.Editions.{SameRim}
 use Rattle.rim_file.specs.Layouts.{Edition1, Edition2}
 use Rattle.reader.specs.declared.Status.the-variants.{Complete}
@@ -155,8 +155,8 @@ pub record DirectJob (job : Job) (triangles work : List ℕ) : Type 0 where
 -- ---- editions
 -- where a file of each edition has its numbers, and the answer without a surface outside (rules 1.2 to 1.4, 1.12, 1.13, 2.16)
 pub record Editions (file : List ℕ) : Type 0 where
-  pub layout-1 : isEdition2 file ≡ false → Edition1 file
-  pub layout-2 : isEdition2 file ≡ true → Edition2 file
+  pub layout-1 : (u16At file 0 ≡ 65535 → ⊥) → Edition1 file
+  pub layout-2 : u16At file 0 ≡ 65535 → Edition2 file
   pub answer-1 : isEdition2 file ≡ false → (limit : ℕ) (t : Tables) → patchFile limit file t ≡ baseFile limit file t
   pub answer-2 : {two : List ℕ} → isEdition2 file ≡ false → SameRim two file → (limit : ℕ) (t : Tables) → patchFile limit two t ≡ baseFile limit file t
 
