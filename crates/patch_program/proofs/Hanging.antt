@@ -1,11 +1,10 @@
 -- Candidates that are missing, a patch passed from the front, and rows that weigh the same. Assumes nothing.
 use mathlib.Core.Path.{_≡_, refl, sym, ap, _∙_}
 use mathlib.Core.Bool.{true, false, cond}
-use mathlib.Core.List.{List, [], _∷_, map}
+use mathlib.Core.List.{List, [], _∷_, map, List·Memᴰ, List·Memᴰ·head, List·Memᴰ·tail}
 use Prim.Native.Nat.{ℕ, zero, suc, _+_, _≤_, _<_}
 use native.Mathlib.Nat.{le-of-suc-le-suc, not-suc-le-zero}
 use native.Mathlib.Numerals.{add-one}
-use native.Mathlib.Omega.{arith}
 use lib.ListN.{getD, length, drop, drop-of-length-le}
 use lib.Seq.{drop-cons}
 use Rattle.lists.proofs.Choice.{yes, no}
@@ -43,18 +42,21 @@ module _ (candidates : List (List ℕ)) where
   corner t e j h = ap (λ (x : List ℕ). getD x j 0) e ∙ same-default (λ (x : List ℕ). getD x j 0) candidates t (triple 0 0 0) [] h
 
   module _ (rows : List (List ℕ)) (patch : List ℕ) (t : ℕ) where
-    at-front : (k : ℕ) → k < length patch → rowUnder candidates rows (drop k patch) t ≡ rowUnder candidates rows (getD patch k 0 ∷ drop (suc k) patch) t
+    at-front : (k : ℕ) → k < length patch →
+        rowUnder candidates rows (drop k patch) t ≡ rowUnder candidates rows (getD patch k 0 ∷ drop (suc k) patch) t
     at-front k h = ap (λ (l : List ℕ). rowUnder candidates rows l t) (drop-cons patch k 0 h)
 
-    -- t hangs on triangle k
-    pub under-found : (k : ℕ) → k < length patch → hangs (entryAt candidates t) (entryAt candidates (getD patch k 0)) ≡ true →
-        rowUnder candidates rows (drop k patch) t ≡ pairWeight rows (getD patch k 0) t
-    under-found k h e = at-front k h ∙ yes _ _ e
+    -- t hangs on triangle k, or it does not
+    module _ (k : ℕ) {o : ℕ} (h : k < length patch) (is : o ≡ getD patch k 0) where
+      on : hangs (entryAt candidates t) (entryAt candidates (getD patch k 0)) ≡ hangs (entryAt candidates t) (entryAt candidates o)
+      on = ap (λ (x : ℕ). hangs (entryAt candidates t) (entryAt candidates x)) (sym is)
 
-    -- it does not
-    pub under-next : (k : ℕ) → k < length patch → hangs (entryAt candidates t) (entryAt candidates (getD patch k 0)) ≡ false →
-        rowUnder candidates rows (drop k patch) t ≡ rowUnder candidates rows (drop (k + 1) patch) t
-    under-next k h e = at-front k h ∙ no _ _ e ∙ ap (λ (n : ℕ). rowUnder candidates rows (drop n patch) t) (sym (add-one k))
+      pub under-found : hangs (entryAt candidates t) (entryAt candidates o) ≡ true → rowUnder candidates rows (drop k patch) t ≡ pairWeight rows o t
+      under-found e = at-front k h ∙ yes _ _ (on ∙ e) ∙ ap (λ (x : ℕ). pairWeight rows x t) (sym is)
+
+      pub under-next : hangs (entryAt candidates t) (entryAt candidates o) ≡ false →
+          rowUnder candidates rows (drop k patch) t ≡ rowUnder candidates rows (drop (k + 1) patch) t
+      under-next e = at-front k h ∙ no _ _ (on ∙ e) ∙ ap (λ (n : ℕ). rowUnder candidates rows (drop n patch) t) (sym (add-one k))
 
     pub under-end : (k : ℕ) → length patch ≤ k → rowUnder candidates rows (drop k patch) t ≡ 0
     under-end k h = ap (λ (l : List ℕ). rowUnder candidates rows l t) (drop-of-length-le patch h)
@@ -65,12 +67,23 @@ module _ (candidates : List (List ℕ)) where
   under-same rows rows′ h [] t = refl
   under-same rows rows′ h (o ∷ patch) t = (λ i. cond (hangs (entryAt candidates t) (entryAt candidates o)) (h o t i) (under-same rows rows′ h patch t i))
 
-  pub line-same : (weights : List ℕ) (rows rows′ : List (List ℕ)) → ((o i : ℕ) → pairWeight rows o i ≡ pairWeight rows′ o i) → (patch : List ℕ) (t : ℕ) →
-      lineOf candidates weights rows patch t ≡ lineOf candidates weights rows′ patch t
+  pub line-same : (weights : List ℕ) (rows rows′ : List (List ℕ)) → ((o i : ℕ) → pairWeight rows o i ≡ pairWeight rows′ o i) →
+      (patch : List ℕ) (t : ℕ) → lineOf candidates weights rows patch t ≡ lineOf candidates weights rows′ patch t
   line-same weights rows rows′ h patch t =
       ap (λ (w : ℕ). record { a = getD (entryAt candidates t) 0 0; b = getD (entryAt candidates t) 1 0; c = getD (entryAt candidates t) 2 0; weight = getD weights t 0; row = w })
       (under-same rows rows′ h patch t)
 
+-- candidates that are the same where the patch has its triangles
+pub under-members : (candidates candidates′ rows : List (List ℕ)) (patch : List ℕ) (t : ℕ) → entryAt candidates t ≡ entryAt candidates′ t →
+    ((o : ℕ) → List·Memᴰ o patch → entryAt candidates o ≡ entryAt candidates′ o) →
+    rowUnder candidates rows patch t ≡ rowUnder candidates′ rows patch t
+under-members candidates candidates′ rows [] t e h = refl
+under-members candidates candidates′ rows (o ∷ patch) t e h =
+    let rest : rowUnder candidates rows patch t ≡ rowUnder candidates′ rows patch t = under-members candidates candidates′ rows patch t e (λ u m. h u (List·Memᴰ·tail m)) in
+    let first : entryAt candidates o ≡ entryAt candidates′ o = h o (List·Memᴰ·head refl) in
+    (λ i. cond (hangs (e i) (first i)) (pairWeight rows o t) (rest i))
+
 -- the line of triangle k comes before those that are left
-pub next-line : (f : ℕ → Line) (patch : List ℕ) (k : ℕ) {line : Line} → k < length patch → line ≡ f (getD patch k 0) → map f (drop k patch) ≡ line ∷ map f (drop (k + 1) patch)
-next-line f patch k h e = rest-step f patch k 0 h ∙ ap (λ (x : Line). x ∷ map f (drop (k + 1) patch)) (sym e)
+pub next-line : (f : ℕ → Line) (patch : List ℕ) (k : ℕ) {t : ℕ} {line : Line} → k < length patch → t ≡ getD patch k 0 → line ≡ f t →
+    map f (drop k patch) ≡ line ∷ map f (drop (k + 1) patch)
+next-line f patch k h is e = rest-step f patch k 0 h ∙ ap (λ (x : Line). x ∷ map f (drop (k + 1) patch)) (sym (e ∙ ap f is))

@@ -1,3 +1,6 @@
 pub mod Hanging
 pub mod Rows
 pub mod Printing
+pub mod Outers
+pub mod Demands
+pub mod Cases

@@ -8,9 +8,9 @@ use native.Mathlib.Omega.{arith}
 use borrow.Author.Tests.{eq-eqb, ne-eqb}
 use lib.Dec.{eqb}
 use lib.ListN.{length, take, drop, replicate, drop-of-length-le}
-use lib.Seq.{drop-cons, drop-nil, take-at}
+use lib.Seq.{drop-cons, take-at}
 use Rattle.lists.specs.Lists.{filled}
-use Rattle.lists.proofs.Choice.{yes, no, Truth, truth, holds, fails}
+use Rattle.lists.proofs.Choice.{yes, no}
 use Rattle.terms.specs.Entries.{triple, entryAt, outer, inner, rowWeight}
 use Rattle.terms.specs.Numbers.{firstDue}
 use Rattle.polygon.specs.declared.Polygon.{Polygon}
@@ -62,6 +62,13 @@ no-weight (suc n) o i = same (eqb 0 o && eqb 0 i) (no-weight n o i)
 past-rows : (rows : List (List ℕ)) (n o i : ℕ) → pairWeight (rows ++ zeros n) o i ≡ pairWeight rows o i
 past-rows [] n o i = no-weight n o i
 past-rows (r ∷ rows) n o i = ap (λ (w : ℕ). cond (eqb (outer r) o && eqb (inner r) i) (rowWeight r) w) (past-rows rows n o i)
+
+-- rows in the first places of such a table weigh every pair alone
+pub alone : (rows table : List (List ℕ)) (n : ℕ) → table ≡ replicate n (triple 0 0 0) → (o i : ℕ) →
+    pairWeight (filled rows table) o i ≡ pairWeight rows o i
+unfolding zeros
+alone rows table n e o i =
+    ap (λ (x : List (List ℕ)). pairWeight (rows ++ x) o i) (ap (drop (length rows)) e ∙ drop-zeros (length rows) n) ∙ past-rows rows (n - length rows) o i
 
 -- every row names two candidates
 abbrev Apart : List (List ℕ) → Type 0
@@ -120,6 +127,7 @@ module _ (limit : ℕ) (file : List ℕ) (t : Tables) where
       by zero d =
           let v : ValidPolygon (polygonOf file) = file-valid d in
           let size = length (rowsIn (polygonOf file)) in
-          let l : filled (rowsIn (polygonOf file)) (t .rows) ≡ rowsIn (polygonOf file) ++ zeros (n - size) = ap (λ (x : List (List ℕ)). rowsIn (polygonOf file) ++ drop size x) e ∙ ap (λ x. rowsIn (polygonOf file) ++ x) (drop-zeros size n) in
+          let l : filled (rowsIn (polygonOf file)) (t .rows) ≡ rowsIn (polygonOf file) ++ zeros (n - size) =
+          ap (λ (x : List (List ℕ)). rowsIn (polygonOf file) ++ x) (ap (drop size) e ∙ drop-zeros size n) in
           subst Counted (sym l) (counted (rowsIn (polygonOf file)) (n - size) (ascends (polygonOf file) v) (apart (polygonOf file) v))
       by (suc k) d = subst Counted (sym e) (counted [] n (record { up = λ k l h j. absurd (omega (arith, j)) }) (λ k h f. absurd (omega (arith, h))))

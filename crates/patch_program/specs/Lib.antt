@@ -1,3 +1,4 @@
 pub mod Run
 pub mod Lines
 pub mod Places
+pub mod Demands

@@ -10,7 +10,7 @@ use Rattle.triangulation.specs.Problems.{pairWeight}
 use Rattle.triangulator.specs.declared.Outcome.{Outcome}
 use Rattle.triangulator.specs.declared.Outcome.the-variants.{Patch, None, Refused}
 use Rattle.triangulator.specs.Call.{partOf}
-use Rattle.pipeline.specs.Patching.{Tables, Patching, patchFile}
+use Rattle.pipeline.specs.Patching.{Patching, patchFile}
 use Rattle.patch_program.specs.declared.lines.Line.{Line}
 use Rattle.patch_program.specs.declared.Printout.{Printout}
 use Rattle.patch_program.specs.Run.{emptyTables}
@@ -32,13 +32,13 @@ lineOf candidates weights rows patch t = record {
   row = rowUnder candidates rows patch t;
 }
 
--- the lines of a patch in walk order, by the tables that the one call left (rules 3.8, 3.9, 5.4)
-abbrev pub linesIn : Tables → List ℕ → List Line
-linesIn left patch = map (lineOf (left .candidates) (left .weights) (left .rows) patch) patch
+-- the lines of a patch, one for each of its triangles in walk order (rules 3.8, 5.4)
+abbrev pub linesOf : List (List ℕ) → List ℕ → List (List ℕ) → List ℕ → List Line
+linesOf candidates weights rows patch = map (lineOf candidates weights rows patch) patch
 
--- the lines after a call: one for each triangle of the part handed back, so none after 'none' and in a refusal (rules 3.8, 5.4)
+-- the lines after a call, of the part handed back and by the tables that it left: so none after 'none' and in a refusal (rules 3.8, 3.9, 5.4)
 abbrev pub linesAfter : Patching → List Line
-linesAfter r = linesIn (r .left) (partOf (r .outcome) (r .left .triangles))
+linesAfter r = linesOf (r .left .candidates) (r .left .weights) (r .left .rows) (partOf (r .outcome) (r .left .triangles))
 
 -- a place that no line needs
 abbrev pub noLine : Line
@@ -48,6 +48,10 @@ noLine = record { a = 0; b = 0; c = 0; weight = 0; row = 0 }
 abbrev pub linePlaces : ℕ
 linePlaces = 62
 
+-- lines in the first places
+abbrev pub inPlaces : List Line → List Line
+inPlaces lines = filled lines (replicate linePlaces noLine)
+
 -- the number of vertices on the first line: a patch has two triangles fewer (rules 5.2, 5.4)
 abbrev pub verticesOf : Outcome → ℕ
 verticesOf (Patch count total) = count + 2
@@ -56,7 +60,7 @@ verticesOf (Refused r) = 0
 
 -- what is printed after a call: its outcome, the number of vertices, and the lines in the first places (rule 5.4)
 abbrev pub printoutAfter : Patching → Printout
-printoutAfter r = record { outcome = r .outcome; vertices = verticesOf (r .outcome); lines = filled (linesAfter r) (replicate linePlaces noLine) }
+printoutAfter r = record { outcome = r .outcome; vertices = verticesOf (r .outcome); lines = inPlaces (linesAfter r) }
 
 -- what is printed for a file under a limit (rules 5.3, 5.4, 5.9)
 unfoldable pub printoutOf : ℕ → List ℕ → Printout

@@ -3,14 +3,12 @@ use crate::TRIANGLES;
 use jobs::pairs::hangs_on;
 use triangulator::Outcome;
 ghost use mathlib.Core.Path.{_≡_};
-ghost use mathlib.Core.List.{map};
 ghost use Prim.Native.Nat.{_≤_};
-ghost use lib.ListN.{getD, length, replicate};
-ghost use Rattle.lists.specs.Lists.{filled};
+ghost use lib.ListN.{getD, length};
 ghost use Rattle.terms.specs.Entries.{triple};
 ghost use Rattle.triangulator.specs.Call.{trianglesOf};
 ghost use Rattle.rows.specs.Search.{RowsAscend};
-ghost use Rattle.patch_program.specs.Lines.{verticesOf, rowUnder, lineOf, noLine, linePlaces};
+ghost use Rattle.patch_program.specs.Lines.{verticesOf, rowUnder, lineOf, linesOf, linePlaces, inPlaces};
 ghost use Rattle.patch_program.specs.Places.{rowCount};
 
 // A triangle's vertices, its own weight, and the row weight of the pair that it is the inner of.
@@ -35,6 +33,13 @@ pub(crate) fn vertices_of(outcome: Outcome) -> usize
         Outcome::None => 0,
         Outcome::Refused(_) => 0,
     }
+}
+
+// A candidate number of the patch.
+fn number(t: u16) -> usize
+    ensures { λ r. ⌜ r ≡ t ⌝ }
+{
+    t as usize
 }
 
 // Candidate t, three zeros where there is none.
@@ -64,7 +69,7 @@ fn row_under(candidates: &[[u8; 3]], rows: &[[u32; 3]], patch: &[u16], t: usize)
 {
     let inner = candidate_at(candidates, t);
     for k in 0..patch.len() {
-        let o = patch[k] as usize;
+        let o = number(patch[k]);
         let outer = candidate_at(candidates, o);
         if hangs_on(inner, outer) {
             return rows::row_weight(rows, o, t);
@@ -104,7 +109,7 @@ pub(crate) fn lines_of(
     patch: &[u16],
 ) -> [Line; TRIANGLES]
     requires { ⌜ RowsAscend (now rows) × (length (now patch) ≤ linePlaces) ⌝ }
-    ensures { λ r. ⌜ r ≡ filled (map (lineOf (now (candidates .entry)) (now (weights .entry)) (now (rows .entry)) (now (patch .entry))) (now (patch .entry))) (replicate linePlaces noLine) ⌝ }
+    ensures { λ r. ⌜ r ≡ inPlaces (linesOf (now (candidates .entry)) (now (weights .entry)) (now (rows .entry)) (now (patch .entry))) ⌝ }
 {
     let mut lines = [Line {
         a: 0,
@@ -114,7 +119,7 @@ pub(crate) fn lines_of(
         row: 0,
     }; TRIANGLES];
     for k in 0..patch.len() {
-        let t = patch[k] as usize;
+        let t = number(patch[k]);
         lines[k] = line_of(candidates, weights, rows, patch, t);
     }
     lines

@@ -1,8 +1,8 @@
 -- `patch_program::printout_of` meets its contract. Assumes nothing.
-use mathlib.Core.Path.{sym}
+use mathlib.Core.Path.{refl, sym}
 use denote.Ref.{now}
 use lib.Seq.{length-take-le}
-use Rattle.patch_program.proofs.Printing.{few-triangles, few-lines, rows-ascend, printed}
+use Rattle.patch_program.proofs.Printing.{few-triangles, lines-ready, printed}
 use borrow.Author.Needs.{needs}
 use Rattle.patch_program.proofs.printout_of.Statement.{statement}
 use Rattle.patch_program.proofs.printout_of.Tie as tie
@@ -26,9 +26,7 @@ patch-file-requires : tie.Need-patch-file-requires
 patch-file-requires c κs = search needs
 
 vertices-of-requires : tie.Need-vertices-of-requires
-vertices-of-requires c κs =
-    let s = c .before .before .before .before .before .before .before .before .before .before .before .before in
-    few-triangles (s .args .limit) (now (s .args .file)) (c .before .before .before .before .before .patch-file .ensures .0)
+vertices-of-requires c κs = few-triangles _ _ _ (c .before .before .before .before .before .patch-file .ensures .0)
 
 slice-aggregate-row-count : tie.Need-slice-aggregate-row-count
 slice-aggregate-row-count c = search needs
@@ -55,10 +53,7 @@ slice-aggregate-lines-of-3 : tie.Need-slice-aggregate-lines-of-3
 slice-aggregate-lines-of-3 c = sym (length-take-le _ _ (c .before .before .before .before .before .row-count .ensures .1))
 
 lines-of-requires : tie.Need-lines-of-requires
-lines-of-requires c κs =
-    let s = c .before .before .before .before .before .before .before .before .before .before .before .before .before .before .before .before .before .before .before .before in
-    let call = c .before .before .before .before .before .before .before .before .before .before .before .before .before .patch-file .ensures .0 in
-    (rows-ascend (s .args .limit) (now (s .args .file)) call (c .before .before .before .before .before .row-count .ensures .0), few-lines (s .args .limit) (now (s .args .file)) call (c .before .before .before .part .ensures))
+lines-of-requires c κs = lines-ready _ _ _ (c .before .before .before .before .before .before .before .before .before .before .before .before .before .patch-file .ensures .0) 4096 refl (c .before .before .before .before .before .row-count .ensures .0) (c .before .before .before .part .ensures)
 
 returns : tie.Need-returns
 returns c =

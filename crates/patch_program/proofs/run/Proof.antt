@@ -1,5 +1,5 @@
 -- `patch_program::run` meets its contract. Assumes nothing.
-use mathlib.Core.Path.{ap, _∙_, refl}
+use mathlib.Core.Path.{ap}
 use Rattle.patch_program.specs.declared.Printout.{Printout}
 use Rattle.patch_program.specs.Lines.{printoutOf}
 use borrow.Author.Needs.{needs}

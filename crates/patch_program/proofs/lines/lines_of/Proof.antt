@@ -25,23 +25,23 @@ loop-holds c =
     let f = (lineOf (now (s .args .candidates)) (now (s .args .weights)) (now (s .args .rows)) (now (s .args .patch))) in
     (refl, start (map f patch) (replicate linePlaces noLine) (omega (arith, length-map patch f, s .pre .1)))
 
-mul-t : tie.Need-mul-t Inv-loop μ-loop
-mul-t c = search needs
+mul-number : tie.Need-mul-number Inv-loop μ-loop
+mul-number c = search needs
 
-shared-slice-read-t : tie.Need-shared-slice-read-t Inv-loop μ-loop
-shared-slice-read-t c = search needs
+shared-slice-read-number : tie.Need-shared-slice-read-number Inv-loop μ-loop
+shared-slice-read-number c = search needs
 
-cast-t : tie.Need-cast-t Inv-loop μ-loop
-cast-t c = omega (arith, c .shared-slice-known3 .given (c .before .before .loop .k))
+number-requires : tie.Need-number-requires Inv-loop μ-loop
+number-requires c κs = search needs
 
 line-of-requires : tie.Need-line-of-requires Inv-loop μ-loop
-line-of-requires c κs = c .before .before .before .before .before .pre .0
+line-of-requires c κs = c .before .before .before .before .before .before .pre .0
 
 mul-lines : tie.Need-mul-lines Inv-loop μ-loop
-mul-lines c = omega (arith, c .before .before .before .before .before .before .pre .1)
+mul-lines c = omega (arith, c .before .before .before .before .before .before .before .pre .1)
 
 array-set-from-lines : tie.Need-array-set-from-lines Inv-loop μ-loop
-array-set-from-lines c = omega (arith, c .before .before .before .before .before .before .pre .1)
+array-set-from-lines c = omega (arith, c .before .before .before .before .before .before .before .pre .1)
 
 add-k : tie.Need-add-k Inv-loop μ-loop
 add-k c = search needs
@@ -51,11 +51,9 @@ loop-less c = search needs
 
 loop-again : tie.Need-loop-again Inv-loop μ-loop
 loop-again c =
-    let s = c .before .before .before .before .before .before in
-    let patch = now (s .args .patch) in
-    let f = (lineOf (now (s .args .candidates)) (now (s .args .weights)) (now (s .args .rows)) (now (s .args .patch))) in
-    let k = c .before .before .before .loop .k in
-    (refl, push (turn (next-line f patch k (omega arith) (c .line-of .ensures)) (c .before .before .before .loop .inv .1)))
+    let s = c .before .before .before .before .before .before .before in
+    let f = lineOf (now (s .args .candidates)) (now (s .args .weights)) (now (s .args .rows)) (now (s .args .patch)) in
+    (refl, push (turn (next-line f (now (s .args .patch)) (c .before .before .before .before .loop .k) (omega arith) (c .before .number .ensures) (c .line-of .ensures)) (c .before .before .before .before .loop .inv .1)))
 
 returns : tie.Need-returns Inv-loop μ-loop
 returns c =
@@ -70,9 +68,9 @@ lines-of-spec =
     Inv-loop
     μ-loop
     loop-holds
-    mul-t
-    shared-slice-read-t
-    cast-t
+    mul-number
+    shared-slice-read-number
+    number-requires
     line-of-requires
     mul-lines
     array-set-from-lines

@@ -1,10 +1,9 @@
 -- `patch_program::lines::row_under` meets its contract: the triangles before place k are not what t hangs on. Assumes nothing.
-use mathlib.Core.Path.{_≡_, refl, sym, ap, _∙_}
-use Prim.Native.Nat.{ℕ, _-_}
+use mathlib.Core.Path.{_≡_, refl, sym, _∙_}
+use Prim.Native.Nat.{_-_}
 use native.Mathlib.Omega.{arith}
 use denote.Ref.{now}
-use lib.ListN.{getD, length, drop}
-use borrow.Author.Tests.{not-true, not-false}
+use lib.ListN.{length, drop}
 use Rattle.patch_program.specs.Lines.{rowUnder}
 use Rattle.patch_program.proofs.Hanging.{hangs-same, under-found, under-next, under-end}
 use borrow.Author.Needs.{needs}
@@ -23,14 +22,14 @@ candidate-at-requires c κs = search needs
 loop-holds : tie.Need-loop-holds Inv-loop μ-loop
 loop-holds c = (refl, refl)
 
-mul-o : tie.Need-mul-o Inv-loop μ-loop
-mul-o c = search needs
+mul-number : tie.Need-mul-number Inv-loop μ-loop
+mul-number c = search needs
 
-shared-slice-read-o : tie.Need-shared-slice-read-o Inv-loop μ-loop
-shared-slice-read-o c = search needs
+shared-slice-read-number : tie.Need-shared-slice-read-number Inv-loop μ-loop
+shared-slice-read-number c = search needs
 
-cast-o : tie.Need-cast-o Inv-loop μ-loop
-cast-o c = omega (arith, c .shared-slice-known2 .given (c .before .before .loop .k))
+number-requires : tie.Need-number-requires Inv-loop μ-loop
+number-requires c κs = search needs
 
 candidate-at-requires-2 : tie.Need-candidate-at-requires-2 Inv-loop μ-loop
 candidate-at-requires-2 c κs = search needs
@@ -39,20 +38,17 @@ hangs-on-requires : tie.Need-hangs-on-requires Inv-loop μ-loop
 hangs-on-requires c κs = search needs
 
 row-weight-requires : tie.Need-row-weight-requires Inv-loop μ-loop
-row-weight-requires c κs = c .before .before .before .before .before .before .before .before .pre
+row-weight-requires c κs = c .before .before .before .before .before .before .before .before .before .pre
 
 returns : tie.Need-returns Inv-loop μ-loop
 returns c =
-    let s = c .before .before .before .before .before .before .before .before .before in
+    let s = c .before .before .before .before .before .before .before .before .before .before in
     let candidates = now (s .args .candidates) in
-    let rows = now (s .args .rows) in
-    let patch = now (s .args .patch) in
     let t = s .args .t in
-    let k = c .before .before .before .before .before .before .loop .k in
-    let o = getD patch k 0 in
-    let e = sym (hangs-same candidates t o (c .before .before .before .before .before .before .before .candidate-at .ensures) (c .before .before .before .candidate-at2 .ensures)) ∙ sym (c .before .before .hangs-on .ensures) ∙ c .before .if1 .taken in
-    let next = under-found candidates rows patch t k (omega arith) e in
-    c .row-weight .ensures ∙ sym next ∙ c .before .before .before .before .before .before .loop .inv .1
+    let o = c .before .before .before .before .number .result in
+    let e = sym (hangs-same candidates t o (c .before .before .before .before .before .before .before .before .candidate-at .ensures) (c .before .before .before .candidate-at2 .ensures)) ∙ sym (c .before .before .hangs-on .ensures) ∙ c .before .if1 .taken in
+    let next = under-found candidates (now (s .args .rows)) (now (s .args .patch)) t (c .before .before .before .before .before .before .before .loop .k) (omega arith) (c .before .before .before .before .number .ensures) e in
+    c .row-weight .ensures ∙ sym next ∙ c .before .before .before .before .before .before .before .loop .inv .1
 
 add-k : tie.Need-add-k Inv-loop μ-loop
 add-k c = search needs
@@ -62,16 +58,13 @@ loop-less c = search needs
 
 loop-again : tie.Need-loop-again Inv-loop μ-loop
 loop-again c =
-    let s = c .before .before .before .before .before .before .before .before in
+    let s = c .before .before .before .before .before .before .before .before .before in
     let candidates = now (s .args .candidates) in
-    let rows = now (s .args .rows) in
-    let patch = now (s .args .patch) in
     let t = s .args .t in
-    let k = c .before .before .before .before .before .loop .k in
-    let o = getD patch k 0 in
-    let e = sym (hangs-same candidates t o (c .before .before .before .before .before .before .candidate-at .ensures) (c .before .before .candidate-at2 .ensures)) ∙ sym (c .before .hangs-on .ensures) ∙ c .if1 .left in
-    let next = under-next candidates rows patch t k (omega arith) e in
-    (refl, sym next ∙ c .before .before .before .before .before .loop .inv .1)
+    let o = c .before .before .before .number .result in
+    let e = sym (hangs-same candidates t o (c .before .before .before .before .before .before .before .candidate-at .ensures) (c .before .before .candidate-at2 .ensures)) ∙ sym (c .before .hangs-on .ensures) ∙ c .if1 .left in
+    let next = under-next candidates (now (s .args .rows)) (now (s .args .patch)) t (c .before .before .before .before .before .before .loop .k) (omega arith) (c .before .before .before .number .ensures) e in
+    (refl, sym next ∙ c .before .before .before .before .before .before .loop .inv .1)
 
 returns-2 : tie.Need-returns-2 Inv-loop μ-loop
 returns-2 c =
@@ -86,9 +79,9 @@ row-under-spec =
     μ-loop
     candidate-at-requires
     loop-holds
-    mul-o
-    shared-slice-read-o
-    cast-o
+    mul-number
+    shared-slice-read-number
+    number-requires
     candidate-at-requires-2
     hangs-on-requires
     row-weight-requires

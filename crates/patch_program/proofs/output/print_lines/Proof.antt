@@ -1,6 +1,5 @@
 -- `patch_program::output::print_lines` is safe and ends: the measure is what is left of the range. Assumes nothing.
 use Prim.Native.Nat.{_-_}
-use native.Mathlib.Omega.{arith}
 use borrow.Author.Needs.{needs}
 use Rattle.patch_program.proofs.output.print_lines.Statement.{statement}
 use Rattle.patch_program.proofs.output.print_lines.Tie as tie

@@ -1,0 +1,18 @@
+-- The lines of rim file P by its lists (rule 6.1). Assumes nothing.
+use mathlib.Core.Path.{_≡_, refl}
+use mathlib.Core.List.{List, [], _∷_}
+use Prim.Native.Nat.{ℕ}
+use Rattle.terms.specs.Entries.{triple}
+use Rattle.jobs.specs.Job.{hangs}
+use Rattle.patch_program.specs.declared.lines.Line.{Line}
+use Rattle.patch_program.specs.Lines.{linesOf}
+
+abbrev line : ℕ → ℕ → ℕ → ℕ → ℕ → Line
+line a b c weight row = record { a = a; b = b; c = c; weight = weight; row = row }
+
+-- 0 1 3 64 0 and 1 2 3 93 312
+pub lines-of-P :
+    linesOf (triple 0 1 2 ∷ triple 0 1 3 ∷ triple 0 2 3 ∷ triple 1 2 3 ∷ []) (80 ∷ 64 ∷ 80 ∷ 93 ∷ []) (triple 1 3 312 ∷ triple 2 0 360 ∷ []) (1 ∷ 3 ∷ [])
+    ≡ line 0 1 3 64 0 ∷ line 1 2 3 93 312 ∷ []
+unfolding hangs
+lines-of-P = refl

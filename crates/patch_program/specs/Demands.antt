@@ -1,0 +1,43 @@
+-- What the lines of a patch have to do with each other and with the patch. Definitions only.
+use mathlib.Core.Path.{_≡_}
+use mathlib.Core.Bool.{true}
+use mathlib.Core.List.{List, [], _∷_, List·Memᴰ}
+use Prim.Native.Nat.{ℕ, _+_}
+use Rattle.terms.specs.Entries.{entryAt}
+use Rattle.jobs.specs.Job.{hangs}
+use Rattle.triangulation.specs.Problems.{pairWeight}
+use Rattle.reader.specs.Reading.{polygonOf}
+use Rattle.triangulator.specs.declared.Outcome.the-variants.{Patch}
+use Rattle.triangulator.specs.Call.{totalOf, partOf}
+use Rattle.pipeline.specs.Patching.{Patching}
+use Rattle.patch_program.specs.declared.lines.Line.{Line}
+use Rattle.patch_program.specs.Lines.{rowUnder, linesAfter, verticesOf}
+
+-- the fourth and fifth numbers of all lines, added up
+abbrev pub weightsOn : List Line → ℕ
+weightsOn [] = 0
+weightsOn (l ∷ lines) = l .weight + l .row + weightsOn lines
+
+-- the triangles of the lines (rule 3.8)
+abbrev pub patchIn : Patching → List ℕ
+patchIn r = partOf (r .outcome) (r .left .triangles)
+
+abbrev pub Listed : Patching → ℕ → Type 0
+Listed r t = List·Memᴰ t (patchIn r)
+
+-- candidate t hangs on candidate o, by the candidates in the table (rule 2.9)
+abbrev pub HangsIn : Patching → ℕ → ℕ → Type 0
+HangsIn r t o = hangs (entryAt (r .left .candidates) t) (entryAt (r .left .candidates) o) ≡ true
+
+-- of a call on a file (rules 3.3, 3.4, 5.4)
+pub record LinesHold (file : List ℕ) (r : Patching) : Type 0 where
+  -- the weights on the lines add up to the total
+  pub adds-up : weightsOn (linesAfter r) ≡ totalOf (r .outcome)
+  -- a triangle of the patch hangs on one other at most, and the row weight on its line is that of the two
+  pub one-outer : (t o u : ℕ) → Listed r t → Listed r o → Listed r u → HangsIn r t o → HangsIn r t u → o ≡ u
+  pub row-is : (t o : ℕ) → Listed r t → Listed r o → HangsIn r t o →
+      rowUnder (r .left .candidates) (r .left .rows) (patchIn r) t ≡ pairWeight (r .left .rows) o t
+  -- the first triangle hangs on none: the fifth number of its line is 0
+  pub first : (l : Line) (rest : List Line) → linesAfter r ≡ l ∷ rest → l .row ≡ 0
+  -- the number of vertices on the first line is the rim's
+  pub vertices : (count total : ℕ) → r .outcome ≡ Patch count total → verticesOf (r .outcome) ≡ polygonOf file .n
