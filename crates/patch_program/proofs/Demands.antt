@@ -4,6 +4,7 @@ use mathlib.Core.List.{List, [], _∷_, map, cons≢nil, head-eq-of-cons-eq, Lis
 use Prim.Native.Nat.{ℕ, zero, suc, _+_, _-_, _≤_, _<_}
 use native.Mathlib.Omega.{arith}
 use lib.ListN.{getD, length, replicate}
+use Rattle.codes.specs.Refusals.{refusal}
 use Rattle.lists.specs.Lists.{filled}
 use Rattle.lists.proofs.Writing.{filled-at}
 use Rattle.terms.specs.Entries.{triple, entryAt}
@@ -128,7 +129,7 @@ module _ (file : List ℕ) (v : ValidPolygon (polygonOf file)) (lent : Tables) (
   of-handed : (o : Outcome) (triangles work : List ℕ) → Handed job (partOf o triangles) o → LinesHold file (patching o (left triangles work))
   of-handed (Patch size total) triangles work (with-patch many h) = of-patch triangles work size total many h
   of-handed None triangles work (with-none e) = empty file None (left triangles work) e refl (λ c x d. let z : _≡_ {A = ℕ} 0 1 = cc in omega arith)
-  of-handed (Refused k) triangles work (with-refusal e) = empty file (Refused k) (left triangles work) e refl (λ c x d. let z : _≡_ {A = ℕ} 0 1 = cc in omega arith)
+  of-handed (Refused (refusal k)) triangles work (with-refusal e) = empty file (Refused (refusal k)) (left triangles work) e refl (λ c x d. let z : _≡_ {A = ℕ} 0 1 = cc in omega arith)
 
   of-patched : LinesHold file (patched (polygonOf file) lent)
   of-patched = of-handed _ _ _ (settled-handed job good (length (candidatesOf p)) (lent .triangles) (lent .work))
@@ -141,4 +142,4 @@ lines-hold limit file = by (fileNumber limit file emptyTables) refl emptyTables 
     by : (k : ℕ) → fileNumber limit file emptyTables ≡ k → (lent : Tables) (n : ℕ) → lent .rows ≡ replicate n (triple 0 0 0) →
         (fileNumber limit file emptyTables ≡ 0 → ValidPolygon (polygonOf file)) → LinesHold file (patchBy k (polygonOf file) lent)
     by zero e lent n z v = of-patched file (v e) lent n z
-    by (suc k) e lent n z v = empty file (Refused (suc k)) lent (part-empty (Refused (suc k)) (lent .triangles) refl) refl (λ c x d. let z : _≡_ {A = ℕ} 0 1 = cc in omega arith)
+    by (suc k) e lent n z v = empty file (Refused (refusal (suc k))) lent (part-empty (Refused (refusal (suc k))) (lent .triangles) refl) refl (λ c x d. let z : _≡_ {A = ℕ} 0 1 = cc in omega arith)
