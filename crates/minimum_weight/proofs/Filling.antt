@@ -128,7 +128,8 @@ module _ (job : Problem) (before : List ℕ) {work : List ℕ} (room : job .size
       ap (λ t. getD t u 0) e ∙ filled-at (partTotals job) before u 0 (omega (arith, totals-long job)) ∙ total-at job u h
 
 -- and is cleared: zeros there, and all else as it was
-pub cleared : (job : Problem) (before : List ℕ) {work new : List ℕ} → work ≡ filled (partTotals job) before → new ≡ filled (replicate (job .size) 0) work → new ≡ filled (replicate (job .size) 0) before
+pub cleared : (job : Problem) (before : List ℕ) {work new : List ℕ} → work ≡ filled (partTotals job) before
+    → new ≡ filled (replicate (job .size) 0) work → new ≡ filled (replicate (job .size) 0) before
 cleared job before f e =
     e ∙ ap (filled (replicate (job .size) 0)) f
     ∙ filled-over (replicate (job .size) 0) (partTotals job) before (length-replicate (job .size) 0 ∙ sym (totals-long job))

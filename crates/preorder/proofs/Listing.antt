@@ -53,7 +53,8 @@ module _ {job : Problem} (t : HasTriangulation job) where
   unfolding partsAfter
   start p before e = record { listed = refl; waits = record { parts = ap (λ q. q ∷ []) e; places = length-replicate mostParts p }; no-more-wait = omega (arith, t .valid .n3, patch-length t) }
 
-  module _ {before : List ℕ} {stack : List Part} {height count : ℕ} {table : List ℕ} (e : Listing job (patchOf t) before stack height count table) (turn-due : count < length (patchOf t)) where
+  module _ {before : List ℕ} {stack : List Part} {height count : ℕ} {table : List ℕ}
+      (e : Listing job (patchOf t) before stack height count table) (turn-due : count < length (patchOf t)) where
     -- a part waits: the triangles that are still to be listed are those of the parts
     pub part-waits : 0 < height
     part-waits = go height refl
@@ -121,5 +122,6 @@ module _ {job : Problem} (t : HasTriangulation job) where
       }
 
   -- after the last turn all is listed
-  pub end : {before : List ℕ} {stack : List Part} {height count : ℕ} {table : List ℕ} → Listing job (patchOf t) before stack height count table → length (patchOf t) ≤ count → table ≡ filled (patchOf t) before
+  pub end : {before : List ℕ} {stack : List Part} {height count : ℕ} {table : List ℕ} → Listing job (patchOf t) before stack height count table
+      → length (patchOf t) ≤ count → table ≡ filled (patchOf t) before
   end {before} {count = count} e h = e .listed ∙ ap (λ x. filled x before) (take-all count (patchOf t) h)
