@@ -48,8 +48,9 @@ module _ (limit : ℕ) (file : List ℕ) (bytes : Bytes file) (t : Tables) where
   -- the patch of a rim file, with the lists that the call left, is accepted with excess 0 (rules 3.13, 3.14)
   pub file-patch-accepted : (count total : ℕ) (work : List ℕ) → length (candidatesOf (polygonIn limit file)) ≤ length work →
       patchFile limit file t .outcome ≡ Patch count total →
-      judged (polygonIn limit file .n) (candidatesLeft (polygonIn limit file) (patchFile limit file t .left)) (weightsLeft (polygonIn limit file) (patchFile limit file t .left))
-      (rowsLeft (polygonIn limit file) (patchFile limit file t .left)) (partOf (Patch count total) (patchFile limit file t .left .triangles)) total work
+      judged (polygonIn limit file .n) (candidatesLeft (polygonIn limit file) (patchFile limit file t .left))
+      (weightsLeft (polygonIn limit file) (patchFile limit file t .left)) (rowsLeft (polygonIn limit file) (patchFile limit file t .left))
+      (partOf (Patch count total) (patchFile limit file t .left .triangles)) total work
       ≡ result (judgement.Accepted 0) (filled (replicate (length (candidatesOf (polygonIn limit file))) 0) work)
   file-patch-accepted count total work room e =
       let none : None = taken-only-when limit file bytes t (subst Taken (sym e) a-patch) in
