@@ -35,5 +35,6 @@ same-answers {s} {t} r limit =
     }
 
 -- what the converter hands over is answered as the file that it took, in both directions
-pub converted-answers : (file out : List ℕ) → numberOf (convertCall file out .answer) ≡ 0 → (limit : ℕ) → SameAnswers limit (handedOver (convertCall file out)) file
+pub converted-answers : (file out : List ℕ) → numberOf (convertCall file out .answer) ≡ 0 → (limit : ℕ) →
+    SameAnswers limit (handedOver (convertCall file out)) file
 converted-answers file out taken = same-answers (same-rim file out taken)

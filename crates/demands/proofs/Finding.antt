@@ -1,7 +1,8 @@
 -- Demand 1 for the finder's call on a polygon (rules 4.30, 4.33, 4.34): of the numbers due on the polygon and on the three tables one is the first, or none
--- is due; the call gives exactly that number and changes no table, and finds the lists exactly where none is due. Assumes nothing.
-use mathlib.Core.Path.{_≡_, refl, sym, ap, _∙_}
-use mathlib.Core.Bool.{true}
+-- is due; the call gives exactly that number and changes no table, and finds the lists exactly where none is due. So does the call that tells the places,
+-- which is lent no table. Assumes nothing.
+use mathlib.Core.Path.{_≡_, refl, sym, ap, _∙_, subst}
+use mathlib.Core.Bool.{true, false}
 use mathlib.Core.List.{List}
 use mathlib.Core.Logic.{_⊎_}
 use Prim.Native.Nat.{ℕ, zero, suc}
@@ -10,16 +11,18 @@ use borrow.Author.Tests.{ltb-true, lt-ltb}
 use lib.Dec.{ltb}
 use lib.ListN.{length}
 use Rattle.codes.specs.Refusals.{refusal}
-use Rattle.lists.proofs.Choice.{Truth, holds, fails, truth, no, either-left, either-right}
+use Rattle.lists.proofs.Choice.{Truth, holds, fails, truth, no, true-not-false, either-left, either-right}
 use Rattle.terms.specs.Order.{NoneDue}
 use Rattle.terms.proofs.Order.{Verdict, none-first, verdict-either, verdict-first, verdict-given, verdict-zero, verdict-none}
 use Rattle.polygon.specs.declared.Polygon.{Polygon}
 use Rattle.polygon.specs.Due.{Before, First}
 use Rattle.polygon.proofs.Due.{ordered}
 use Rattle.finder.specs.declared.Found.the-variants.{Lists, Refused}
-use Rattle.finder.specs.Finding.{Finding, finding, numberOf, shortTables, findBy, findNumber, findCall}
-use Rattle.finder.specs.Sizes.{placesOf}
-use Rattle.demands.specs.Polygons.{FindTooShort, few-candidates, few-weights, few-rows, FindDue}
+use Rattle.finder.specs.declared.Sizes.the-variants as sizes
+use Rattle.finder.specs.Finding.{Finding, finding, numberOf, shortTables, numberDue, findBy, findNumber, findCall}
+use Rattle.finder.specs.Sizes.{placesOf, sizesBy, sizesOf}
+use Rattle.finder.specs.Sizes as finder-sizes
+use Rattle.demands.specs.Polygons.{FindTooShort, few-candidates, few-weights, few-rows, FindDue, SizesDue}
 use Rattle.demands.proofs.PolygonNumbers.{polygon-verdict}
 
 module _ (p : Polygon) (candidates : List (List ℕ)) (weights : List ℕ) (rows : List (List ℕ)) where
@@ -77,3 +80,32 @@ module _ (p : Polygon) (candidates : List (List ℕ)) (weights : List ℕ) (rows
       by (suc n) d =
           let q : Refused (refusal (suc n)) ≡ Lists count row-count = sym (ap (λ (x : Finding). x .answer) (by-number d)) ∙ e in
           absurd (let z : _≡_ {A = ℕ} 0 1 = cc in omega arith)
+
+-- ---- the places that a polygon needs (rule 5.5)
+module _ (p : Polygon) where
+  sizes-verdict : Verdict Before (SizesDue p) (numberDue false p)
+  sizes-verdict = polygon-verdict p ⊥ false (λ e. true-not-false e refl) (λ z. absurd z)
+
+  by-sizes : {k : ℕ} → numberDue false p ≡ k → sizesOf p ≡ sizesBy k p
+  by-sizes e = ap (λ (k : ℕ). sizesBy k p) e
+
+  -- the first number due is given, and a number that is given is the first
+  pub sizes-refused-first : (k : ℕ) → First (SizesDue p) k → sizesOf p ≡ sizes.Refused (refusal k)
+  sizes-refused-first zero f = absurd (none-first (verdict-none sizes-verdict (verdict-first ordered sizes-verdict f)) f)
+  sizes-refused-first (suc k) f = by-sizes (verdict-first ordered sizes-verdict f)
+
+  pub sizes-given-first : (k : ℕ) → sizesOf p ≡ sizes.Refused (refusal k) → First (SizesDue p) k
+  sizes-given-first k e = by (numberDue false p) refl
+    where
+      by : (n : ℕ) → numberDue false p ≡ n → First (SizesDue p) k
+      by zero d =
+          let q : sizes.Known (placesOf p) ≡ sizes.Refused (refusal k) = sym (by-sizes d) ∙ e in
+          absurd (let z : _≡_ {A = ℕ} 0 1 = cc in omega arith)
+      by (suc n) d =
+          let q : sizes.Refused (refusal (suc n)) ≡ sizes.Refused (refusal k) = sym (by-sizes d) ∙ e in
+          let same : suc n ≡ k = ap finder-sizes.numberOf q in
+          subst (λ (j : ℕ). First (SizesDue p) j) same (verdict-given sizes-verdict d)
+
+  -- the places are told where no number is due
+  pub sizes-known-when : NoneDue (SizesDue p) → sizesOf p ≡ sizes.Known (placesOf p)
+  sizes-known-when none = by-sizes (verdict-zero sizes-verdict none)

@@ -21,7 +21,7 @@ use Rattle.polygon.specs.declared.Polygon.{Polygon}
 use Rattle.polygon.specs.declared.normal.Normal.{Normal}
 use Rattle.polygon.specs.Normal.{normalAt, normalInRange}
 use Rattle.polygon.specs.Polygon.{vertexAt, repeatedVertex, vertexCode, verticesCodeFrom, verticesCode, codeOf, ValidPolygon}
-use Rattle.polygon.specs.Due.{Place, header, vertex, rim, Before, header-vertex, header-rim, vertex-vertex, vertex-rim, First, DueAt, area-factor, bend-factor, too-many, off-grid, normal-out-of-range, too-few, vertex-repeated}
+use Rattle.polygon.specs.Due.{Place, header, vertex, rim, Before, header-vertex, header-rim, vertex-vertex, vertex-rim, First, PolygonDue, area-factor, bend-factor, too-many, off-grid, normal-out-of-range, too-few, vertex-repeated}
 use Rattle.polygon.proofs.Normals.{normal-in-range, normal-in-range-test}
 use Rattle.polygon.proofs.Codes.{nine, eighteen, clear, on-grid-at, in-range-at}
 use Rattle.polygon.proofs.Codes as codes
@@ -70,43 +70,43 @@ here vertices normals i (suc c) k h = by (vertexCode vertices normals i) refl h 
 
 module _ (p : Polygon) where
   -- ---- 2
-  two-first : (q : Place) (j : ℕ) → Precedes Before q j header 2 → DueAt p q j → ⊥
+  two-first : (q : Place) (j : ℕ) → Precedes Before q j header 2 → PolygonDue p q j → ⊥
   two-first _ j (by-number l) d = omega (arith, least j d)
     where
-      least : (j : ℕ) → DueAt p header j → 2 ≤ j
+      least : (j : ℕ) → PolygonDue p header j → 2 ≤ j
       least _ (area-factor h) = omega arith
       least _ (bend-factor h) = omega arith
       least _ (too-many h) = omega arith
 
   -- ---- 5
   module _ (area : ltb maxAreaFactor (p .«area_factor») ≡ false) (bend : ltb maxBendFactor (p .«bend_factor») ≡ false) where
-    five-first : maxVertices < p .n → First (DueAt p) 5
+    five-first : maxVertices < p .n → First (PolygonDue p) 5
     five-first over = record { place = header; is-due = too-many over; none-before = before }
       where
-        number : (j : ℕ) → j < 5 → DueAt p header j → ⊥
+        number : (j : ℕ) → j < 5 → PolygonDue p header j → ⊥
         number _ l (area-factor h) = omega (arith, ltb-false maxAreaFactor (p .«area_factor») area)
         number _ l (bend-factor h) = omega (arith, ltb-false maxBendFactor (p .«bend_factor») bend)
         number _ l (too-many h) = omega arith
 
-        before : (q : Place) (j : ℕ) → Precedes Before q j header 5 → DueAt p q j → ⊥
+        before : (q : Place) (j : ℕ) → Precedes Before q j header 5 → PolygonDue p q j → ⊥
         before _ j (by-number l) d = number j l d
 
     module _ (few : ltb maxVertices (p .n) ≡ false) where
-      no-header : (j : ℕ) → DueAt p header j → ⊥
+      no-header : (j : ℕ) → PolygonDue p header j → ⊥
       no-header _ (area-factor h) = omega (arith, ltb-false maxAreaFactor (p .«area_factor») area)
       no-header _ (bend-factor h) = omega (arith, ltb-false maxBendFactor (p .«bend_factor») bend)
       no-header _ (too-many h) = omega (arith, ltb-false maxVertices (p .n) few)
 
       -- ---- 9 and 18, at the first vertex on which one of them is due
       module _ {k : ℕ} (found : Here (p .vertices) (p .normals) 0 (0 + p .n) k) where
-        no-earlier : (i : ℕ) → i < found .at → (j : ℕ) → DueAt p (vertex i) j → ⊥
+        no-earlier : (i : ℕ) → i < found .at → (j : ℕ) → PolygonDue p (vertex i) j → ⊥
         no-earlier i l _ (off-grid m h) = h (point-on-grid (vertexAt (p .vertices) i) (clear (p .vertices) (p .normals) i (found .clear-before i (omega arith) l) .on-grid))
         no-earlier i l _ (normal-out-of-range m h) = h (normal-in-range (normalAt (p .normals) i) (clear (p .vertices) (p .normals) i (found .clear-before i (omega arith) l) .in-range))
 
-        here-first : (m : ℕ) → DueAt p (vertex (found .at)) m → ((j : ℕ) → j < m → DueAt p (vertex (found .at)) j → ⊥) → First (DueAt p) m
+        here-first : (m : ℕ) → PolygonDue p (vertex (found .at)) m → ((j : ℕ) → j < m → PolygonDue p (vertex (found .at)) j → ⊥) → First (PolygonDue p) m
         here-first m d number = record { place = vertex (found .at); is-due = d; none-before = before }
           where
-            before : (q : Place) (j : ℕ) → Precedes Before q j (vertex (found .at)) m → DueAt p q j → ⊥
+            before : (q : Place) (j : ℕ) → Precedes Before q j (vertex (found .at)) m → PolygonDue p q j → ⊥
             before _ j (by-place header-vertex) d = no-header j d
             before _ j (by-place (vertex-vertex {h} l)) d = no-earlier h (omega arith) j d
             before _ j (by-number l) d = number j l d
@@ -114,57 +114,57 @@ module _ (p : Polygon) where
         below : found .at < p .n
         below = omega (arith, found .high)
 
-        vertex-first : Truth (pointOnGrid (vertexAt (p .vertices) (found .at))) → Truth (normalInRange (normalAt (p .normals) (found .at))) → First (DueAt p) (suc k)
+        vertex-first : Truth (pointOnGrid (vertexAt (p .vertices) (found .at))) → Truth (normalInRange (normalAt (p .normals) (found .at))) → First (PolygonDue p) (suc k)
         vertex-first (fails g) r =
-            subst (λ (m : ℕ). First (DueAt p) m) (sym (nine (p .vertices) (p .normals) (found .at) g) ∙ found .given)
+            subst (λ (m : ℕ). First (PolygonDue p) m) (sym (nine (p .vertices) (p .normals) (found .at) g) ∙ found .given)
             (here-first 9 (off-grid below (λ q. true-not-false (point-on-grid-test (vertexAt (p .vertices) (found .at)) q) g)) number)
           where
-            number : (j : ℕ) → j < 9 → DueAt p (vertex (found .at)) j → ⊥
+            number : (j : ℕ) → j < 9 → PolygonDue p (vertex (found .at)) j → ⊥
             number _ l (off-grid m h) = omega arith
             number _ l (normal-out-of-range m h) = omega arith
         vertex-first (holds g) (fails r) =
-            subst (λ (m : ℕ). First (DueAt p) m) (sym (eighteen (p .vertices) (p .normals) (found .at) g r) ∙ found .given)
+            subst (λ (m : ℕ). First (PolygonDue p) m) (sym (eighteen (p .vertices) (p .normals) (found .at) g r) ∙ found .given)
             (here-first 18 (normal-out-of-range below (λ q. true-not-false (normal-in-range-test (normalAt (p .normals) (found .at)) q) r)) number)
           where
-            number : (j : ℕ) → j < 18 → DueAt p (vertex (found .at)) j → ⊥
+            number : (j : ℕ) → j < 18 → PolygonDue p (vertex (found .at)) j → ⊥
             number _ l (off-grid m h) = h (point-on-grid (vertexAt (p .vertices) (found .at)) g)
             number _ l (normal-out-of-range m h) = omega arith
         vertex-first (holds g) (holds r) = absurd (omega (arith, found .given, codes.none-due (p .vertices) (p .normals) (found .at) g r))
 
       -- ---- 10 and 11
       module _ (all-clear : verticesCode (p .vertices) (p .normals) (p .n) ≡ 0) where
-        no-vertex : (i j : ℕ) → DueAt p (vertex i) j → ⊥
+        no-vertex : (i j : ℕ) → PolygonDue p (vertex i) j → ⊥
         no-vertex i _ (off-grid l h) = h (on-grid-at (p .vertices) (p .normals) (p .n) all-clear i l)
         no-vertex i _ (normal-out-of-range l h) = h (in-range-at (p .vertices) (p .normals) (p .n) all-clear i l)
 
-        rim-first : (m : ℕ) → DueAt p rim m → ((j : ℕ) → j < m → DueAt p rim j → ⊥) → First (DueAt p) m
+        rim-first : (m : ℕ) → PolygonDue p rim m → ((j : ℕ) → j < m → PolygonDue p rim j → ⊥) → First (PolygonDue p) m
         rim-first m d number = record { place = rim; is-due = d; none-before = before }
           where
-            before : (q : Place) (j : ℕ) → Precedes Before q j rim m → DueAt p q j → ⊥
+            before : (q : Place) (j : ℕ) → Precedes Before q j rim m → PolygonDue p q j → ⊥
             before _ j (by-place header-rim) d = no-header j d
             before _ j (by-place (vertex-rim {i})) d = no-vertex i j d
             before _ j (by-number l) d = number j l d
 
-        ten-first : p .n < minVertices → First (DueAt p) 10
+        ten-first : p .n < minVertices → First (PolygonDue p) 10
         ten-first h = rim-first 10 (too-few h) number
           where
-            number : (j : ℕ) → j < 10 → DueAt p rim j → ⊥
+            number : (j : ℕ) → j < 10 → PolygonDue p rim j → ⊥
             number _ l (too-few h) = omega arith
             number _ l (vertex-repeated m n e) = omega arith
 
         module _ (enough : ltb (p .n) minVertices ≡ false) where
-          eleven-first : Repeated (p .vertices) (p .n) → First (DueAt p) 11
+          eleven-first : Repeated (p .vertices) (p .n) → First (PolygonDue p) 11
           eleven-first r = rim-first 11 (vertex-repeated (r .apart) (r .below) (r .at-one)) number
             where
-              number : (j : ℕ) → j < 11 → DueAt p rim j → ⊥
+              number : (j : ℕ) → j < 11 → PolygonDue p rim j → ⊥
               number _ l (too-few h) = omega (arith, ltb-false (p .n) minVertices enough)
               number _ l (vertex-repeated m n e) = omega arith
 
   -- ---- none
-  pub valid-none : ValidPolygon p → NoneDue (DueAt p)
+  pub valid-none : ValidPolygon p → NoneDue (PolygonDue p)
   valid-none v = record { none = nothing }
     where
-      nothing : (q : Place) (k : ℕ) → DueAt p q k → ⊥
+      nothing : (q : Place) (k : ℕ) → PolygonDue p q k → ⊥
       nothing _ _ (area-factor h) = omega (arith, v .area-factor)
       nothing _ _ (bend-factor h) = omega (arith, v .bend-factor)
       nothing _ _ (too-many h) = omega (arith, v .most)
@@ -174,17 +174,17 @@ module _ (p : Polygon) where
       nothing _ _ (vertex-repeated {i} {j} l m e) = v .distinct i j l m e
 
   -- ---- the tests one after the other
-  number-first : (k : ℕ) → codeOf p ≡ suc k → First (DueAt p) (suc k)
+  number-first : (k : ℕ) → codeOf p ≡ suc k → First (PolygonDue p) (suc k)
   unfolding codeOf
   number-first k e =
       by (truth (ltb maxAreaFactor (p .«area_factor»))) (truth (ltb maxBendFactor (p .«bend_factor»))) (truth (ltb maxVertices (p .n)))
       (verticesCode (p .vertices) (p .normals) (p .n)) refl (truth (ltb (p .n) minVertices)) (truth (repeatedVertex (p .vertices) (p .n)))
     where
-      given : {m : ℕ} → codeOf p ≡ m → First (DueAt p) m → First (DueAt p) (suc k)
-      given q f = subst (λ (m : ℕ). First (DueAt p) m) (sym q ∙ e) f
+      given : {m : ℕ} → codeOf p ≡ m → First (PolygonDue p) m → First (PolygonDue p) (suc k)
+      given q f = subst (λ (m : ℕ). First (PolygonDue p) m) (sym q ∙ e) f
 
       by : Truth (ltb maxAreaFactor (p .«area_factor»)) → Truth (ltb maxBendFactor (p .«bend_factor»)) → Truth (ltb maxVertices (p .n)) →
-          (c : ℕ) → verticesCode (p .vertices) (p .normals) (p .n) ≡ c → Truth (ltb (p .n) minVertices) → Truth (repeatedVertex (p .vertices) (p .n)) → First (DueAt p) (suc k)
+          (c : ℕ) → verticesCode (p .vertices) (p .normals) (p .n) ≡ c → Truth (ltb (p .n) minVertices) → Truth (repeatedVertex (p .vertices) (p .n)) → First (PolygonDue p) (suc k)
       by (holds a) b m c v l r = given (yes _ _ a) (record { place = header; is-due = area-factor (ltb-true maxAreaFactor (p .«area_factor») a); none-before = two-first })
       by (fails a) (holds b) m c v l r =
           given (no _ _ a ∙ yes _ _ b) (record { place = header; is-due = bend-factor (ltb-true maxBendFactor (p .«bend_factor») b); none-before = two-first })
@@ -201,26 +201,26 @@ module _ (p : Polygon) where
           let z : codeOf p ≡ 0 = no _ _ a ∙ no _ _ b ∙ no _ _ m ∙ due-on _ v ∙ no _ _ l ∙ no _ _ r in
           absurd (omega (arith, z, e))
 
-  pub verdict : Verdict Before (DueAt p) (codeOf p)
+  pub verdict : Verdict Before (PolygonDue p) (codeOf p)
   verdict = by (codeOf p) refl
     where
-      by : (k : ℕ) → codeOf p ≡ k → Verdict Before (DueAt p) (codeOf p)
+      by : (k : ℕ) → codeOf p ≡ k → Verdict Before (PolygonDue p) (codeOf p)
       by zero e = none-due (valid-none (code-valid p e)) e
       by (suc k) e = first-due k (number-first k e) e
 
   -- a number is given exactly when it is the first that is due
-  pub code-first : (k : ℕ) → codeOf p ≡ suc k → First (DueAt p) (suc k)
+  pub code-first : (k : ℕ) → codeOf p ≡ suc k → First (PolygonDue p) (suc k)
   code-first k e = verdict-given verdict e
 
-  pub first-code : (k : ℕ) → First (DueAt p) k → codeOf p ≡ k
+  pub first-code : (k : ℕ) → First (PolygonDue p) k → codeOf p ≡ k
   first-code k f = verdict-first ordered verdict f
 
   -- and none exactly when none is due, which is to be valid
-  pub none-code : NoneDue (DueAt p) → codeOf p ≡ 0
+  pub none-code : NoneDue (PolygonDue p) → codeOf p ≡ 0
   none-code none = verdict-zero verdict none
 
-  pub code-none : codeOf p ≡ 0 → NoneDue (DueAt p)
+  pub code-none : codeOf p ≡ 0 → NoneDue (PolygonDue p)
   code-none e = verdict-none verdict e
 
-  pub none-valid : NoneDue (DueAt p) → ValidPolygon p
+  pub none-valid : NoneDue (PolygonDue p) → ValidPolygon p
   none-valid none = code-valid p (none-code none)

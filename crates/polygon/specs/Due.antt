@@ -26,11 +26,11 @@ abbrev pub First : (Place → ℕ → Type 0) → ℕ → Type 0
 First = order.First Before
 
 -- number k is due on a polygon; constructor by constructor: 2 for the area factor and for a bend factor that no file can hold, 5, 9, 18, 10, 11 (rule 4.34)
-pub data DueAt (p : Polygon) : Place → ℕ → Type 0 where
-  area-factor : maxAreaFactor < p .«area_factor» → DueAt p header 2
-  bend-factor : maxBendFactor < p .«bend_factor» → DueAt p header 2
-  too-many : maxVertices < p .n → DueAt p header 5
-  off-grid : {i : ℕ} → i < p .n → (PointOnGrid (vertexAt (p .vertices) i) → ⊥) → DueAt p (vertex i) 9
-  normal-out-of-range : {i : ℕ} → i < p .n → (NormalInRange (normalAt (p .normals) i) → ⊥) → DueAt p (vertex i) 18
-  too-few : p .n < minVertices → DueAt p rim 10
-  vertex-repeated : {i j : ℕ} → i < j → j < p .n → vertexAt (p .vertices) i ≡ vertexAt (p .vertices) j → DueAt p rim 11
+pub data PolygonDue (p : Polygon) : Place → ℕ → Type 0 where
+  area-factor : maxAreaFactor < p .«area_factor» → PolygonDue p header 2
+  bend-factor : maxBendFactor < p .«bend_factor» → PolygonDue p header 2
+  too-many : maxVertices < p .n → PolygonDue p header 5
+  off-grid : {i : ℕ} → i < p .n → (PointOnGrid (vertexAt (p .vertices) i) → ⊥) → PolygonDue p (vertex i) 9
+  normal-out-of-range : {i : ℕ} → i < p .n → (NormalInRange (normalAt (p .normals) i) → ⊥) → PolygonDue p (vertex i) 18
+  too-few : p .n < minVertices → PolygonDue p rim 10
+  vertex-repeated : {i j : ℕ} → i < j → j < p .n → vertexAt (p .vertices) i ≡ vertexAt (p .vertices) j → PolygonDue p rim 11
