@@ -12,10 +12,9 @@ use Rattle.polygon.specs.Polygon.{codeOf, repeatedVertex, verticesCodeFrom}
 use Rattle.integers.specs.Rounding.{rootDigits}
 use Rattle.geometry.specs.Faces.{lengthOf, ratioOf, bendOf}
 use Rattle.geometry.specs.Spheres.{orientOf, centreOf, distanceOf}
-use Rattle.jobs.specs.Job.{hangs}
 use Rattle.lists.specs.Lists.{upFrom, everyFrom, someFrom}
 use Rattle.terms.specs.Limits.{maxVertices}
-use Rattle.terms.specs.Entries.{triple}
+use Rattle.terms.specs.Entries.{triple, hangs}
 use Rattle.faces.specs.Faces.{isFace}
 use Rattle.delaunay_tetrahedra.specs.Tetrahedra.{counts, isFaceOfFour, cospherical}
 use Rattle.delaunay.specs.Candidates.{isFlat, isCandidate, degenerate}

@@ -9,7 +9,8 @@ use Rattle.triangulation.specs.Triangulations.{patch, answerOf, best}
 use Rattle.triangulation.specs.Recursion.{bestUnder}
 use Rattle.preorder.specs.Preorder.{partsAfter, mostParts}
 use Rattle.minimum_weight.proofs.Answer.{answer-whole}
-use Rattle.jobs.specs.Job.{jobOf, jobCode, listsCode, candidateFits, before, ascends}
+use Rattle.terms.specs.Entries.{before}
+use Rattle.jobs.specs.Job.{jobOf, jobCode, listsCode, candidateFits, ascends}
 use Rattle.jobs.specs.Due.{Accepted}
 use Rattle.jobs.proofs.Acceptance.{zero-accepted}
 use Rattle.triangulator.proofs.Accepting.{accepted-well-formed}

@@ -8,7 +8,7 @@ use lib.IntN.{pos, negsuc}
 use lib.Dec.{eqb}
 use lib.ListN.{length, take, drop, replicate}
 use Rattle.terms.specs.Limits.{maxVertices}
-use Rattle.terms.specs.Entries.{triple}
+use Rattle.terms.specs.Entries.{triple, before, hangs, rowBefore}
 use Rattle.lists.specs.Lists.{filled, either, upFrom, everyFrom, someFrom}
 use Rattle.lists.proofs.Choice.{yes, no}
 use Rattle.grid.specs.Point.{point}
@@ -33,7 +33,7 @@ use Rattle.delaunay_triangles.specs.Triangles.{countsInPlane, isCountedThree, c
 use Rattle.delaunay.specs.Candidates.{isFlat, isCandidate, candidatesOf, degenerate}
 use Rattle.dihedrals.specs.Dihedrals.{rowsOf}
 use Rattle.weights.specs.Weights.{edgeNormal, outsideWeightOf, weightsOf}
-use Rattle.jobs.specs.Job.{ascends, before, candidateFits, hangs, namesPair, rowBefore, rowFits, listsCode, jobCode}
+use Rattle.jobs.specs.Job.{ascends, candidateFits, namesPair, rowFits, listsCode, jobCode}
 use Rattle.finder.specs.Finding.{short, numberDue}
 use Rattle.triangulation.specs.Triangulations.{Problem, Answer, best, patch, bestKey, key, isTriangulation, totalWeight, preorderFrom, countBetween, countOutside}
 use Rattle.triangulation.specs.Problems.{problemFrom}

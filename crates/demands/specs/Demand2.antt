@@ -7,8 +7,7 @@ use lib.ListN.{length, take, drop, getD}
 use Rattle.polygon.specs.declared.Polygon.{Polygon}
 use Rattle.geometry.specs.Faces.{lengthOf, bendBetween}
 use Rattle.terms.specs.Limits.{maxWeight}
-use Rattle.terms.specs.Entries.{triple, entryAt, outer, inner, rowWeight}
-use Rattle.jobs.specs.Job.{before, rowBefore, hangs}
+use Rattle.terms.specs.Entries.{triple, entryAt, outer, inner, rowWeight, before, rowBefore, hangs}
 use Rattle.dihedrals.specs.Dihedrals.{faceNormal}
 use Rattle.weights.specs.RimEdges.{rimBends}
 use Rattle.demands.specs.Candidates.{Candidate}

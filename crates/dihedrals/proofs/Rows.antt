@@ -6,8 +6,7 @@ use Prim.Native.Nat.{ℕ, _+_, _-_, _≤_, _<_}
 use lib.Dec.{eqb}
 use lib.ListN.{length, length-map}
 use Rattle.polygon.specs.declared.Polygon.{Polygon}
-use Rattle.terms.specs.Entries.{entryAt, vertexC}
-use Rattle.jobs.specs.Job.{hangs}
+use Rattle.terms.specs.Entries.{entryAt, vertexC, hangs}
 use Rattle.lists.specs.Lists.{over, upFrom, when}
 use Rattle.lists.proofs.Ranges.{over-step, over-end}
 use Rattle.lists.proofs.Parts.{over-lengths}

@@ -6,8 +6,7 @@ use Rattle.polygon.specs.declared.Polygon.{Polygon}
 use Rattle.polygon.specs.Polygon.{vertexAt}
 use Rattle.geometry.specs.declared.Vector.{Vector}
 use Rattle.geometry.specs.Faces.{normalOf, lengthOf, bendBetween, bendWeightOf}
-use Rattle.terms.specs.Entries.{entryAt, vertexA, vertexB, vertexC}
-use Rattle.jobs.specs.Job.{hangs}
+use Rattle.terms.specs.Entries.{entryAt, vertexA, vertexB, vertexC, hangs}
 use Rattle.lists.specs.Lists.{over, when}
 
 -- the normal of candidate t (rule 2.6)

@@ -13,8 +13,7 @@ use Rattle.geometry.specs.Faces.{lengthOf}
 use Rattle.geometry.proofs.Faces.{bend-weight-bound}
 use Rattle.geometry.proofs.Bends.{bend-bound}
 use Rattle.terms.specs.Limits.{maxWeight}
-use Rattle.terms.specs.Entries.{entryAt, vertexA, vertexB, vertexC, outer, inner, rowWeight}
-use Rattle.jobs.specs.Job.{hangs}
+use Rattle.terms.specs.Entries.{entryAt, vertexA, vertexB, vertexC, outer, inner, rowWeight, hangs}
 use Rattle.jobs.proofs.Order.{RowBefore, by-outer, by-inner, Hangs, hangs-true, true-hangs}
 use Rattle.jobs.proofs.Lists as lists
 use Rattle.lists.specs.Lists.{when}

@@ -10,8 +10,7 @@ use lib.ListN.{length, getD}
 use Rattle.lists.specs.Lists.{over, when, both, either}
 use Rattle.lists.proofs.Parts.{over-same, over-split, over-empty}
 use Rattle.lists.proofs.Bools.{either-no}
-use Rattle.terms.specs.Entries.{entryAt, vertexA, vertexB, vertexC}
-use Rattle.jobs.specs.Job.{sameEdge, hangs}
+use Rattle.terms.specs.Entries.{entryAt, vertexA, vertexB, vertexC, sameEdge, hangs}
 use Rattle.blocks.specs.Blocks.{BlockStart}
 use Rattle.blocks.proofs.Starts.{start-order, start-of}
 use Rattle.hinges.specs.Hinges.{innersOn, innersAt, endingIn, Sorted}

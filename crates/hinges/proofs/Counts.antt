@@ -18,8 +18,7 @@ use Rattle.faces.specs.Faces.{triplesOf}
 use Rattle.faces.proofs.Sets.{triples-bound}
 use Rattle.faces.proofs.Triples.{left1, left3, next3, flat-triples, left-lengths}
 use Rattle.terms.specs.Limits.{maxVertices, maxTriples}
-use Rattle.terms.specs.Entries.{triple, entryAt, vertexA, vertexC}
-use Rattle.jobs.specs.Job.{sameEdge, hangs}
+use Rattle.terms.specs.Entries.{triple, entryAt, vertexA, vertexC, sameEdge, hangs}
 use Rattle.hinges.specs.Hinges.{innersOn, innersOf, beneath, maxPairs}
 
 -- a candidate s that hangs on t; one whose edge from first to last vertex is (i, j)

@@ -5,8 +5,7 @@ use Prim.Native.Nat.{ℕ, _+_, _*_, _≤_, _<_}
 use lib.Dec.{eqb}
 use lib.ListN.{length, getD}
 use Rattle.terms.specs.Limits.{maxVertices, maxTriples}
-use Rattle.terms.specs.Entries.{entryAt, vertexA, vertexB, vertexC}
-use Rattle.jobs.specs.Job.{sameEdge, hangs}
+use Rattle.terms.specs.Entries.{entryAt, vertexA, vertexB, vertexC, sameEdge, hangs}
 use Rattle.lists.specs.Lists.{over, when}
 use Rattle.blocks.specs.Blocks.{ByFirst}
 

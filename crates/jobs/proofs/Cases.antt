@@ -4,9 +4,9 @@ use mathlib.Core.List.{List, [], _∷_}
 use Prim.Native.Nat.{ℕ, _+_, _-_}
 use lib.ListN.{replicate, length}
 use Rattle.terms.specs.Limits.{minVertices, maxVertices, maxWeight}
-use Rattle.terms.specs.Entries.{triple}
+use Rattle.terms.specs.Entries.{triple, before, hangs, rowBefore}
 use Rattle.lists.specs.Lists.{everyFrom}
-use Rattle.jobs.specs.Job.{jobOf, ascends, before, candidateFits, hangs, namesPair, rowBefore, rowFits, listsCode, jobCode}
+use Rattle.jobs.specs.Job.{jobOf, ascends, candidateFits, namesPair, rowFits, listsCode, jobCode}
 
 -- all triples of four vertices
 abbrev triples : List (List ℕ)

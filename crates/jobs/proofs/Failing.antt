@@ -13,8 +13,8 @@ use Rattle.lists.proofs.Choice.{Truth, truth, holds, fails, yes, no, true-not-f
 use Rattle.lists.proofs.Bools.{both-no}
 use Rattle.lists.proofs.Ranges.{every-at}
 use Rattle.terms.specs.Limits.{minVertices, maxVertices, countFits, maxWeight}
-use Rattle.terms.specs.Entries.{entryAt, outer, inner, vertexA, vertexB, vertexC, rowWeight}
-use Rattle.jobs.specs.Job.{Job, enough, ascends, before, candidateFits, candidatesFit, namesPair, rowBefore, rowFits, rowsFit, weightsFit, rowWeightsFit}
+use Rattle.terms.specs.Entries.{entryAt, outer, inner, vertexA, vertexB, vertexC, rowWeight, before, rowBefore}
+use Rattle.jobs.specs.Job.{Job, enough, ascends, candidateFits, candidatesFit, namesPair, rowFits, rowsFit, weightsFit, rowWeightsFit}
 use Rattle.jobs.specs.Due.{order, Due, few-vertices, many-vertices, few-triangles, little-work, few-weights, no-triangle, candidate-not-after, no-pair, row-not-after, heavy, heavy-row}
 
 -- a number below a bound at which a test fails

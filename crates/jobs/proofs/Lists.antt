@@ -12,8 +12,8 @@ use Rattle.lists.specs.Lists.{both, either}
 use Rattle.lists.proofs.Choice.{both-left, both-right, both-true, either-cases}
 use Rattle.lists.proofs.Ranges.{every-at}
 use Rattle.terms.specs.Limits.{maxWeight}
-use Rattle.terms.specs.Entries.{entryAt, vertexA, vertexB, vertexC, outer, inner, rowWeight}
-use Rattle.jobs.specs.Job.{ascends, before, candidateFits, candidatesFit, hangs, namesPair, rowBefore, rowFits, rowsFit, weightsFit, rowWeightsFit}
+use Rattle.terms.specs.Entries.{entryAt, vertexA, vertexB, vertexC, outer, inner, rowWeight, before, hangs, rowBefore}
+use Rattle.jobs.specs.Job.{ascends, candidateFits, candidatesFit, namesPair, rowFits, rowsFit, weightsFit, rowWeightsFit}
 use Rattle.jobs.proofs.Order.{Before, RowBefore, Hangs, before-true, before-trans, row-before-true, row-before-trans, hangs-true, true-hangs, in-order}
 
 -- a < b < c < n

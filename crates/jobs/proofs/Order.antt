@@ -9,8 +9,7 @@ use borrow.Author.Tests.{ltb-true, lt-ltb, eqb-true, eq-eqb}
 use lib.Dec.{ltb, eqb}
 use Rattle.lists.specs.Lists.{both}
 use Rattle.lists.proofs.Choice.{both-left, both-right, both-true, either-left, either-right, either-cases}
-use Rattle.terms.specs.Entries.{vertexA, vertexB, vertexC, outer, inner}
-use Rattle.jobs.specs.Job.{lexicographic, sameEdge, before, rowBefore, hangs}
+use Rattle.terms.specs.Entries.{vertexA, vertexB, vertexC, outer, inner, lexicographic, sameEdge, before, rowBefore, hangs}
 
 -- candidate s is before candidate t: by a, then b, then c
 pub data Before (s t : List ℕ) : Type 0 where

@@ -6,8 +6,8 @@ use Prim.Native.Nat.{ℕ, _+_, _-_, _<_}
 use lib.ListN.{length, getD}
 use lib.Dec.{eqb}
 use Rattle.terms.specs.Limits.{minVertices, maxVertices, maxWeight}
-use Rattle.terms.specs.Entries.{entryAt, vertexA, vertexB, vertexC, outer, inner, rowWeight}
-use Rattle.jobs.specs.Job.{Job, ascends, before, namesPair, rowBefore}
+use Rattle.terms.specs.Entries.{entryAt, vertexA, vertexB, vertexC, outer, inner, rowWeight, before, rowBefore}
+use Rattle.jobs.specs.Job.{Job, ascends, namesPair}
 
 -- the order of the numbers (rule 4.32)
 abbrev pub order : List ℕ

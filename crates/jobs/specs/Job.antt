@@ -6,7 +6,7 @@ use lib.ListN.{length, getD}
 use lib.Dec.{eqb, ltb, leb}
 use Rattle.lists.specs.Lists.{every, both, either}
 use Rattle.terms.specs.Limits.{countFits, maxWeight}
-use Rattle.terms.specs.Entries.{entryAt, vertexA, vertexB, vertexC, outer, inner, rowWeight}
+use Rattle.terms.specs.Entries.{entryAt, vertexA, vertexB, vertexC, outer, inner, rowWeight, before, rowBefore, hangs}
 
 -- a job (rule 3.1): n vertices, candidates [a, b, c], a table of weights that begins with theirs, and rows [outer, inner, weight]
 pub record Job : Type 0 where
@@ -26,17 +26,6 @@ enough needed lent = leb needed lent
 unfoldable pub ascends : ℕ → ℕ → ℕ → ℕ → Bool
 ascends n a b c = both (ltb a b) (both (ltb b c) (ltb c n))
 
--- the smaller number comes first, and of equal numbers the rest decides (rules 2.4, 2.13)
-abbrev pub lexicographic : ℕ → ℕ → Bool → Bool
-lexicographic x y rest = either (ltb x y) (both (eqb x y) rest)
-
--- candidate s is strictly before candidate t: by rising a, then b, then c (rule 2.4)
-unfoldable pub before : List ℕ → List ℕ → Bool
-before s t =
-    lexicographic (vertexA s) (vertexA t)
-    (lexicographic (vertexB s) (vertexB t)
-    (ltb (vertexC s) (vertexC t)))
-
 -- candidate i is a < b < c < n and strictly after the one before it (rule 4.15)
 unfoldable pub candidateFits : ℕ → List (List ℕ) → ℕ → Bool
 candidateFits n candidates i =
@@ -46,25 +35,11 @@ candidateFits n candidates i =
 abbrev pub candidatesFit : ℕ → List (List ℕ) → Bool
 candidatesFit n candidates = every 0 (length candidates) (candidateFits n candidates)
 
--- the edge (i, j) is the edge (k, l) (rule 2.9)
-abbrev pub sameEdge : ℕ → ℕ → ℕ → ℕ → Bool
-sameEdge i j k l = both (eqb i k) (eqb j l)
-
--- candidate t hangs on candidate u: its edge (a, c) is the edge (a, b) or (b, c) of u (rule 2.9)
-unfoldable pub hangs : List ℕ → List ℕ → Bool
-hangs t u =
-    either (sameEdge (vertexA t) (vertexC t) (vertexA u) (vertexB u))
-    (sameEdge (vertexA t) (vertexC t) (vertexB u) (vertexC u))
-
 -- o and i are numbers of candidates, and i hangs on o (rule 4.16)
 unfoldable pub namesPair : List (List ℕ) → ℕ → ℕ → Bool
 namesPair candidates o i =
     both (ltb o (length candidates))
     (both (ltb i (length candidates)) (hangs (entryAt candidates i) (entryAt candidates o)))
-
--- row r is strictly before row s: by rising outer, then inner (rule 2.13)
-unfoldable pub rowBefore : List ℕ → List ℕ → Bool
-rowBefore r s = lexicographic (outer r) (outer s) (ltb (inner r) (inner s))
 
 -- row i names a hanging pair and is strictly after the row before it (rule 4.16)
 unfoldable pub rowFits : List (List ℕ) → List (List ℕ) → ℕ → Bool

@@ -2,7 +2,8 @@
 ghost use mathlib.Core.Path.{_≡_};
 ghost use Prim.Native.Nat.{_<_};
 ghost use lib.ListN.{length};
-ghost use Rattle.jobs.specs.Job.{ascends, before, candidateFits, candidatesFit};
+ghost use Rattle.terms.specs.Entries.{before};
+ghost use Rattle.jobs.specs.Job.{ascends, candidateFits, candidatesFit};
 
 fn vertices_ascend(n: usize, a: u8, b: u8, c: u8) -> bool
     ensures { λ r. ⌜ r ≡ ascends n a b c ⌝ }

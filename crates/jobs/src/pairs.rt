@@ -1,6 +1,6 @@
 // Hanging pairs: two candidates that share an edge.
 ghost use mathlib.Core.Path.{_≡_};
-ghost use Rattle.jobs.specs.Job.{sameEdge, hangs};
+ghost use Rattle.terms.specs.Entries.{sameEdge, hangs};
 
 fn same_edge(i: u8, j: u8, k: u8, l: u8) -> bool
     ensures { λ r. ⌜ r ≡ sameEdge i j k l ⌝ }

@@ -3,7 +3,8 @@ use crate::pairs::hangs_on;
 ghost use mathlib.Core.Path.{_≡_};
 ghost use Prim.Native.Nat.{_<_};
 ghost use lib.ListN.{length};
-ghost use Rattle.jobs.specs.Job.{namesPair, rowBefore, rowFits, rowsFit};
+ghost use Rattle.terms.specs.Entries.{rowBefore};
+ghost use Rattle.jobs.specs.Job.{namesPair, rowFits, rowsFit};
 
 fn names_pair(candidates: &[[u8; 3]], outer: u32, inner: u32) -> bool
     ensures { λ r. ⌜ r ≡ namesPair (now (candidates .entry)) outer inner ⌝ }

@@ -11,7 +11,8 @@ use Rattle.lists.proofs.Choice.{Truth, truth, holds, fails, true-not-false, not
 use Rattle.lists.proofs.Members.{member-entry}
 use Rattle.jobs.specs.Job.{unless}
 use Rattle.jobs.proofs.First.{unless-zero}
-use Rattle.triangulation.specs.Triangulations.{Problem, only, keep, upFrom, isTriangulation, totalWeight}
+use Rattle.lists.specs.Sums.{only, keep, numbersFrom}
+use Rattle.triangulation.specs.Triangulations.{Problem, isTriangulation, totalWeight}
 use Rattle.triangulation.proofs.Sums.{Mem, once-apart, Any, any, none, some}
 use Rattle.triangulation.proofs.PartsToSets.{upFrom-mem}
 use Rattle.triangulation.proofs.Least.{subset-mem}
@@ -47,7 +48,7 @@ module _ (job : Problem) (list : List ℕ) where
 
   module _ {set : List ℕ} (t : IsTiling job list set) where
     candidate : (k : ℕ) → Mem k set → k < job .size
-    candidate k m = omega (arith, upFrom-mem 0 (job .size) k (subset-mem (upFrom 0 (job .size)) set (t .tiles .0) k m))
+    candidate k m = omega (arith, upFrom-mem 0 (job .size) k (subset-mem (numbersFrom 0 (job .size)) set (t .tiles .0) k m))
 
     pub names : Names (job .size) list
     names = record { candidate = λ k m. candidate k (t .once .only k m); once = apart-once list (t .once .apart) }
@@ -84,7 +85,7 @@ keep-same p q h (x ∷ s) = ap₂ (λ b r. cond b (x ∷ r) r) (h x) (keep-same 
 module _ (job : Problem) where
   same-named : (list list′ : List ℕ) → SameNumbers list list′ → named job list ≡ named job list′
   unfolding named
-  same-named list list′ h = keep-same (λ k. ltb 0 (times k list)) (λ k. ltb 0 (times k list′)) (λ k. ap (ltb 0) (h k)) (upFrom 0 (job .size))
+  same-named list list′ h = keep-same (λ k. ltb 0 (times k list)) (λ k. ltb 0 (times k list′)) (λ k. ap (ltb 0) (h k)) (numbersFrom 0 (job .size))
 
   same-names : (list list′ : List ℕ) → SameNumbers list list′ → Names (job .size) list → Names (job .size) list′
   same-names list list′ h n = record {

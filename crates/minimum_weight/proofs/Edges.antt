@@ -10,7 +10,8 @@ use lib.ListN.{getD}
 use lib.Dec.{eqb, ltb}
 use borrow.Author.Tests.{eqb-true, eqb-false, ltb-true, ltb-false, lt-leb}
 use Rattle.terms.specs.Limits.{maxWeight}
-use Rattle.triangulation.specs.Triangulations.{Problem, ValidProblem, keep, upFrom, least, noLater, longEdge}
+use Rattle.lists.specs.Sums.{keep, numbersFrom}
+use Rattle.triangulation.specs.Triangulations.{Problem, ValidProblem, least, noLater, longEdge}
 use Rattle.triangulation.specs.Problems.{Bounded, problemFrom}
 use Rattle.triangulation.specs.Recursion.{addRow, join, bestUnder, bestFrom, costOf, noTotal, maxTotal}
 use Rattle.triangulation.proofs.SetParts.{both-eq}
@@ -91,11 +92,11 @@ module _ (job : Problem) (good : ValidProblem job) (bound : Bounded job) (t i j 
   keyOf u = addRow (job .row t u) (bestFrom job (job .n) u)
 
   these : List ℕ
-  these = keep (longEdge job i j) (upFrom 0 (job .size))
+  these = keep (longEdge job i j) (numbersFrom 0 (job .size))
 
   these-in : (u : ℕ) → Mem u these → (u < job .size) × (longEdge job i j u ≡ true)
   unfolding these
-  these-in u m = let d = keep-mem (longEdge job i j) u (upFrom 0 (job .size)) m in (omega (arith, upFrom-mem 0 (job .size) u (d .0)), d .1)
+  these-in u m = let d = keep-mem (longEdge job i j) u (numbersFrom 0 (job .size)) m in (omega (arith, upFrom-mem 0 (job .size) u (d .0)), d .1)
 
   low : (p : Pick) (x : ℕ) (l : List ℕ) → keyOf (p .at) ≡ (x + job .row t (p .at)) ∷ p .at ∷ l → p .cost ≡ x + job .row t (p .at)
       → (u : ℕ) → Shape u (bestFrom job (job .n) u)
@@ -123,7 +124,7 @@ module _ (job : Problem) (good : ValidProblem job) (bound : Bounded job) (t i j 
       go y (image u m q) = let d = these-in u m in q ∙ ap (addRow (job .row t u)) (h u (d .0) (d .1))
   found p (some x l a o e c b h) =
       let z : bestUnder job (job .n) t i j ≡ keyOf (p .at) = edge-least job good t i j far ∙ least-is (map keyOf these) (keyOf (p .at))
-      (Memᴰ·map keyOf (mem-keep (longEdge job i j) (p .at) (upFrom 0 (job .size)) (mem-upFrom 0 (job .size) (p .at) (omega arith) (omega arith)) o)) (λ y m. go y (map-mem keyOf y these m)) in
+      (Memᴰ·map keyOf (mem-keep (longEdge job i j) (p .at) (numbersFrom 0 (job .size)) (mem-upFrom 0 (job .size) (p .at) (omega arith) (omega arith)) o)) (λ y m. go y (map-mem keyOf y these m)) in
       let d = both-eq (job .a (p .at)) i (job .c (p .at)) j o in
       record { cost = c ∙ sym (ap costOf (z ∙ ap (addRow (job .row t (p .at))) e)); at = λ f b. (a, d .0, d .1, z) }
     where

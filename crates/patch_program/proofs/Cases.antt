@@ -2,8 +2,7 @@
 use mathlib.Core.Path.{_≡_, refl}
 use mathlib.Core.List.{List, [], _∷_}
 use Prim.Native.Nat.{ℕ}
-use Rattle.terms.specs.Entries.{triple}
-use Rattle.jobs.specs.Job.{hangs}
+use Rattle.terms.specs.Entries.{triple, hangs}
 use Rattle.patch_program.specs.declared.lines.Line.{Line}
 use Rattle.patch_program.specs.Lines.{linesOf}
 

@@ -7,13 +7,13 @@ use lib.ListN.{getD, length, replicate}
 use Rattle.codes.specs.Refusals.{refusal}
 use Rattle.lists.specs.Lists.{filled}
 use Rattle.lists.proofs.Writing.{filled-at}
-use Rattle.terms.specs.Entries.{triple, entryAt}
+use Rattle.terms.specs.Entries.{triple, entryAt, hangs}
 use Rattle.polygon.specs.declared.Polygon.{Polygon}
 use Rattle.polygon.specs.Polygon.{ValidPolygon}
 use Rattle.reader.specs.Reading.{polygonOf}
 use Rattle.delaunay.specs.Candidates.{candidatesOf}
-use Rattle.jobs.specs.Job.{hangs}
-use Rattle.triangulation.specs.Triangulations.{Problem, sum}
+use Rattle.lists.specs.Sums.{sum}
+use Rattle.triangulation.specs.Triangulations.{Problem}
 use Rattle.triangulation.specs.Triangulations as triangulations
 use Rattle.triangulation.specs.Problems.{pairWeight}
 use Rattle.triangulation.specs.Demand3.{HandedBack}

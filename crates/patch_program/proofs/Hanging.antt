@@ -9,8 +9,7 @@ use lib.ListN.{getD, length, drop, drop-of-length-le}
 use lib.Seq.{drop-cons}
 use Rattle.lists.proofs.Choice.{yes, no}
 use Rattle.lists.proofs.Writing.{rest-step}
-use Rattle.terms.specs.Entries.{triple, entryAt}
-use Rattle.jobs.specs.Job.{hangs}
+use Rattle.terms.specs.Entries.{triple, entryAt, hangs}
 use Rattle.triangulation.specs.Problems.{pairWeight}
 use Rattle.patch_program.specs.declared.lines.Line.{Line}
 use Rattle.patch_program.specs.Lines.{rowUnder, lineOf}

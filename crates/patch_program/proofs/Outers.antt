@@ -8,9 +8,9 @@ use borrow.Author.Tests.{eqb-true, eq-eqb}
 use lib.Dec.{eqb}
 use lib.ListN.{getD}
 use Rattle.lists.proofs.Choice.{Truth, truth, holds, fails}
-use Rattle.terms.specs.Entries.{entryAt}
-use Rattle.jobs.specs.Job.{hangs}
-use Rattle.triangulation.specs.Triangulations.{Problem, ValidProblem, only, sum, keep, joined, longEdge, shortEdge, countBetween, countOutside, isBoundary, edgeOk, isTriangulation, totalWeight, preorderFrom, preorder}
+use Rattle.terms.specs.Entries.{entryAt, hangs}
+use Rattle.lists.specs.Sums.{only, sum, keep, joined}
+use Rattle.triangulation.specs.Triangulations.{Problem, ValidProblem, longEdge, shortEdge, countBetween, countOutside, isBoundary, edgeOk, isTriangulation, totalWeight, preorderFrom, preorder}
 use Rattle.triangulation.specs.Problems.{pairWeight, problemFrom}
 use Rattle.triangulation.specs.Demand3.{Triangulates}
 use Rattle.triangulation.proofs.Sums.{Mem, count, sum-ext, sum-add, sum-swap, sum-keep, keep-mem, keep-one, keep-none, mem-count}

@@ -3,8 +3,7 @@ use mathlib.Core.Path.{_≡_}
 use mathlib.Core.Bool.{true}
 use mathlib.Core.List.{List, [], _∷_, List·Memᴰ}
 use Prim.Native.Nat.{ℕ, _+_}
-use Rattle.terms.specs.Entries.{entryAt}
-use Rattle.jobs.specs.Job.{hangs}
+use Rattle.terms.specs.Entries.{entryAt, hangs}
 use Rattle.triangulation.specs.Problems.{pairWeight}
 use Rattle.reader.specs.Reading.{polygonOf}
 use Rattle.triangulator.specs.declared.Outcome.the-variants.{Patch}

@@ -4,8 +4,7 @@ use mathlib.Core.List.{List, [], _∷_, map}
 use Prim.Native.Nat.{ℕ, _+_}
 use lib.ListN.{getD, replicate}
 use Rattle.lists.specs.Lists.{filled}
-use Rattle.terms.specs.Entries.{entryAt, vertexA, vertexB, vertexC}
-use Rattle.jobs.specs.Job.{hangs}
+use Rattle.terms.specs.Entries.{entryAt, vertexA, vertexB, vertexC, hangs}
 use Rattle.triangulation.specs.Problems.{pairWeight}
 use Rattle.triangulator.specs.declared.Outcome.{Outcome}
 use Rattle.triangulator.specs.declared.Outcome.the-variants.{Patch, None, Refused}

@@ -10,7 +10,8 @@ use lib.Ieee.{Float}
 use Rattle.lists.proofs.Choice.{yes, no}
 use Rattle.grid.specs.Number.{finite, inRange}
 use Rattle.rim_file.specs.File.{offset, firstNumber, secondNumber, thirdNumber}
-use Rattle.rim_file.specs.Record.{known, heightOf, everyNumber, numbersCode, numberOf}
+use Rattle.lists.specs.Sums.{allOf}
+use Rattle.rim_file.specs.Record.{known, heightOf, numbersCode, numberOf}
 use Rattle.rim_file.proofs.Vertices.{tests, vertex-number}
 use Rattle.rim_file.proofs.Floats.{UpTo, every-fails, every-not, numbers-most, finite-code, range-code}
 use Rattle.reader.specs.Chain.{heightBefore, vertexAtPosition}
@@ -87,9 +88,9 @@ module _ (s : List ℕ) (i : ℕ) where
   module _ (limit : ℕ) (has : HasRecords s (suc i)) where
     floats-due : (vs : List Float) (c : ℕ) → floatsAt s i ≡ vs → numbersCode vs ≡ suc c → DueAt limit s (record-at i) (suc c)
     unfolding numbersCode
-    floats-due vs c u e = by (everyNumber finite vs) (everyNumber inRange vs) refl refl e
+    floats-due vs c u e = by (allOf finite vs) (allOf inRange vs) refl refl e
       where
-        by : (f r : Bool) → everyNumber finite vs ≡ f → everyNumber inRange vs ≡ r → _≡_ {A = ℕ} (cond f (cond r 0 9) 8) (suc c) → DueAt limit s (record-at i) (suc c)
+        by : (f r : Bool) → allOf finite vs ≡ f → allOf inRange vs ≡ r → _≡_ {A = ℕ} (cond f (cond r 0 9) 8) (suc c) → DueAt limit s (record-at i) (suc c)
         by false r p q d =
             let w = every-fails finite vs p in
             subst (λ (k : ℕ). DueAt limit s (record-at i) k) d (not-finite i (w .value) has (subst (λ (l : List Float). List·Memᴰ (w .value) l) (sym u) (w .member)) (w .fails))

@@ -9,7 +9,8 @@ use lib.Ieee.{Float}
 use Rattle.lists.specs.Lists.{both}
 use Rattle.lists.proofs.Choice.{yes, no, true-not-false, both-left, both-right, both-true, not-true-false}
 use Rattle.grid.specs.Number.{finite, inRange}
-use Rattle.rim_file.specs.Record.{everyNumber, numbersCode}
+use Rattle.lists.specs.Sums.{allOf}
+use Rattle.rim_file.specs.Record.{numbersCode}
 
 -- a float at which a test of every float fails
 pub record Failing (P : Float → Bool) (vs : List Float) : Type 0 where
@@ -17,27 +18,27 @@ pub record Failing (P : Float → Bool) (vs : List Float) : Type 0 where
   pub member : List·Memᴰ value vs
   pub fails : P value ≡ false
 
-pub every-fails : (P : Float → Bool) (vs : List Float) → everyNumber P vs ≡ false → Failing P vs
+pub every-fails : (P : Float → Bool) (vs : List Float) → allOf P vs ≡ false → Failing P vs
 every-fails P [] e = absurd (true-not-false refl e)
 every-fails P (v ∷ vs) e = by (P v) refl (λ h. every-fails P vs h)
   where
-    by : (b : Bool) → P v ≡ b → (everyNumber P vs ≡ false → Failing P vs) → Failing P (v ∷ vs)
+    by : (b : Bool) → P v ≡ b → (allOf P vs ≡ false → Failing P vs) → Failing P (v ∷ vs)
     by false p go = record { value = v; member = List·Memᴰ·head refl; fails = p }
     by true p go =
-        let f = go (sym (ap (λ (b : Bool). both b (everyNumber P vs)) p) ∙ e) in
+        let f = go (sym (ap (λ (b : Bool). both b (allOf P vs)) p) ∙ e) in
         record { value = f .value; member = List·Memᴰ·tail (f .member); fails = f .fails }
 
-pub every-at : (P : Float → Bool) (vs : List Float) (v : Float) → everyNumber P vs ≡ true → List·Memᴰ v vs → P v ≡ true
+pub every-at : (P : Float → Bool) (vs : List Float) (v : Float) → allOf P vs ≡ true → List·Memᴰ v vs → P v ≡ true
 every-at P [] v e m = absurd (List·Memᴰ·not-nil m)
 every-at P (w ∷ vs) v e m =
-    ⊎-elim (λ d. ap P d ∙ both-left (P w) (everyNumber P vs) e) (λ t. every-at P vs v (both-right (P w) (everyNumber P vs) e) t) (List·Memᴰ·cases-cons m)
+    ⊎-elim (λ d. ap P d ∙ both-left (P w) (allOf P vs) e) (λ t. every-at P vs v (both-right (P w) (allOf P vs) e) t) (List·Memᴰ·cases-cons m)
 
-pub every-all : (P : Float → Bool) (vs : List Float) → ((v : Float) → List·Memᴰ v vs → P v ≡ true) → everyNumber P vs ≡ true
+pub every-all : (P : Float → Bool) (vs : List Float) → ((v : Float) → List·Memᴰ v vs → P v ≡ true) → allOf P vs ≡ true
 every-all P [] h = refl
 every-all P (v ∷ vs) h = both-true (h v (List·Memᴰ·head refl)) (every-all P vs (λ w m. h w (List·Memᴰ·tail m)))
 
-pub every-not : (P : Float → Bool) (vs : List Float) (v : Float) → List·Memᴰ v vs → P v ≡ false → everyNumber P vs ≡ false
-every-not P vs v m f = not-true-false (everyNumber P vs) (λ e. true-not-false (every-at P vs v e m) f)
+pub every-not : (P : Float → Bool) (vs : List Float) (v : Float) → List·Memᴰ v vs → P v ≡ false → allOf P vs ≡ false
+every-not P vs v m f = not-true-false (allOf P vs) (λ e. true-not-false (every-at P vs v e m) f)
 
 -- c is a number, and at most k
 pub record UpTo (k c : ℕ) : Type 0 where
@@ -45,27 +46,27 @@ pub record UpTo (k c : ℕ) : Type 0 where
   pub most : c ≤ k
 
 module _ (vs : List Float) where
-  pub finite-code : everyNumber finite vs ≡ false → numbersCode vs ≡ 8
+  pub finite-code : allOf finite vs ≡ false → numbersCode vs ≡ 8
   unfolding numbersCode
   finite-code e = no _ 8 e
 
-  pub range-code : everyNumber inRange vs ≡ false → UpTo 9 (numbersCode vs)
+  pub range-code : allOf inRange vs ≡ false → UpTo 9 (numbersCode vs)
   unfolding numbersCode
-  range-code e = by (everyNumber finite vs) refl
+  range-code e = by (allOf finite vs) refl
     where
-      by : (f : Bool) → everyNumber finite vs ≡ f → UpTo 9 (numbersCode vs)
+      by : (f : Bool) → allOf finite vs ≡ f → UpTo 9 (numbersCode vs)
       by false p = let d : numbersCode vs ≡ 8 = no _ 8 p in record { some = omega arith; most = omega arith }
       by true p = let d : numbersCode vs ≡ 9 = yes _ 8 p ∙ no 0 9 e in record { some = omega arith; most = omega arith }
 
   pub numbers-most : numbersCode vs ≤ 9
   unfolding numbersCode
-  numbers-most = by (everyNumber finite vs) (everyNumber inRange vs)
+  numbers-most = by (allOf finite vs) (allOf inRange vs)
     where
       by : (f r : Bool) → cond f (cond r 0 9) 8 ≤ 9
       by true true = omega arith
       by true false = omega arith
       by false r = omega arith
 
-  pub fine-code : everyNumber finite vs ≡ true → everyNumber inRange vs ≡ true → numbersCode vs ≡ 0
+  pub fine-code : allOf finite vs ≡ true → allOf inRange vs ≡ true → numbersCode vs ≡ 0
   unfolding numbersCode
   fine-code f r = yes _ 8 f ∙ yes 0 9 r

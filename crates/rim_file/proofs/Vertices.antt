@@ -14,7 +14,8 @@ use Rattle.grid.specs.Number.{finite, inRange, roundEighths}
 use Rattle.grid.specs.Point.{point, OnGrid, PointOnGrid}
 use Rattle.grid.proofs.HalfStep.{in-range-on-grid}
 use Rattle.rim_file.specs.File.{kind, firstNumber, secondNumber, thirdNumber, tailZero}
-use Rattle.rim_file.specs.Record.{known, heightOf, recordAt, everyNumber, numbersCode, vertexUnless, vertexOf, numberOf}
+use Rattle.lists.specs.Sums.{allOf}
+use Rattle.rim_file.specs.Record.{known, heightOf, recordAt, numbersCode, vertexUnless, vertexOf, numberOf}
 use Rattle.rim_file.specs.declared.Height.{Height}
 use Rattle.rim_file.specs.declared.Height.the-variants.{Unknown, Known}
 use Rattle.rim_file.specs.declared.Vertex.{Vertex}
@@ -26,9 +27,9 @@ code-none true true e = (refl, refl)
 code-none true false e = absurd (omega (arith, e))
 code-none false r e = absurd (omega (arith, e))
 
-pub numbers-fine : (vs : List Float) → numbersCode vs ≡ 0 → (everyNumber finite vs ≡ true) × (everyNumber inRange vs ≡ true)
+pub numbers-fine : (vs : List Float) → numbersCode vs ≡ 0 → (allOf finite vs ≡ true) × (allOf inRange vs ≡ true)
 unfolding numbersCode
-numbers-fine vs e = code-none (everyNumber finite vs) (everyNumber inRange vs) e
+numbers-fine vs e = code-none (allOf finite vs) (allOf inRange vs) e
 
 -- a vertex where a number could be due
 vertex-unless : (k : ℕ) (p q : GridPoint) → vertexUnless k p ≡ At q → (k ≡ 0) × (p ≡ q)

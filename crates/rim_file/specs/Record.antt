@@ -5,6 +5,7 @@ use mathlib.Core.List.{List, [], _∷_}
 use lib.IntN.{ℤ, pos}
 use lib.Dec.{eqb}
 use lib.Ieee.{Float}
+use Rattle.lists.specs.Sums.{allOf}
 use Rattle.lists.specs.Lists.{both}
 use Rattle.grid.specs.Number.{finite, inRange, roundEighths}
 use Rattle.grid.specs.Point.{point}
@@ -59,14 +60,9 @@ normalIn s i = cond (isEdition2 s) (heldNormal s i) noNormal
 abbrev pub normalNumbersOf : List ℕ → ℕ → List ℤ
 normalNumbersOf s i = cond (isEdition2 s) (heldNormal s i .x ∷ heldNormal s i .y ∷ heldNormal s i .z ∷ []) []
 
--- all floats of a record pass a test
-abbrev pub everyNumber : (Float → Bool) → List Float → Bool
-everyNumber P [] = true
-everyNumber P (v ∷ vs) = both (P v) (everyNumber P vs)
-
 -- 8 where a float of the record is not finite, before 9 where one is out of range (rules 4.8, 4.9, 4.31)
 unfoldable pub numbersCode : List Float → ℕ
-numbersCode vs = cond (everyNumber finite vs) (cond (everyNumber inRange vs) 0 9) 8
+numbersCode vs = cond (allOf finite vs) (cond (allOf inRange vs) 0 9) 8
 
 -- the vertex, unless a number is due (rule 4.31)
 abbrev pub vertexUnless : ℕ → GridPoint → Vertex

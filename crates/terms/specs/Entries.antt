@@ -1,7 +1,10 @@
--- The words of the lists: a candidate is [a, b, c], a row is [outer, inner, weight]. Definitions only.
+-- The words of the lists: a candidate is [a, b, c], a row is [outer, inner, weight]; which of two comes first, and which candidate hangs on which. Definitions only.
+use mathlib.Core.Bool.{Bool}
 use mathlib.Core.List.{List, [], _∷_}
 use Prim.Native.Nat.{ℕ}
+use lib.Dec.{eqb, ltb}
 use lib.ListN.{getD}
+use Rattle.lists.specs.Lists.{both, either}
 
 -- three numbers as an entry (rules 2.4, 2.13)
 abbrev pub triple : ℕ → ℕ → ℕ → List ℕ
@@ -30,3 +33,28 @@ inner r = getD r 1 0
 
 abbrev pub rowWeight : List ℕ → ℕ
 rowWeight r = getD r 2 0
+
+-- the smaller number comes first, and of equal numbers the rest decides (rules 2.4, 2.13)
+abbrev pub lexicographic : ℕ → ℕ → Bool → Bool
+lexicographic x y rest = either (ltb x y) (both (eqb x y) rest)
+
+-- candidate s is strictly before candidate t: by rising a, then b, then c (rule 2.4)
+unfoldable pub before : List ℕ → List ℕ → Bool
+before s t =
+    lexicographic (vertexA s) (vertexA t)
+    (lexicographic (vertexB s) (vertexB t)
+    (ltb (vertexC s) (vertexC t)))
+
+-- row r is strictly before row s: by rising outer, then inner (rule 2.13)
+unfoldable pub rowBefore : List ℕ → List ℕ → Bool
+rowBefore r s = lexicographic (outer r) (outer s) (ltb (inner r) (inner s))
+
+-- the edge (i, j) is the edge (k, l) (rule 2.9)
+abbrev pub sameEdge : ℕ → ℕ → ℕ → ℕ → Bool
+sameEdge i j k l = both (eqb i k) (eqb j l)
+
+-- candidate t hangs on candidate u: its edge (a, c) is the edge (a, b) or (b, c) of u (rule 2.9)
+unfoldable pub hangs : List ℕ → List ℕ → Bool
+hangs t u =
+    either (sameEdge (vertexA t) (vertexC t) (vertexA u) (vertexB u))
+    (sameEdge (vertexA t) (vertexC t) (vertexB u) (vertexC u))

@@ -9,7 +9,8 @@ use native.Mathlib.Nat.{le-antisymm}
 use lib.ListN.{length}
 use lib.Dec.{eqb}
 use borrow.Author.Tests.{eqb-true, eqb-false}
-use Rattle.triangulation.specs.Triangulations.{Problem, ValidProblem, Answer, none, patch, answerOf, sum, upFrom, subsets, noLater, least, isTriangulation, triangulations, totalWeight, preorder, key, bestKey, best}
+use Rattle.lists.specs.Sums.{sum, numbersFrom}
+use Rattle.triangulation.specs.Triangulations.{Problem, ValidProblem, Answer, none, patch, answerOf, subsets, noLater, least, isTriangulation, triangulations, totalWeight, preorder, key, bestKey, best}
 use Rattle.triangulation.specs.Demand3.{Triangulates, Earlier, here, later, Optimal, Demand3, NamesOnce, HandedBack}
 use Rattle.triangulation.proofs.Sums.{Mem, mem-keep, keep-mem, once-apart}
 use Rattle.triangulation.proofs.Parts.{part-length}
@@ -25,28 +26,28 @@ module _ where
 
   -- a subset of i, i + 1, .. starts with i, or is one of i + 1, ..
   pub data Split (i c : ℕ) (s : List ℕ) : Type 0 where
-    with-it : (r : List ℕ) → List·Memᴰ r (subsets (upFrom (suc i) c)) → s ≡ i ∷ r → Split i c s
-    without : List·Memᴰ s (subsets (upFrom (suc i) c)) → Split i c s
+    with-it : (r : List ℕ) → List·Memᴰ r (subsets (numbersFrom (suc i) c)) → s ≡ i ∷ r → Split i c s
+    without : List·Memᴰ s (subsets (numbersFrom (suc i) c)) → Split i c s
 
-  pub split : (i c : ℕ) (s : List ℕ) → List·Memᴰ s (subsets (upFrom i (suc c))) → Split i c s
-  split i c s m = ⊎-elim (λ h. go (map-mem (λ r. i ∷ r) s (subsets (upFrom (suc i) c)) h)) without (List·Memᴰ·append-cases (map (λ r. i ∷ r) (subsets (upFrom (suc i) c))) m)
+  pub split : (i c : ℕ) (s : List ℕ) → List·Memᴰ s (subsets (numbersFrom i (suc c))) → Split i c s
+  split i c s m = ⊎-elim (λ h. go (map-mem (λ r. i ∷ r) s (subsets (numbersFrom (suc i) c)) h)) without (List·Memᴰ·append-cases (map (λ r. i ∷ r) (subsets (numbersFrom (suc i) c))) m)
     where
-      go : Image (λ r. i ∷ r) s (subsets (upFrom (suc i) c)) → Split i c s
+      go : Image (λ r. i ∷ r) s (subsets (numbersFrom (suc i) c)) → Split i c s
       go (image r n e) = with-it r n e
 
-  above : (i c : ℕ) (s : List ℕ) → List·Memᴰ s (subsets (upFrom (suc i) c)) → Mem i s → ⊥
-  above i c s m r = omega (arith, upFrom-mem (suc i) c i (subset-mem (upFrom (suc i) c) s m i r))
+  above : (i c : ℕ) (s : List ℕ) → List·Memᴰ s (subsets (numbersFrom (suc i) c)) → Mem i s → ⊥
+  above i c s m r = omega (arith, upFrom-mem (suc i) c i (subset-mem (numbersFrom (suc i) c) s m i r))
 
   -- the members of a tail
-  tail-mem : (i c : ℕ) (r t : List ℕ) → List·Memᴰ r (subsets (upFrom (suc i) c)) → ((k : ℕ) → Mem k (i ∷ r) → Mem k (i ∷ t)) → (k : ℕ) → Mem k r → Mem k t
+  tail-mem : (i c : ℕ) (r t : List ℕ) → List·Memᴰ r (subsets (numbersFrom (suc i) c)) → ((k : ℕ) → Mem k (i ∷ r) → Mem k (i ∷ t)) → (k : ℕ) → Mem k r → Mem k t
   tail-mem i c r t m h k q = ⊎-elim (λ e. absurd (above i c r m (rw e at q))) (λ z. z) (List·Memᴰ·cases-cons (h k (List·Memᴰ·tail q)))
 
-  pub same-subset : (i c : ℕ) (s t : List ℕ) → List·Memᴰ s (subsets (upFrom i c)) → List·Memᴰ t (subsets (upFrom i c)) → SameMembers s t → s ≡ t
+  pub same-subset : (i c : ℕ) (s t : List ℕ) → List·Memᴰ s (subsets (numbersFrom i c)) → List·Memᴰ t (subsets (numbersFrom i c)) → SameMembers s t → s ≡ t
   unfolding SameMembers
   same-subset i zero s t m n h = ⊎-elim (λ e. ⊎-elim (λ d. e ∙ sym d) (λ z. absurd (List·Memᴰ·not-nil z)) (List·Memᴰ·cases-cons n)) (λ z. absurd (List·Memᴰ·not-nil z)) (List·Memᴰ·cases-cons m)
   same-subset i (suc c) s t m n h = go (split i c s m) (split i c t n) (λ s t. same-subset (suc i) c s t)
     where
-      go : Split i c s → Split i c t → ((s t : List ℕ) → List·Memᴰ s (subsets (upFrom (suc i) c)) → List·Memᴰ t (subsets (upFrom (suc i) c)) → SameMembers s t → s ≡ t) → s ≡ t
+      go : Split i c s → Split i c t → ((s t : List ℕ) → List·Memᴰ s (subsets (numbersFrom (suc i) c)) → List·Memᴰ t (subsets (numbersFrom (suc i) c)) → SameMembers s t → s ≡ t) → s ≡ t
       go (with-it r a e) (with-it q b d) ih =
           let f : (k : ℕ) → Mem k (i ∷ r) → Mem k (i ∷ q) = rw (e, d) at (h .0) in
           let g : (k : ℕ) → Mem k (i ∷ q) → Mem k (i ∷ r) = rw (e, d) at (h .1) in
@@ -90,7 +91,7 @@ sum-ones (x ∷ s) = omega (arith, sum-ones s)
 module _ (job : Problem) (good : ValidProblem job) where
   -- the members of a tiling are candidates
   pub members : (s : List ℕ) → Triangulates job s → (k : ℕ) → Mem k s → k < job .size
-  members s h k m = omega (arith, upFrom-mem 0 (job .size) k (subset-mem (upFrom 0 (job .size)) s (h .0) k m))
+  members s h k m = omega (arith, upFrom-mem 0 (job .size) k (subset-mem (numbersFrom 0 (job .size)) s (h .0) k m))
 
   pub preorder-length : (s : List ℕ) → Triangulates job s → length (preorder job s) ≡ job .n - 2
   preorder-length s h = omega (arith, part-length job (set-part job good s (members s h) (h .1)))
@@ -118,7 +119,7 @@ module _ (job : Problem) (good : ValidProblem job) where
       one s t h k e z m = preorder-mem job good t (members t k) (k .1) z (rw e at (mem-preorder job good s (members s h) (h .1) z m))
 
   key-mem : (s : List ℕ) → Triangulates job s → List·Memᴰ (key job s) (map (key job) (triangulations job))
-  key-mem s h = Memᴰ·map (key job) (mem-keep (isTriangulation job) s (subsets (upFrom 0 (job .size))) (h .0) (h .1))
+  key-mem s h = Memᴰ·map (key job) (mem-keep (isTriangulation job) s (subsets (numbersFrom 0 (job .size))) (h .0) (h .1))
 
   best-le : (s : List ℕ) → Triangulates job s → noLater (bestKey job) (totalWeight job s ∷ preorder job s) ≡ true
   unfolding bestKey key
@@ -149,7 +150,7 @@ module _ (job : Problem) (good : ValidProblem job) where
     where
       some : (x : ℕ) (l : List ℕ) → bestKey job ≡ x ∷ l → Image (key job) (x ∷ l) (triangulations job) → Demand3 job (patch x l)
       some x l e (image s m q) =
-          let o : Optimal job x l = optimal s x l e (keep-mem (isTriangulation job) s (subsets (upFrom 0 (job .size))) m) q in
+          let o : Optimal job x l = optimal s x l e (keep-mem (isTriangulation job) s (subsets (numbersFrom 0 (job .size))) m) q in
           record {
             patch-is = λ (y : ℕ) (k : List ℕ) (z : patch x l ≡ patch y k). let p : y ≡ x = cc in let q : k ≡ l = cc in rw (p, q) o;
             patch-if = λ t k. (x, l, refl);

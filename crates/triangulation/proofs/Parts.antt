@@ -8,7 +8,8 @@ use native.Mathlib.Omega.{arith}
 use lib.ListN.{length, length-append}
 use lib.Dec.{eqb}
 use borrow.Author.Tests.{eqb-true, eqb-false}
-use Rattle.triangulation.specs.Triangulations.{Problem, ValidProblem, only, longEdge, shortEdge, countBetween, countOutside}
+use Rattle.lists.specs.Sums.{only}
+use Rattle.triangulation.specs.Triangulations.{Problem, ValidProblem, longEdge, shortEdge, countBetween, countOutside}
 use Rattle.triangulation.proofs.Sums.{sum-append}
 
 -- 1 where (i, j) is the edge (p, q)

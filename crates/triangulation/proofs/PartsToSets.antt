@@ -8,7 +8,8 @@ use native.Mathlib.Omega.{arith}
 use native.Mathlib.Nat.{le-antisymm}
 use lib.Dec.{eqb, leb}
 use borrow.Author.Tests.{eqb-true, eqb-false, eq-eqb, ne-eqb, leb-true, le-leb}
-use Rattle.triangulation.specs.Triangulations.{Problem, ValidProblem, only, sum, keep, upFrom, allBelow, longEdge, shortEdge, countBetween, countOutside, totalWeight, preorderFrom, isBoundary, edgeOk, isTriangulation}
+use Rattle.lists.specs.Sums.{only, sum, keep, numbersFrom, allBelow}
+use Rattle.triangulation.specs.Triangulations.{Problem, ValidProblem, longEdge, shortEdge, countBetween, countOutside, totalWeight, preorderFrom, isBoundary, edgeOk, isTriangulation}
 use Rattle.triangulation.proofs.Sums.{Mem, count, sum-same, count-mono, mem-count, mem-keep, keep-mem}
 use Rattle.triangulation.proofs.Parts.{Part, edge, node, boundary, within, Within, between-le, isEdge, isStep, IsEdge, IsStep, isEdge-cases, isStep-cases}
 use Rattle.triangulation.proofs.SetParts.{Set, longEdge-is, share, part-total, part-list, and-true}
@@ -17,25 +18,25 @@ pub true-below : (k : ℕ) (p : ℕ → Bool) → ((i : ℕ) → i < k → p i �
 true-below zero p h = refl
 true-below (suc k) p h = and-true _ _ (true-below k p (λ i l. h i (omega arith))) (h k (omega arith))
 
-pub mem-upFrom : (i c k : ℕ) → i ≤ k → k < i + c → Mem k (upFrom i c)
+pub mem-upFrom : (i c k : ℕ) → i ≤ k → k < i + c → Mem k (numbersFrom i c)
 mem-upFrom i zero k h l = absurd (omega arith)
 mem-upFrom i (suc c) k h l = go (eqb k i) refl (λ d. mem-upFrom (suc i) c k d (omega arith))
   where
-    go : (b : Bool) → eqb k i ≡ b → (suc i ≤ k → Mem k (upFrom (suc i) c)) → Mem k (i ∷ upFrom (suc i) c)
+    go : (b : Bool) → eqb k i ≡ b → (suc i ≤ k → Mem k (numbersFrom (suc i) c)) → Mem k (i ∷ numbersFrom (suc i) c)
     go true e ih = List·Memᴰ·head (eqb-true k i e)
     go false e ih = List·Memᴰ·tail (ih (let d : k ≢ i = eqb-false k i e in omega arith))
 
-pub upFrom-mem : (i c k : ℕ) → Mem k (upFrom i c) → (i ≤ k) × (k < i + c)
+pub upFrom-mem : (i c k : ℕ) → Mem k (numbersFrom i c) → (i ≤ k) × (k < i + c)
 upFrom-mem i zero k m = absurd (List·Memᴰ·not-nil m)
 upFrom-mem i (suc c) k m = ⊎-elim (λ e. (omega arith, omega arith)) (λ r. let d = upFrom-mem (suc i) c k r in (omega arith, omega arith)) (List·Memᴰ·cases-cons m)
 
--- a number is in upFrom once at most
-pub upFrom-once : (i c x : ℕ) → count (λ k. eqb k x) (upFrom i c) ≤ only (leb i x) 1
+-- a number is in numbersFrom once at most
+pub upFrom-once : (i c x : ℕ) → count (λ k. eqb k x) (numbersFrom i c) ≤ only (leb i x) 1
 upFrom-once i zero x = omega arith
 upFrom-once i (suc c) x = go (eqb i x) (leb (suc i) x) (leb i x) refl refl refl (upFrom-once (suc i) c x)
   where
-    go : (b d e : Bool) → eqb i x ≡ b → leb (suc i) x ≡ d → leb i x ≡ e → count (λ k. eqb k x) (upFrom (suc i) c) ≤ only d 1
-        → only b 1 + count (λ k. eqb k x) (upFrom (suc i) c) ≤ only e 1
+    go : (b d e : Bool) → eqb i x ≡ b → leb (suc i) x ≡ d → leb i x ≡ e → count (λ k. eqb k x) (numbersFrom (suc i) c) ≤ only d 1
+        → only b 1 + count (λ k. eqb k x) (numbersFrom (suc i) c) ≤ only e 1
     go true true e p q r ih = absurd (omega (arith, eqb-true i x p, leb-true (suc i) x q))
     go true false true p q r ih = omega arith
     go true false false p q r ih = absurd (false≢true (sym r ∙ le-leb i x (omega (arith, eqb-true i x p))))
@@ -68,7 +69,7 @@ module _ (job : Problem) (good : ValidProblem job) where
     -- the candidates of the list, in ascending order
     unfoldable pub chosen : List ℕ
     unfolding picked
-    chosen = keep picked (upFrom 0 (job .size))
+    chosen = keep picked (numbersFrom 0 (job .size))
 
     in-chosen : (k : ℕ) → Mem k l → Mem k chosen
     unfolding picked chosen
@@ -77,7 +78,7 @@ module _ (job : Problem) (good : ValidProblem job) where
 
     chosen-valid : (k : ℕ) → Mem k chosen → k < job .size
     unfolding picked chosen
-    chosen-valid k m = omega (arith, upFrom-mem 0 (job .size) k (keep-mem picked k (upFrom 0 (job .size)) m .0))
+    chosen-valid k m = omega (arith, upFrom-mem 0 (job .size) k (keep-mem picked k (numbersFrom 0 (job .size)) m .0))
 
     pub same-sum : (f : ℕ → ℕ) → sum f chosen ≡ sum f l
     unfolding picked chosen countBetween
@@ -88,9 +89,9 @@ module _ (job : Problem) (good : ValidProblem job) where
           between-le job good w (job .a k) (job .c k),
           count-mono (λ y. eqb k y) (longEdge job (job .a k) (job .c k)) (λ y e. longEdge-is job good l _ _ y (sym (ap (job .a) (eqb-true k y e))) (sym (ap (job .c) (eqb-true k y e)))) l,
         ))
-        (leb-true 1 (count (λ y. eqb k y) l) (keep-mem picked k (upFrom 0 (job .size)) m .1)))
+        (leb-true 1 (count (λ y. eqb k y) l) (keep-mem picked k (numbersFrom 0 (job .size)) m .1)))
         (λ y m. le-antisymm
-        (omega (arith, count-keep (λ k. eqb k y) picked (upFrom 0 (job .size)), upFrom-once 0 (job .size) y, only-le (leb 0 y)))
+        (omega (arith, count-keep (λ k. eqb k y) picked (numbersFrom 0 (job .size)), upFrom-once 0 (job .size) y, only-le (leb 0 y)))
         (mem-count (λ k. eqb k y) chosen y (in-chosen y m) (eq-eqb y y refl)))
 
     chosen-set : Set job good chosen

@@ -8,7 +8,8 @@ use native.Mathlib.Omega.{arith}
 use lib.ListN.{length}
 use lib.Dec.{eqb}
 use borrow.Author.Tests.{eqb-true, eqb-false, eq-eqb, ne-eqb}
-use Rattle.triangulation.specs.Triangulations.{Problem, ValidProblem, keep, upFrom, noLater, least, longEdge, bestKey}
+use Rattle.lists.specs.Sums.{keep, numbersFrom}
+use Rattle.triangulation.specs.Triangulations.{Problem, ValidProblem, noLater, least, longEdge, bestKey}
 use Rattle.triangulation.specs.Recursion.{addRow, join, bestUnder, bestFrom}
 use Rattle.triangulation.proofs.Sums.{Mem, mem-keep, keep-mem}
 use Rattle.triangulation.proofs.Parts.{Part, edge, node, hingeWeight, part-length}
@@ -67,7 +68,7 @@ module _ (job : Problem) where
       keyOf u = addRow (job .row t u) (rk u)
 
       these : List ℕ
-      these = keep (longEdge job i j) (upFrom 0 (job .size))
+      these = keep (longEdge job i j) (numbersFrom 0 (job .size))
 
       keys : List (List ℕ)
       unfolding keyOf these
@@ -75,7 +76,7 @@ module _ (job : Problem) where
 
       in-keys : (u : ℕ) → u < job .size → job .a u ≡ i → job .c u ≡ j → List·Memᴰ (keyOf u) keys
       unfolding keyOf these keys
-      in-keys u h ei ej = Memᴰ·map keyOf (mem-keep (longEdge job i j) u (upFrom 0 (job .size)) (mem-upFrom 0 (job .size) u (omega arith) (omega arith)) (longEdge-is job good [] i j u ei ej))
+      in-keys u h ei ej = Memᴰ·map keyOf (mem-keep (longEdge job i j) u (numbersFrom 0 (job .size)) (mem-upFrom 0 (job .size) u (omega arith) (omega arith)) (longEdge-is job good [] i j u ei ej))
 
       -- every part has a key no later than its own
       low : (r : List ℕ) (y : ℕ) → Part job i j r y → noLater (least keys) ((y + hingeWeight job t r) ∷ r) ≡ true
@@ -102,7 +103,7 @@ module _ (job : Problem) where
           at : (k : ℕ) (ks : List ℕ) → least keys ≡ k ∷ ks → (u : ℕ) → Mem u these → k ∷ ks ≡ keyOf u → Root u (rk u) → Best t i j (least keys)
           at k ks e u m q (none z h) = absurd (cons≢nil (q ∙ ap (addRow (job .row t u)) z))
           at k ks e u m q (some l r x y z wl wr h) =
-              let d = keep-mem (longEdge job i j) u (upFrom 0 (job .size)) m in
+              let d = keep-mem (longEdge job i j) u (numbersFrom 0 (job .size)) m in
               let v = both-eq (job .a u) i (job .c u) j (d .1) in
               let eq : least keys ≡ (job .weight u + (x + hingeWeight job u l) + (y + hingeWeight job u r) + job .row t u) ∷ u ∷ (l ++ r) = e ∙ q ∙ ap (addRow (job .row t u)) z in
               some (u ∷ (l ++ r)) (job .weight u + (x + hingeWeight job u l) + (y + hingeWeight job u r)) eq
@@ -111,7 +112,7 @@ module _ (job : Problem) where
 
           pick : (k : ℕ) (ks : List ℕ) → least keys ≡ k ∷ ks → Image keyOf (k ∷ ks) these → Best t i j (least keys)
           pick k ks e (image u m q) =
-              let d = keep-mem (longEdge job i j) u (upFrom 0 (job .size)) m in
+              let d = keep-mem (longEdge job i j) u (numbersFrom 0 (job .size)) m in
               let v = both-eq (job .a u) i (job .c u) j (d .1) in
               at k ks e u m q (roots u (omega (arith, upFrom-mem 0 (job .size) u (d .0))) (v .0) (v .1))
 
@@ -129,7 +130,7 @@ module _ (job : Problem) where
   edge-best good (suc f) t i j h b = go (eqb j (i + 1)) refl (λ t i j. edge-best good f t i j)
     where
       go : (z : Bool) → eqb j (i + 1) ≡ z → ((t i j : ℕ) → i < j → j ≤ f + i → Best t i j (bestUnder job f t i j))
-          → Best t i j (cond z (0 ∷ []) (least (map (λ u. addRow (job .row t u) (join (job .weight u) u (bestUnder job f u (job .a u) (job .b u)) (bestUnder job f u (job .b u) (job .c u)))) (keep (longEdge job i j) (upFrom 0 (job .size))))))
+          → Best t i j (cond z (0 ∷ []) (least (map (λ u. addRow (job .row t u) (join (job .weight u) u (bestUnder job f u (job .a u) (job .b u)) (bestUnder job f u (job .b u) (job .c u)))) (keep (longEdge job i j) (numbersFrom 0 (job .size))))))
       go true e ih = some [] 0 refl (edge (eqb-true j (i + 1) e)) (λ r y w. rim-low good t i j w (eqb-true j (i + 1) e))
       go false e ih = unfold keys keyOf these in
           (some-best good t i j (eqb-false j (i + 1) e) (λ u. join (job .weight u) u (bestUnder job f u (job .a u) (job .b u)) (bestUnder job f u (job .b u) (job .c u)))
@@ -180,15 +181,15 @@ module _ (job : Problem) where
         go zero h = absurd (omega arith)
         go (suc f) h = rw (eq-eqb j (i + 1) e)
 
-    pub edge-least : (t i j : ℕ) → j ≢ i + 1 → bestUnder job (job .n) t i j ≡ least (map (λ u. addRow (job .row t u) (bestFrom job (job .n) u)) (keep (longEdge job i j) (upFrom 0 (job .size))))
+    pub edge-least : (t i j : ℕ) → j ≢ i + 1 → bestUnder job (job .n) t i j ≡ least (map (λ u. addRow (job .row t u) (bestFrom job (job .n) u)) (keep (longEdge job i j) (numbersFrom 0 (job .size))))
     unfolding bestUnder bestFrom
     edge-least t i j e = go (job .n) refl
       where
-        go : (f : ℕ) → job .n ≡ f → bestUnder job f t i j ≡ least (map (λ u. addRow (job .row t u) (bestFrom job f u)) (keep (longEdge job i j) (upFrom 0 (job .size))))
+        go : (f : ℕ) → job .n ≡ f → bestUnder job f t i j ≡ least (map (λ u. addRow (job .row t u) (bestFrom job f u)) (keep (longEdge job i j) (numbersFrom 0 (job .size))))
         go zero h = absurd (omega (arith, good .n3))
-        go (suc f) h = ap (λ b. cond b (0 ∷ []) (least (map (λ u. addRow (job .row t u) (bestFrom job f u)) (keep (longEdge job i j) (upFrom 0 (job .size)))))) (ne-eqb j (i + 1) e)
-            ∙ ap least (map-ext (λ u. addRow (job .row t u) (bestFrom job f u)) (λ u. addRow (job .row t u) (bestFrom job (suc f) u)) (keep (longEdge job i j) (upFrom 0 (job .size)))
-            (λ u m. let d = keep-mem (longEdge job i j) u (upFrom 0 (job .size)) m in ap (addRow (job .row t u)) (root-fuel f (suc f) u (omega (arith, upFrom-mem 0 (job .size) u (d .0))) (omega arith) (omega arith))))
+        go (suc f) h = ap (λ b. cond b (0 ∷ []) (least (map (λ u. addRow (job .row t u) (bestFrom job f u)) (keep (longEdge job i j) (numbersFrom 0 (job .size)))))) (ne-eqb j (i + 1) e)
+            ∙ ap least (map-ext (λ u. addRow (job .row t u) (bestFrom job f u)) (λ u. addRow (job .row t u) (bestFrom job (suc f) u)) (keep (longEdge job i j) (numbersFrom 0 (job .size)))
+            (λ u m. let d = keep-mem (longEdge job i j) u (numbersFrom 0 (job .size)) m in ap (addRow (job .row t u)) (root-fuel f (suc f) u (omega (arith, upFrom-mem 0 (job .size) u (d .0))) (omega arith) (omega arith))))
 
     pub root-is : (u : ℕ) → u < job .size → Root u (bestFrom job (job .n) u)
     unfolding bestFrom bestUnder

@@ -8,7 +8,8 @@ use native.Mathlib.Omega.{arith}
 use native.Mathlib.Nat.{le-antisymm}
 use lib.Dec.{eqb}
 use borrow.Author.Tests.{eqb-true, eqb-false, eq-eqb}
-use Rattle.triangulation.specs.Triangulations.{Problem, ValidProblem, sum, keep, joined, allBelow, longEdge, shortEdge, countBetween, countOutside, totalWeight, preorderFrom, preorder, isBoundary, edgeOk, isTriangulation}
+use Rattle.lists.specs.Sums.{sum, keep, joined, allBelow}
+use Rattle.triangulation.specs.Triangulations.{Problem, ValidProblem, longEdge, shortEdge, countBetween, countOutside, totalWeight, preorderFrom, preorder, isBoundary, edgeOk, isTriangulation}
 use Rattle.triangulation.proofs.Sums.{Mem, count, sum-same, count-mono, mem-count, Any, any, none, some, One, one, the-one}
 use Rattle.triangulation.proofs.Parts.{Part, edge, node, boundary, between-le, isStep, IsEdge, IsStep, isEdge-cases, isStep-cases}
 use Rattle.triangulation.proofs.Parts as W

@@ -10,7 +10,7 @@ use lib.Dec.{eqb}
 use lib.ListN.{length, getD}
 use borrow.Author.Tests.{eqb-true, eq-eqb}
 use Rattle.lists.proofs.Members.{entry-member}
-use Rattle.triangulation.specs.Triangulations.{only, sum, keep}
+use Rattle.lists.specs.Sums.{only, sum, keep}
 
 abbrev pub Mem : ℕ → List ℕ → Type 0
 Mem k s = List·Memᴰ k s

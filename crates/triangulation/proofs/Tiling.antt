@@ -10,7 +10,8 @@ use lib.ListN.{length, getD}
 use lib.Dec.{eqb}
 use borrow.Author.Tests.{eqb-true, eqb-false, eq-eqb}
 use Rattle.lists.proofs.Members.{Ascending, empty, more, ascending-at, member-entry}
-use Rattle.triangulation.specs.Triangulations.{Problem, ValidProblem, upFrom, subsets, longEdge, shortEdge, countBetween, countOutside, isBoundary, edgeOk, isTriangulation}
+use Rattle.lists.specs.Sums.{numbersFrom}
+use Rattle.triangulation.specs.Triangulations.{Problem, ValidProblem, subsets, longEdge, shortEdge, countBetween, countOutside, isBoundary, edgeOk, isTriangulation}
 use Rattle.triangulation.specs.Demand3.{Triangulates}
 use Rattle.triangulation.specs.Tiling.{RimEdge, to-next, closing, ExactlyOne, of-ab, of-bc, of-ac, HasEdge, edge, Between, between, Outside, before, after, Inner, unused, in-two, Tiling}
 use Rattle.triangulation.proofs.Sums.{Mem, count, mem-keep, the-one, One, one, mem-count, Any, any, none, some}
@@ -25,12 +26,12 @@ use Rattle.triangulation.proofs.Demand3.{Split, with-it, without, split
 abbrev Ascends : List ℕ → Type 0
 Ascends s = Ascending (λ x y. x < y) s
 
-subset-ascends : (i c : ℕ) (s : List ℕ) → List·Memᴰ s (subsets (upFrom i c)) → Ascends s
+subset-ascends : (i c : ℕ) (s : List ℕ) → List·Memᴰ s (subsets (numbersFrom i c)) → Ascends s
 subset-ascends i zero s m = ⊎-elim (λ e. rw e empty) (λ z. absurd (List·Memᴰ·not-nil z)) (List·Memᴰ·cases-cons m)
 subset-ascends i (suc c) s m = go (split i c s m) (λ r n. subset-ascends (suc i) c r n)
   where
-    go : Split i c s → ((r : List ℕ) → List·Memᴰ r (subsets (upFrom (suc i) c)) → Ascends r) → Ascends s
-    go (with-it r n e) ih = rw e (more {x = i} (λ k (q : Mem k r). omega (arith, upFrom-mem (suc i) c k (subset-mem (upFrom (suc i) c) r n k q))) (ih r n))
+    go : Split i c s → ((r : List ℕ) → List·Memᴰ r (subsets (numbersFrom (suc i) c)) → Ascends r) → Ascends s
+    go (with-it r n e) ih = rw e (more {x = i} (λ k (q : Mem k r). omega (arith, upFrom-mem (suc i) c k (subset-mem (numbersFrom (suc i) c) r n k q))) (ih r n))
     go (without n) ih = ih s n
 
 ascends : (s : List ℕ) → ((x y : ℕ) → x < y → y < length s → getD s x 0 < getD s y 0) → Ascends s
@@ -39,19 +40,19 @@ ascends (x ∷ s) h =
     more {x = x} (λ k m. let e = member-entry s 0 k m in omega (arith, h 0 (suc (e .at)) (omega arith) (omega (arith, e .below)), e .is))
     (ascends s (λ u v l m. h (suc u) (suc v) (omega arith) (omega arith)))
 
-ascends-subset : (i c : ℕ) (s : List ℕ) → Ascends s → ((k : ℕ) → Mem k s → (i ≤ k) × (k < i + c)) → List·Memᴰ s (subsets (upFrom i c))
+ascends-subset : (i c : ℕ) (s : List ℕ) → Ascends s → ((k : ℕ) → Mem k s → (i ≤ k) × (k < i + c)) → List·Memᴰ s (subsets (numbersFrom i c))
 ascends-subset i zero [] a h = List·Memᴰ·head refl
 ascends-subset i zero (x ∷ s) a h = absurd (omega (arith, h x (List·Memᴰ·head refl)))
-ascends-subset i (suc c) [] a h = Memᴰ·append-right (map (λ r. i ∷ r) (subsets (upFrom (suc i) c))) (ascends-subset (suc i) c [] empty (λ k m. absurd (List·Memᴰ·not-nil m)))
+ascends-subset i (suc c) [] a h = Memᴰ·append-right (map (λ r. i ∷ r) (subsets (numbersFrom (suc i) c))) (ascends-subset (suc i) c [] empty (λ k m. absurd (List·Memᴰ·not-nil m)))
 ascends-subset i (suc c) (x ∷ s) (more hx hs) h = go (eqb x i) refl (λ t a b. ascends-subset (suc i) c t a b)
   where
     later : (k : ℕ) → Mem k s → (suc i ≤ k) × (k < suc i + c)
     later k m = let l : x < k = hx k m in (omega (arith, h x (List·Memᴰ·head refl)), omega (arith, h k (List·Memᴰ·tail m)))
 
-    go : (b : Bool) → eqb x i ≡ b → ((t : List ℕ) → Ascends t → ((k : ℕ) → Mem k t → (suc i ≤ k) × (k < suc i + c)) → List·Memᴰ t (subsets (upFrom (suc i) c)))
-        → List·Memᴰ (x ∷ s) (subsets (upFrom i (suc c)))
-    go true e ih = rw (eqb-true x i e) (Memᴰ·append-left (subsets (upFrom (suc i) c)) (mem-map (λ r. i ∷ r) s (subsets (upFrom (suc i) c)) (ih s hs later)))
-    go false e ih = Memᴰ·append-right (map (λ r. i ∷ r) (subsets (upFrom (suc i) c))) (ih (x ∷ s) (more hx hs) whole)
+    go : (b : Bool) → eqb x i ≡ b → ((t : List ℕ) → Ascends t → ((k : ℕ) → Mem k t → (suc i ≤ k) × (k < suc i + c)) → List·Memᴰ t (subsets (numbersFrom (suc i) c)))
+        → List·Memᴰ (x ∷ s) (subsets (numbersFrom i (suc c)))
+    go true e ih = rw (eqb-true x i e) (Memᴰ·append-left (subsets (numbersFrom (suc i) c)) (mem-map (λ r. i ∷ r) s (subsets (numbersFrom (suc i) c)) (ih s hs later)))
+    go false e ih = Memᴰ·append-right (map (λ r. i ∷ r) (subsets (numbersFrom (suc i) c))) (ih (x ∷ s) (more hx hs) whole)
       where
         whole : (k : ℕ) → Mem k (x ∷ s) → (suc i ≤ k) × (k < suc i + c)
         whole k m = ⊎-elim (λ q. (omega (arith, h x (List·Memᴰ·head refl), eqb-false x i e), omega (arith, h k m))) (λ q. later k q) (List·Memᴰ·cases-cons m)

@@ -5,11 +5,12 @@ use mathlib.Core.Logic.{_≢_}
 use mathlib.Core.Bool.{true}
 use mathlib.Core.List.{List, _∷_, List·Memᴰ}
 use lib.ListN.{length, getD}
-use Rattle.triangulation.specs.Triangulations.{Problem, Answer, none, patch, upFrom, subsets, isTriangulation, totalWeight, preorder}
+use Rattle.lists.specs.Sums.{numbersFrom}
+use Rattle.triangulation.specs.Triangulations.{Problem, Answer, none, patch, subsets, isTriangulation, totalWeight, preorder}
 
 -- the set s of candidates is a tiling (rule 3.3), by the test; `Tiling` of Tiling.antt says the same of vertices and triangles
 abbrev pub Triangulates : Problem → List ℕ → Type 0
-Triangulates job s = List·Memᴰ s (subsets (upFrom 0 (job .size))) × (isTriangulation job s ≡ true)
+Triangulates job s = List·Memᴰ s (subsets (numbersFrom 0 (job .size))) × (isTriangulation job s ≡ true)
 
 -- the first list has the smaller number where the two first differ (rule 3.6)
 pub data Earlier : List ℕ → List ℕ → Type 0 where

@@ -4,7 +4,8 @@ use mathlib.Core.Bool.{cond}
 use mathlib.Core.List.{List, [], _∷_, _++_, map}
 use lib.Dec.{eqb}
 use Rattle.terms.specs.Limits.{maxVertices, maxWeight}
-use Rattle.triangulation.specs.Triangulations.{Problem, keep, upFrom, least, longEdge}
+use Rattle.lists.specs.Sums.{keep, numbersFrom}
+use Rattle.triangulation.specs.Triangulations.{Problem, least, longEdge}
 
 -- a key whose total has a row's weight added
 abbrev pub addRow : ℕ → List ℕ → List ℕ
@@ -40,7 +41,7 @@ module _ (job : Problem) where
   unfoldable pub bestUnder : ℕ → ℕ → ℕ → ℕ → List ℕ
   bestUnder zero t i j = []
   bestUnder (suc f) t i j = cond (eqb j (i + 1)) (0 ∷ [])
-      (least (map (λ u. addRow (job .row t u) (join (job .weight u) u (bestUnder f u (job .a u) (job .b u)) (bestUnder f u (job .b u) (job .c u)))) (keep (longEdge job i j) (upFrom 0 (job .size)))))
+      (least (map (λ u. addRow (job .row t u) (join (job .weight u) u (bestUnder f u (job .a u) (job .b u)) (bestUnder f u (job .b u) (job .c u)))) (keep (longEdge job i j) (numbersFrom 0 (job .size)))))
 
   -- the best key that starts with triangle u
   unfoldable pub bestFrom : ℕ → ℕ → List ℕ

@@ -4,6 +4,7 @@ use Prim.Native.Nat.{ℕ, zero, suc, _+_, _-_, _≤_, _<_}
 use mathlib.Core.Bool.{Bool, true, false, cond, _&&_, _||_}
 use mathlib.Core.List.{List, [], _∷_, _++_, map}
 use lib.Dec.{ltb, eqb}
+use Rattle.lists.specs.Sums.{only, sum, keep, joined, allBelow, numbersFrom}
 
 -- A job has n vertices and `size` candidates, numbered from 0 (rule 3.1). Candidate k is the triangle (a k, b k, c k) and weighs `weight k`.
 -- `row o i` is the weight of the row with outer o and inner i, and 0 where there is none (rule 3.4).
@@ -27,36 +28,6 @@ pub record ValidProblem (job : Problem) : Type 0 where
 pub data Answer : Type 0 where
   none : Answer
   patch : ℕ → List ℕ → Answer
-
--- v where the test holds, and 0 where not
-abbrev pub only : Bool → ℕ → ℕ
-only true v = v
-only false v = 0
-
--- the sum of f over a list
-abbrev pub sum : (ℕ → ℕ) → List ℕ → ℕ
-sum f [] = 0
-sum f (x ∷ xs) = f x + sum f xs
-
--- the elements that pass a test
-abbrev pub keep : {A : Type 0} → (A → Bool) → List A → List A
-keep p [] = []
-keep p (x ∷ xs) = cond (p x) (x ∷ keep p xs) (keep p xs)
-
--- f of each element, one list after another
-abbrev pub joined : (ℕ → List ℕ) → List ℕ → List ℕ
-joined f [] = []
-joined f (x ∷ xs) = f x ++ joined f xs
-
--- whether every number below k passes a test
-abbrev pub allBelow : ℕ → (ℕ → Bool) → Bool
-allBelow zero p = true
-allBelow (suc k) p = allBelow k p && p k
-
--- k numbers from i on, in ascending order
-abbrev pub upFrom : ℕ → ℕ → List ℕ
-upFrom i zero = []
-upFrom i (suc k) = i ∷ upFrom (suc i) k
 
 -- the subsets of a list, each in the list's order (rule 3.3)
 abbrev pub subsets : List ℕ → List (List ℕ)
@@ -130,7 +101,7 @@ module _ (job : Problem) where
 
   -- all sets of candidates that are triangulations (rule 3.3)
   abbrev pub triangulations : List (List ℕ)
-  triangulations = keep isTriangulation (subsets (upFrom 0 (job .size)))
+  triangulations = keep isTriangulation (subsets (numbersFrom 0 (job .size)))
 
   -- of all triangulations the least total, and of several the earliest in preorder; [] where there is none (rule 3.7)
   unfoldable pub bestKey : List ℕ

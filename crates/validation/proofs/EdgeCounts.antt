@@ -13,7 +13,8 @@ use Rattle.lists.proofs.Choice.{Truth, truth, holds, fails}
 use Rattle.lists.proofs.Members.{entry-member}
 use Rattle.terms.specs.Limits.{maxVertices}
 use Rattle.terms.specs.Entries.{entryAt, vertexA, vertexB, vertexC}
-use Rattle.triangulation.specs.Triangulations.{only, longEdge, shortEdge, countBetween, countOutside, isBoundary, edgeOk, isTriangulation}
+use Rattle.lists.specs.Sums.{only}
+use Rattle.triangulation.specs.Triangulations.{longEdge, shortEdge, countBetween, countOutside, isBoundary, edgeOk, isTriangulation}
 use Rattle.triangulation.specs.Problems.{problemFrom}
 use Rattle.triangulation.proofs.SetParts.{either-split}
 use Rattle.triangulation.proofs.PartsToSets.{only-le}

@@ -8,7 +8,7 @@ use native.Mathlib.Numerals.{add-one}
 use lib.ListN.{length, getD, take}
 use lib.Seq.{take-suc}
 use Rattle.lists.proofs.Choice.{not-true-false, true-not-false}
-use Rattle.triangulation.specs.Triangulations.{sum, allBelow}
+use Rattle.lists.specs.Sums.{sum, allBelow}
 use Rattle.triangulation.proofs.Sums.{sum-append}
 use Rattle.triangulation.proofs.SetParts.{and-true}
 use Rattle.triangulation.proofs.SetsToParts.{below-true}

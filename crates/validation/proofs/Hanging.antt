@@ -4,9 +4,8 @@ use mathlib.Core.Bool.{Bool, true, false, _&&_, _||_}
 use mathlib.Core.List.{List}
 use Prim.Native.Nat.{ℕ}
 use lib.Dec.{eqb}
-use Rattle.terms.specs.Entries.{entryAt, vertexA, vertexB, vertexC}
+use Rattle.terms.specs.Entries.{entryAt, vertexA, vertexB, vertexC, hangs}
 use Rattle.lists.specs.Lists.{both, either}
-use Rattle.jobs.specs.Job.{hangs}
 use Rattle.triangulation.specs.Triangulations.{shortEdge}
 use Rattle.triangulation.specs.Problems.{problemFrom}
 use Rattle.triangulation.proofs.SetParts.{eqb-sym}

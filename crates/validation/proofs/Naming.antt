@@ -9,7 +9,8 @@ use native.Mathlib.Nat.{le-antisymm}
 use lib.Dec.{eqb, ltb, leb}
 use borrow.Author.Tests.{eqb-true, eq-eqb, ltb-true, lt-ltb}
 use Rattle.lists.proofs.Choice.{Truth, truth, holds, fails}
-use Rattle.triangulation.specs.Triangulations.{Problem, only, sum, upFrom, subsets, isTriangulation}
+use Rattle.lists.specs.Sums.{only, sum, numbersFrom}
+use Rattle.triangulation.specs.Triangulations.{Problem, subsets, isTriangulation}
 use Rattle.triangulation.specs.Demand3.{Triangulates}
 use Rattle.triangulation.proofs.Sums.{Mem, count, sum-ext, sum-same, mem-count, mem-keep, keep-mem, Any, any, none, some}
 use Rattle.triangulation.proofs.SetParts.{and-true, and-left, and-right, eqb-sym}
@@ -65,20 +66,20 @@ module _ (job : Problem) (list : List ℕ) where
   pub named-mem : (k : ℕ) → Mem k (named job list) → (k < job .size) × Mem k list
   unfolding named
   named-mem k m =
-      let d = keep-mem (λ k. ltb 0 (times k list)) k (upFrom 0 (job .size)) m in
+      let d = keep-mem (λ k. ltb 0 (times k list)) k (numbersFrom 0 (job .size)) m in
       (omega (arith, upFrom-mem 0 (job .size) k (d .0)), mem-times k list (ltb-true 0 (times k list) (d .1)))
 
   pub mem-named : (k : ℕ) → k < job .size → Mem k list → Mem k (named job list)
   unfolding named
-  mem-named k h m = mem-keep (λ k. ltb 0 (times k list)) k (upFrom 0 (job .size)) (mem-upFrom 0 (job .size) k (omega arith) (omega arith)) (lt-ltb 0 (times k list) (times-mem k list m))
+  mem-named k h m = mem-keep (λ k. ltb 0 (times k list)) k (numbersFrom 0 (job .size)) (mem-upFrom 0 (job .size) k (omega arith) (omega arith)) (lt-ltb 0 (times k list) (times-mem k list m))
 
   named-once : (k : ℕ) → times k (named job list) ≤ 1
   unfolding named
-  named-once k = omega (arith, count-keep (λ x. eqb x k) (λ k. ltb 0 (times k list)) (upFrom 0 (job .size)), upFrom-once 0 (job .size) k, only-le (leb 0 k))
+  named-once k = omega (arith, count-keep (λ x. eqb x k) (λ k. ltb 0 (times k list)) (numbersFrom 0 (job .size)), upFrom-once 0 (job .size) k, only-le (leb 0 k))
 
-  pub named-subset : List·Memᴰ (named job list) (subsets (upFrom 0 (job .size)))
+  pub named-subset : List·Memᴰ (named job list) (subsets (numbersFrom 0 (job .size)))
   unfolding named
-  named-subset = keep-subset (λ k. ltb 0 (times k list)) (upFrom 0 (job .size))
+  named-subset = keep-subset (λ k. ltb 0 (times k list)) (numbersFrom 0 (job .size))
 
   -- a sum over the set is the sum over the list
   pub named-sum : Names (job .size) list → (f : ℕ → ℕ) → sum f (named job list) ≡ sum f list

@@ -8,7 +8,8 @@ use lib.ListN.{length}
 use lib.Dec.{eqb}
 use borrow.Author.Tests.{eqb-true}
 use Rattle.lists.proofs.Choice.{Truth, truth, holds, fails, true-not-false, not-true-false}
-use Rattle.triangulation.specs.Triangulations.{Problem, ValidProblem, only, sum, longEdge, shortEdge, countBetween, countOutside, isBoundary, edgeOk, isTriangulation, totalWeight}
+use Rattle.lists.specs.Sums.{only, sum}
+use Rattle.triangulation.specs.Triangulations.{Problem, ValidProblem, longEdge, shortEdge, countBetween, countOutside, isBoundary, edgeOk, isTriangulation, totalWeight}
 use Rattle.triangulation.proofs.Sums.{Mem, sum-ext, count-mono}
 use Rattle.triangulation.proofs.SetParts.{longEdge-is}
 use Rattle.triangulation.proofs.SetsToParts.{triangulation-set}

@@ -8,7 +8,8 @@ use lib.Dec.{eqb, ltb}
 use Rattle.lists.specs.Lists.{every, both}
 use Rattle.terms.specs.Limits.{maxVertices}
 use Rattle.terms.specs.Entries.{entryAt, vertexA, vertexB, vertexC}
-use Rattle.triangulation.specs.Triangulations.{Problem, only, sum, allBelow, longEdge, shortEdge, isBoundary, edgeOk}
+use Rattle.lists.specs.Sums.{only, sum, allBelow}
+use Rattle.triangulation.specs.Triangulations.{Problem, longEdge, shortEdge, isBoundary, edgeOk}
 use Rattle.triangulation.specs.Problems.{problemFrom}
 
 -- the place of the edge (i, j), and how many places there are

@@ -2,7 +2,8 @@
 use Prim.Native.Nat.{ℕ}
 use mathlib.Core.List.{List}
 use Rattle.terms.specs.Entries.{entryAt, vertexA, vertexC}
-use Rattle.triangulation.specs.Triangulations.{only, sum, shortEdge}
+use Rattle.lists.specs.Sums.{only, sum}
+use Rattle.triangulation.specs.Triangulations.{shortEdge}
 use Rattle.triangulation.specs.Problems.{pairWeight}
 use Rattle.validation.specs.Edges.{candidatesAlone}
 

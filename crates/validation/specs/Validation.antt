@@ -4,7 +4,8 @@ use mathlib.Core.Bool.{Bool, true, _&&_}
 use mathlib.Core.List.{List, [], _∷_}
 use lib.Dec.{eqb, ltb}
 use Rattle.jobs.specs.Job.{unless}
-use Rattle.triangulation.specs.Triangulations.{Problem, only, sum, keep, upFrom, isTriangulation, totalWeight}
+use Rattle.lists.specs.Sums.{only, sum, keep, numbersFrom}
+use Rattle.triangulation.specs.Triangulations.{Problem, isTriangulation, totalWeight}
 
 -- how often k stands in a list (rule 3.13)
 abbrev pub times : ℕ → List ℕ → ℕ
@@ -18,7 +19,7 @@ distinctCandidates size (k ∷ list) = ltb k size && (eqb (times k list) 0 && di
 module _ (job : Problem) where
   -- the set of the candidates that the list names, in whatever order it does (rule 3.13)
   unfoldable pub named : List ℕ → List ℕ
-  named list = keep (λ k. ltb 0 (times k list)) (upFrom 0 (job .size))
+  named list = keep (λ k. ltb 0 (times k list)) (numbersFrom 0 (job .size))
 
   -- the list is a tiling without repeats (rule 3.13)
   unfoldable pub isTiling : List ℕ → Bool

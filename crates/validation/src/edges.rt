@@ -5,7 +5,8 @@ ghost use mathlib.Core.List.{[]};
 ghost use lib.ListN.{replicate};
 ghost use Rattle.terms.specs.Limits.{maxVertices};
 ghost use Rattle.terms.specs.Entries.{vertexA, vertexB, vertexC};
-ghost use Rattle.triangulation.specs.Triangulations.{isBoundary, edgeOk, allBelow, isTriangulation};
+ghost use Rattle.lists.specs.Sums.{allBelow};
+ghost use Rattle.triangulation.specs.Triangulations.{isBoundary, edgeOk, isTriangulation};
 ghost use Rattle.triangulation.specs.Problems.{problemFrom};
 ghost use Rattle.validation.specs.Edges.{edgeAt, edgePlaces, added, Room, Triangles, Counted, verticesAlone, edgeFits, edgesFit};
 

@@ -16,7 +16,8 @@ use Rattle.polygon.specs.Normal.{noNormal, normalAt}
 use Rattle.terms.specs.Entries.{vertexA, vertexB, vertexC}
 use Rattle.dihedrals.specs.Dihedrals.{faceNormal}
 use Rattle.weights.specs.Weights.{edgeNormal, outsideWeightOf, outsideWeight, areaWeight, ownWeight}
-use Rattle.weights.specs.RimEdges.{sumOf, nextVertex, isCorner, hasRimEdge, rimBend, rimBends}
+use Rattle.lists.specs.Sums.{sumBelow}
+use Rattle.weights.specs.RimEdges.{nextVertex, isCorner, hasRimEdge, rimBend, rimBends}
 use Rattle.weights.proofs.Surfaces.{of-the-next, of-the-last, not-from-0, not-to-the-last, outside-none}
 
 same-or-not : (x y : ℕ) → (x ≡ y) ⊎ (x ≡ y → ⊥)
@@ -27,23 +28,23 @@ same-or-not x y = by (eqb x y) refl
     by false e = inr (eqb-false x y e)
 
 -- ---- sums: places where f is 0 add nothing
-skip : (f : ℕ → ℕ) (hi lo : ℕ) → lo ≤ hi → ((i : ℕ) → lo ≤ i → i < hi → f i ≡ 0) → sumOf hi f ≡ sumOf lo f
-unfolding sumOf
-skip f zero lo l h = let z : 0 ≡ lo = omega arith in ap (λ (k : ℕ). sumOf k f) z
+skip : (f : ℕ → ℕ) (hi lo : ℕ) → lo ≤ hi → ((i : ℕ) → lo ≤ i → i < hi → f i ≡ 0) → sumBelow hi f ≡ sumBelow lo f
+unfolding sumBelow
+skip f zero lo l h = let z : 0 ≡ lo = omega arith in ap (λ (k : ℕ). sumBelow k f) z
 skip f (suc hi) lo l h = by (below-or-same lo (suc hi) l) (λ m. skip f hi lo m (λ i a b. h i a (omega arith)))
   where
-    by : (lo < suc hi) ⊎ (lo ≡ suc hi) → (lo ≤ hi → sumOf hi f ≡ sumOf lo f) → sumOf (suc hi) f ≡ sumOf lo f
-    by (inl m) rest = let below : lo ≤ hi = omega arith in (λ i. rest below i + h hi below (omega arith) i) ∙ add-zero (sumOf lo f)
-    by (inr e) rest = ap (λ (k : ℕ). sumOf k f) (sym e)
+    by : (lo < suc hi) ⊎ (lo ≡ suc hi) → (lo ≤ hi → sumBelow hi f ≡ sumBelow lo f) → sumBelow (suc hi) f ≡ sumBelow lo f
+    by (inl m) rest = let below : lo ≤ hi = omega arith in (λ i. rest below i + h hi below (omega arith) i) ∙ add-zero (sumBelow lo f)
+    by (inr e) rest = ap (λ (k : ℕ). sumBelow k f) (sym e)
 
 -- three places that may not be 0
-three : (f : ℕ → ℕ) (a b c n : ℕ) → a < b → b < c → c < n → ((i : ℕ) → i < n → (i ≡ a → ⊥) → (i ≡ b → ⊥) → (i ≡ c → ⊥) → f i ≡ 0) → sumOf n f ≡ f a + f b + f c
-unfolding sumOf
+three : (f : ℕ → ℕ) (a b c n : ℕ) → a < b → b < c → c < n → ((i : ℕ) → i < n → (i ≡ a → ⊥) → (i ≡ b → ⊥) → (i ≡ c → ⊥) → f i ≡ 0) → sumBelow n f ≡ f a + f b + f c
+unfolding sumBelow
 three f a b c n ab bc cn h =
-    let past-c : sumOf n f ≡ sumOf c f + f c = skip f n (suc c) cn (λ i l m. h i m (λ e. omega (arith, e)) (λ e. omega (arith, e)) (λ e. omega (arith, e))) in
-    let past-b : sumOf c f ≡ sumOf b f + f b = skip f c (suc b) bc (λ i l m. h i (omega arith) (λ e. omega (arith, e)) (λ e. omega (arith, e)) (λ e. omega (arith, e))) in
-    let past-a : sumOf b f ≡ sumOf a f + f a = skip f b (suc a) ab (λ i l m. h i (omega arith) (λ e. omega (arith, e)) (λ e. omega (arith, e)) (λ e. omega (arith, e))) in
-    let none : sumOf a f ≡ 0 = skip f a 0 (omega arith) (λ i l m. h i (omega arith) (λ e. omega (arith, e)) (λ e. omega (arith, e)) (λ e. omega (arith, e))) in
+    let past-c : sumBelow n f ≡ sumBelow c f + f c = skip f n (suc c) cn (λ i l m. h i m (λ e. omega (arith, e)) (λ e. omega (arith, e)) (λ e. omega (arith, e))) in
+    let past-b : sumBelow c f ≡ sumBelow b f + f b = skip f c (suc b) bc (λ i l m. h i (omega arith) (λ e. omega (arith, e)) (λ e. omega (arith, e)) (λ e. omega (arith, e))) in
+    let past-a : sumBelow b f ≡ sumBelow a f + f a = skip f b (suc a) ab (λ i l m. h i (omega arith) (λ e. omega (arith, e)) (λ e. omega (arith, e)) (λ e. omega (arith, e))) in
+    let none : sumBelow a f ≡ 0 = skip f a 0 (omega arith) (λ i l m. h i (omega arith) (λ e. omega (arith, e)) (λ e. omega (arith, e)) (λ e. omega (arith, e))) in
     omega (arith, past-c, past-b, past-a, none)
 
 module _ (p : Polygon) (t : List ℕ) (ab : vertexA t < vertexB t) (bc : vertexB t < vertexC t) (cn : vertexC t < p .n) where

@@ -3,6 +3,7 @@ use mathlib.Core.Bool.{Bool, cond}
 use mathlib.Core.List.{List}
 use Prim.Native.Nat.{ℕ, zero, suc, _+_, _*_}
 use lib.Dec.{eqb}
+use Rattle.lists.specs.Sums.{sumBelow}
 use Rattle.lists.specs.Lists.{both, either}
 use Rattle.polygon.specs.declared.Polygon.{Polygon}
 use Rattle.polygon.specs.Normal.{isNone, normalAt}
@@ -10,11 +11,6 @@ use Rattle.geometry.specs.Faces.{bendBetween}
 use Rattle.terms.specs.Entries.{vertexA, vertexB, vertexC}
 use Rattle.dihedrals.specs.Dihedrals.{faceNormal}
 use Rattle.weights.specs.Weights.{vectorOf}
-
--- f 0 + f 1 + .. + f (k - 1)
-unfoldable pub sumOf : ℕ → (ℕ → ℕ) → ℕ
-sumOf zero f = 0
-sumOf (suc k) f = sumOf k f + f k
 
 -- the vertex after i on a rim of n vertices: vertex 0 after the last (rule 1.14)
 abbrev pub nextVertex : ℕ → ℕ → ℕ
@@ -35,4 +31,4 @@ rimBend p t i =
 
 -- the sum over the rim edges of candidate t (rule 2.15)
 abbrev pub rimBends : Polygon → List ℕ → ℕ
-rimBends p t = sumOf (p .n) (λ i. cond (hasRimEdge (p .n) t i) (rimBend p t i) 0)
+rimBends p t = sumBelow (p .n) (λ i. cond (hasRimEdge (p .n) t i) (rimBend p t i) 0)

@@ -1,7 +1,7 @@
 -- `jobs::pairs::hangs_on` meets its contract. Assumes nothing.
 use mathlib.Core.Path.{sym, _∙_}
 use Rattle.lists.proofs.Choice.{yes, no}
-use Rattle.jobs.specs.Job.{hangs}
+use Rattle.terms.specs.Entries.{hangs}
 use borrow.Author.Needs.{needs}
 use Rattle.jobs.proofs.pairs.hangs_on.Statement.{statement}
 use Rattle.jobs.proofs.pairs.hangs_on.Tie as tie

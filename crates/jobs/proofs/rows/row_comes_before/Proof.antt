@@ -2,7 +2,7 @@
 use mathlib.Core.Path.{sym, _∙_}
 use borrow.Author.Tests.{le-ltb, lt-ltb, eq-eqb, ne-eqb}
 use Rattle.lists.proofs.Choice.{yes, no}
-use Rattle.jobs.specs.Job.{rowBefore}
+use Rattle.terms.specs.Entries.{rowBefore}
 use borrow.Author.Needs.{needs}
 use Rattle.jobs.proofs.rows.row_comes_before.Statement.{statement}
 use Rattle.jobs.proofs.rows.row_comes_before.Tie as tie

@@ -4,7 +4,7 @@ use mathlib.Core.Path.{_≡_, refl, sym, ap, _∙_}
 use mathlib.Core.Bool.{true}
 use native.Mathlib.Omega.{arith}
 use borrow.Author.Tests.{not-true, not-false}
-use Rattle.triangulation.specs.Triangulations.{allBelow}
+use Rattle.lists.specs.Sums.{allBelow}
 use Rattle.validation.specs.Edges.{edgeFits}
 use Rattle.validation.proofs.Fronts.{below-next, below-stop}
 use Rattle.validation.proofs.edges.edges_fit.Statement.{statement}

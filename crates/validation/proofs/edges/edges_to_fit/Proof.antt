@@ -5,7 +5,8 @@ use mathlib.Core.Bool.{true}
 use native.Mathlib.Omega.{arith}
 use lib.ListN.{getD}
 use borrow.Author.Tests.{not-true, not-false}
-use Rattle.triangulation.specs.Triangulations.{allBelow, isBoundary, edgeOk}
+use Rattle.lists.specs.Sums.{allBelow}
+use Rattle.triangulation.specs.Triangulations.{isBoundary, edgeOk}
 use Rattle.validation.specs.Edges.{verticesAlone, edgeFits}
 use Rattle.validation.proofs.Fronts.{below-next, below-stop}
 use Rattle.validation.proofs.edges.edges_to_fit.Statement.{statement}

@@ -4,7 +4,7 @@ use mathlib.Core.List.{[]}
 use native.Mathlib.Omega.{arith}
 use lib.ListN.{getD}
 use Rattle.lists.proofs.Choice.{holds-via, fails-via}
-use Rattle.triangulation.specs.Triangulations.{only}
+use Rattle.lists.specs.Sums.{only}
 use Rattle.triangulation.specs.Problems.{pairWeight}
 use Rattle.validation.proofs.Hanging.{hangs-is}
 use Rattle.validation.proofs.EdgeCounts.{triangle-at}

@@ -4,7 +4,7 @@ use mathlib.Core.Path.{_≡_, refl, sym, ap, ap₂, _∙_}
 use native.Mathlib.Omega.{arith}
 use lib.ListN.{length, take}
 use lib.Seq.{take-length}
-use Rattle.triangulation.specs.Triangulations.{sum}
+use Rattle.lists.specs.Sums.{sum}
 use Rattle.validation.specs.Totals.{hangingRow}
 use Rattle.validation.proofs.Fronts.{sum-next}
 use Rattle.validation.proofs.totals.hanging_rows.Statement.{statement}

@@ -4,7 +4,8 @@ use mathlib.Core.Path.{_≡_, refl, sym, ap, ap₂, _∙_}
 use native.Mathlib.Omega.{arith}
 use lib.ListN.{length, getD, take}
 use lib.Seq.{take-length}
-use Rattle.triangulation.specs.Triangulations.{sum, totalWeight}
+use Rattle.lists.specs.Sums.{sum}
+use Rattle.triangulation.specs.Triangulations.{totalWeight}
 use Rattle.triangulation.specs.Problems.{problemFrom}
 use Rattle.validation.proofs.Tilings.{share}
 use Rattle.validation.proofs.Fronts.{sum-next}
