@@ -12,7 +12,7 @@ use Rattle.planar.specs.Circles.{collinear}
 use Rattle.lists.specs.Lists.{both, either, every, some}
 use Rattle.lists.proofs.Choice.{Truth, truth, holds, fails, yes, no, true-not-false, not-true-false, both-left, both-right, both-true, either-left, either-right, either-cases}
 use Rattle.lists.proofs.Ranges.{every-at, every-all, some-found, some-here}
-use Rattle.faces.specs.Faces.{sameTriple, isFace, isCorner}
+use Rattle.faces.specs.Faces.{sameTriple, isFace, isOneOf}
 use Rattle.faces.proofs.Sets.{triple-same, same-triple}
 use Rattle.faces.proofs.Threes.{three-found, three-here}
 use Rattle.faces.proofs.Fours.{four-found, four-here}
@@ -161,10 +161,10 @@ module _ (p : Polygon) where
 
 -- ---- 12
 -- a vertex that is none of three corners, as a test and as a statement
-not-corner : (a b c v : ℕ) → (v ≡ a → ⊥) → (v ≡ b → ⊥) → (v ≡ c → ⊥) → isCorner a b c v ≡ false
+not-corner : (a b c v : ℕ) → (v ≡ a → ⊥) → (v ≡ b → ⊥) → (v ≡ c → ⊥) → isOneOf a b c v ≡ false
 not-corner a b c v ha hb hc = λ i. either (ne-eqb v a ha i) (either (ne-eqb v b hb i) (ne-eqb v c hc i))
 
-corner-not : (a b c v : ℕ) → isCorner a b c v ≡ false → (v ≡ a → ⊥) × (v ≡ b → ⊥) × (v ≡ c → ⊥)
+corner-not : (a b c v : ℕ) → isOneOf a b c v ≡ false → (v ≡ a → ⊥) × (v ≡ b → ⊥) × (v ≡ c → ⊥)
 corner-not a b c v n = (
   λ h. true-not-false (either-left (eqb v a) _ (eq-eqb v a h)) n,
   λ h. true-not-false (either-right (eqb v a) _ (either-left (eqb v b) _ (eq-eqb v b h))) n,
@@ -181,7 +181,7 @@ module _ (p : Polygon) where
       let f = four-found (p .n) hasFifth e in
       let s = some 0 (p .n) (isFifth p (f .a) (f .b) (f .c) (f .d)) in
       let g = some-found 0 (p .n) (isFifth p (f .a) (f .b) (f .c) (f .d)) (both-right (counts p (f .a) (f .b) (f .c) (f .d)) s (f .holds-of)) in
-      let corner = isCorner (f .a) (f .b) (f .c) (g .at) in
+      let corner = isOneOf (f .a) (f .b) (f .c) (g .at) in
       let on = onFour p (f .a) (f .b) (f .c) (f .d) (g .at) in
       let n = not-true _ (both-left (not (either corner (eqb (g .at) (f .d)))) on (g .true-at)) in
       let apart = corner-not (f .a) (f .b) (f .c) (g .at) (not-true-false corner (λ h. true-not-false (either-left corner _ h) n)) in
@@ -203,7 +203,7 @@ module _ (p : Polygon) where
   true-fifth : Cospherical p → cospherical p ≡ true
   unfolding cospherical
   true-fifth r =
-      let apart : either (isCorner (r .a) (r .b) (r .c) (r .fifth)) (eqb (r .fifth) (r .d)) ≡ false = (λ i. either (not-corner (r .a) (r .b) (r .c) (r .fifth) (r .not-a) (r .not-b) (r .not-c) i) (ne-eqb (r .fifth) (r .d) (r .not-d) i)) in
+      let apart : either (isOneOf (r .a) (r .b) (r .c) (r .fifth)) (eqb (r .fifth) (r .d)) ≡ false = (λ i. either (not-corner (r .a) (r .b) (r .c) (r .fifth) (r .not-a) (r .not-b) (r .not-c) i) (ne-eqb (r .fifth) (r .d) (r .not-d) i)) in
       four-here (p .n) hasFifth (record {
         a = r .a;
         b = r .b;
@@ -225,7 +225,7 @@ module _ (p : Polygon) where
       let f = three-found (p .n) hasFourth e in
       let s = some 0 (p .n) (isFourth p (f .a) (f .b) (f .c)) in
       let g = some-found 0 (p .n) (isFourth p (f .a) (f .b) (f .c)) (both-right (countsInPlane p (f .a) (f .b) (f .c)) s (f .holds-of)) in
-      let corner = isCorner (f .a) (f .b) (f .c) (g .at) in
+      let corner = isOneOf (f .a) (f .b) (f .c) (g .at) in
       let on = onThree p (f .a) (f .b) (f .c) (g .at) in
       let apart = corner-not (f .a) (f .b) (f .c) (g .at) (not-true _ (both-left (not corner) on (g .true-at))) in
       record {

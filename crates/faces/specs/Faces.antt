@@ -10,8 +10,8 @@ abbrev pub sameTriple : ℕ → ℕ → ℕ → ℕ → ℕ → ℕ → Bool
 sameTriple a b c x y z = both (eqb a x) (both (eqb b y) (eqb c z))
 
 -- vertex v is one of the three (rule 4.12)
-abbrev pub isCorner : ℕ → ℕ → ℕ → ℕ → Bool
-isCorner a b c v = either (eqb v a) (either (eqb v b) (eqb v c))
+abbrev pub isOneOf : ℕ → ℕ → ℕ → ℕ → Bool
+isOneOf a b c v = either (eqb v a) (either (eqb v b) (eqb v c))
 
 -- (x, y, z) is a face of the four (a, b, c, d) (rule 2.4)
 unfoldable pub isFace : ℕ → ℕ → ℕ → ℕ → ℕ → ℕ → ℕ → Bool
