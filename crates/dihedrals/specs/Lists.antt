@@ -1,7 +1,7 @@
 -- What functions ask of a list of candidates and say to each other; nobody has to believe it.
 use mathlib.Core.List.{List}
 use mathlib.Core.Path.{_≡_}
-use Prim.Native.Nat.{ℕ, _<_}
+use Prim.Native.Nat.{ℕ, _≤_, _<_}
 use lib.ListN.{length}
 use Rattle.polygon.specs.declared.Polygon.{Polygon}
 use Rattle.polygon.specs.Polygon.{ValidPolygon}
@@ -9,8 +9,9 @@ use Rattle.geometry.specs.declared.Vector.{Vector}
 use Rattle.geometry.specs.Bounds.{maxNormal, Within}
 use Rattle.geometry.specs.Faces.{lengthOf}
 use Rattle.terms.specs.Entries.{entryAt, vertexA, vertexB, vertexC}
+use Rattle.blocks.specs.Blocks.{Starts}
 use Rattle.hinges.specs.Hinges.{Sorted}
-use Rattle.dihedrals.specs.Dihedrals.{faceNormal}
+use Rattle.dihedrals.specs.Dihedrals.{faceNormal, lengthsOf, rowsOf}
 
 -- a triple of the polygon's vertices
 pub record Corners (p : Polygon) (t : List ℕ) : Type 0 where
@@ -30,3 +31,8 @@ pub record Measured (normal : Vector) (m : ℕ) : Type 0 where
   pub within : Within maxNormal normal
   pub is : m ≡ lengthOf normal
   pub above-0 : 0 < m
+
+-- what the rows are written from: the candidates, where their blocks start, the lengths of their normals, and room for the rows
+abbrev pub RowsFrom : Polygon → List (List ℕ) → List ℕ → List ℕ → List (List ℕ) → Type 0
+RowsFrom p candidates starts lengths out =
+    (ProperCandidates p candidates) × (Starts candidates starts) × (lengths ≡ lengthsOf p candidates) × (length (rowsOf p candidates) ≤ length out)

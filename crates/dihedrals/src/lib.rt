@@ -9,9 +9,8 @@ ghost use lib.ListN.{length};
 ghost use Rattle.terms.specs.Limits.{maxTriples, maxBendFactor};
 ghost use Rattle.lists.specs.Lists.{filled};
 ghost use Rattle.geometry.specs.Faces.{bendBetween, bendWeightOf};
-ghost use Rattle.blocks.specs.Blocks.{Starts};
 ghost use Rattle.dihedrals.specs.Dihedrals.{lengthsOf, rowsOf};
-ghost use Rattle.dihedrals.specs.Lists.{ProperCandidates, Measured};
+ghost use Rattle.dihedrals.specs.Lists.{ProperCandidates, Measured, RowsFrom};
 
 // A vertex of a candidate, as an index.
 pub fn wide(x: u8) -> usize
@@ -55,7 +54,7 @@ pub fn write_rows(
     lengths: &[u32],
     out: &mut [[u32; 3]],
 )
-    requires { ⌜ (ProperCandidates p (now candidates)) × (Starts (now candidates) (now starts)) × (now lengths ≡ lengthsOf p (now candidates)) × (length (rowsOf p (now candidates)) ≤ length (now out)) ⌝ }
+    requires { ⌜ RowsFrom p (now candidates) (now starts) (now lengths) (now out) ⌝ }
     ensures { λ _. ⌜ now (out .exit) ≡ filled (rowsOf p (now (candidates .entry))) (now (out .entry)) ⌝ }
 {
     let factor = p.bend_factor;

@@ -1,9 +1,10 @@
 -- The sphere of the definitions: its four corners are on it, and no other point than its centre is as far from the four. Assumes nothing.
-use mathlib.Core.Path.{_≡_, sym, _∙_, ap}
+use mathlib.Core.Path.{_≡_, refl, sym, _∙_, ap}
 use mathlib.Core.List.{List, [], _∷_}
 use mathlib.Core.Bool.{true}
 use lib.IntN.{ℤ, pos, _-ℤ_, _*ℤ_, *ℤ-zero}
 use Rattle.grid.specs.declared.GridPoint.{GridPoint}
+use Rattle.grid.specs.Point.{point}
 use Rattle.geometry.specs.declared.Vector.{Vector}
 use Rattle.integers.proofs.Laws.{sub-zero, sub-self}
 use Rattle.integers.proofs.Order.{equal-is, no-divisor}
@@ -11,6 +12,29 @@ use Rattle.integers.proofs.Ring.{E, var, con, _:-_, _:*_, ring}
 use Rattle.geometry.specs.Vectors.{differenceOf, dotOf, crossOf, squareOf, scaledBy, plus, minus, opposite}
 use Rattle.geometry.specs.Spheres.{orientOf, centreOf, distanceOf, onSphere}
 use Rattle.geometry.proofs.Terms.{VectorE, vec, dotE, crossE, scaledE, plusE, minusE, oppositeE, orientE, centreE, distanceE, ofVectors}
+
+-- ---- a sphere, computed: through 0 and the point 2 of each axis, about (1, 1, 1)
+
+abbrev corner0 : GridPoint
+corner0 = point (pos 0) (pos 0) (pos 0)
+
+abbrev cornerX : GridPoint
+cornerX = point (pos 2) (pos 0) (pos 0)
+
+abbrev cornerY : GridPoint
+cornerY = point (pos 0) (pos 2) (pos 0)
+
+abbrev cornerZ : GridPoint
+cornerZ = point (pos 0) (pos 0) (pos 2)
+
+abbrev distance : GridPoint → ℤ
+distance w = distanceOf corner0 cornerX cornerY cornerZ w
+
+pub corners-computed : (distance cornerX ≡ distance corner0) × (distance cornerY ≡ distance corner0) × (distance cornerZ ≡ distance corner0)
+unfolding distanceOf centreOf orientOf
+corners-computed = (refl, refl, refl)
+
+-- ---- distances and powers
 
 -- the difference of two squared distances from a centre is a multiple of the power
 module _ (o : ℤ) (b v : Vector) (p : GridPoint) where

@@ -1,10 +1,11 @@
 -- The circle of the definitions: its centre is in the plane, the only point there as far from the three corners; the corners are on it. Assumes nothing.
-use mathlib.Core.Path.{_≡_, sym, _∙_, ap}
+use mathlib.Core.Path.{_≡_, refl, sym, _∙_, ap}
 use mathlib.Core.List.{List, [], _∷_}
 use mathlib.Core.Bool.{true, cond}
 use lib.IntN.{ℤ, pos, _-ℤ_, _*ℤ_, *ℤ-zero}
 use lib.Signed.{ltZ}
 use Rattle.grid.specs.declared.GridPoint.{GridPoint}
+use Rattle.grid.specs.Point.{point}
 use Rattle.geometry.specs.declared.Vector.{Vector}
 use Rattle.geometry.specs.declared.sphere.Position.the-variants.{Inside, On, Outside}
 use Rattle.integers.specs.Order.{equal}
@@ -19,6 +20,23 @@ use Rattle.geometry.proofs.Centres.{distances-power, equidistant}
 use Rattle.planar.specs.Circles.{collinear, circumcentreOf, distanceInPlane, onCircle}
 use Rattle.planar.specs.Seen.{positionInPlane}
 use Rattle.planar.proofs.Zero.{zero-square}
+
+-- ---- a circle, computed: through 0 and the point 2 of the axes z and x, about (1, 0, 1)
+
+abbrev corner0 : GridPoint
+corner0 = point (pos 0) (pos 0) (pos 0)
+
+abbrev cornerX : GridPoint
+cornerX = point (pos 2) (pos 0) (pos 0)
+
+abbrev cornerZ : GridPoint
+cornerZ = point (pos 0) (pos 0) (pos 2)
+
+pub corners-computed : (onCircle corner0 cornerZ cornerX cornerX ≡ true) × (onCircle corner0 cornerZ cornerX cornerZ ≡ true)
+unfolding circumcentreOf distanceInPlane
+corners-computed = (refl, refl)
+
+-- ---- points on one line
 
 -- three points are on one line exactly where each coordinate of their normal is 0
 pub collinear-zero : (p q r : GridPoint) → collinear p q r ≡ true → (normalOf p q r .x ≡ pos 0) × (normalOf p q r .y ≡ pos 0) × (normalOf p q r .z ≡ pos 0)

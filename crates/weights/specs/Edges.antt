@@ -1,11 +1,17 @@
--- The three edges of a candidate, as the functions hand them on. What functions say to each other; nobody has to believe it.
+-- The three edges of a candidate, as the functions hand them on, and what weights are written from. What functions say to each other; nobody has to believe it.
+use mathlib.Core.Path.{_≡_}
 use mathlib.Core.Bool.{Bool}
-use Prim.Native.Nat.{ℕ, _+_}
+use mathlib.Core.List.{List}
+use Prim.Native.Nat.{ℕ, _+_, _≤_}
+use lib.ListN.{length, take}
 use Rattle.lists.specs.Lists.{both}
+use Rattle.polygon.specs.declared.Polygon.{Polygon}
 use Rattle.polygon.specs.declared.normal.Normal.{Normal}
 use Rattle.polygon.specs.Normal.{isNone, NormalInRange}
 use Rattle.geometry.specs.declared.Vector.{Vector}
 use Rattle.geometry.specs.Faces.{lengthOf, areaWeightOf}
+use Rattle.dihedrals.specs.Dihedrals.{lengthsOf}
+use Rattle.dihedrals.specs.Lists.{ProperCandidates}
 use Rattle.weights.specs.declared.outside.EdgeNormals.{EdgeNormals}
 use Rattle.weights.specs.Weights.{edgeNormal, outsideWeightOf}
 
@@ -25,3 +31,8 @@ allNone e = both (isNone (e .ab)) (both (isNone (e .bc)) (isNone (e .ac)))
 abbrev pub ownWeightOf : ℕ → ℕ → Vector → EdgeNormals → ℕ
 ownWeightOf area bend normal e =
     areaWeightOf area (lengthOf normal) + outsideWeightOf bend normal (e .ab) + outsideWeightOf bend normal (e .bc) + outsideWeightOf bend normal (e .ac)
+
+-- the candidates, and the lengths of their normals in the first places of the table
+abbrev pub WeightsFrom : Polygon → List (List ℕ) → List ℕ → Type 0
+WeightsFrom p candidates weights =
+    (ProperCandidates p candidates) × (length candidates ≤ length weights) × (take (length candidates) weights ≡ lengthsOf p candidates)

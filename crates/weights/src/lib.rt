@@ -7,15 +7,13 @@ use outside::EdgeNormals;
 use polygon::Polygon;
 ghost use mathlib.Core.Path.{_≡_};
 ghost use Prim.Native.Nat.{_≤_};
-ghost use lib.ListN.{length, take};
 ghost use Rattle.terms.specs.Limits.{maxAreaFactor, maxBendFactor};
 ghost use Rattle.lists.specs.Lists.{filled};
 ghost use Rattle.grid.specs.Point.{PointOnGrid};
 ghost use Rattle.geometry.specs.Faces.{normalOf};
-ghost use Rattle.dihedrals.specs.Dihedrals.{lengthsOf};
-ghost use Rattle.dihedrals.specs.Lists.{ProperCandidates, Measured};
+ghost use Rattle.dihedrals.specs.Lists.{Measured};
 ghost use Rattle.weights.specs.Weights.{weightsOf};
-ghost use Rattle.weights.specs.Edges.{EdgesInRange, ownWeightOf};
+ghost use Rattle.weights.specs.Edges.{EdgesInRange, ownWeightOf, WeightsFrom};
 
 // The own weight of the triangle of three corners, by the length of its normal and the normals outside its edges.
 fn own_weight(
@@ -47,7 +45,7 @@ fn own_weight(
 // From the lengths of the candidates' normals, in the first places, to the own weights.
 // The loop holds the vertices and normals: a function for one candidate would take them by value.
 pub fn write_weights(p: Polygon, candidates: &[[u8; 3]], weights: &mut [u32])
-    requires { ⌜ (ProperCandidates p (now candidates)) × (length (now candidates) ≤ length (now weights)) × (take (length (now candidates)) (now weights) ≡ lengthsOf p (now candidates)) ⌝ }
+    requires { ⌜ WeightsFrom p (now candidates) (now weights) ⌝ }
     ensures { λ _. ⌜ now (weights .exit) ≡ filled (weightsOf p (now (candidates .entry))) (now (weights .entry)) ⌝ }
 {
     let n = p.n;
