@@ -59,7 +59,7 @@ module _ (file : List ℕ) (v : ValidPolygon (polygonOf file)) (lent : Tables) (
   abbrev job : Problem
   job = problemIn p
 
-  good : triangulations.Valid (problemIn (polygonOf file))
+  good : triangulations.ValidProblem (problemIn (polygonOf file))
   good = valid-job p v
 
   abbrev left : List ℕ → List ℕ → Tables
@@ -129,7 +129,7 @@ module _ (file : List ℕ) (v : ValidPolygon (polygonOf file)) (lent : Tables) (
   of-handed : (o : Outcome) (triangles work : List ℕ) → Handed job (partOf o triangles) o → LinesHold file (patching o (left triangles work))
   of-handed (Patch size total) triangles work (with-patch many h) = of-patch triangles work size total many h
   of-handed None triangles work (with-none e) = empty file None (left triangles work) e refl (λ c x d. let z : _≡_ {A = ℕ} 0 1 = cc in omega arith)
-  of-handed (Refused (refusal k)) triangles work (with-refusal e) = empty file (Refused (refusal k)) (left triangles work) e refl (λ c x d. let z : _≡_ {A = ℕ} 0 1 = cc in omega arith)
+  of-handed (Refused r) triangles work (with-refusal e) = empty file (Refused r) (left triangles work) e refl (λ c x d. let z : _≡_ {A = ℕ} 0 1 = cc in omega arith)
 
   of-patched : LinesHold file (patched (polygonOf file) lent)
   of-patched = of-handed _ _ _ (settled-handed job good (length (candidatesOf p)) (lent .triangles) (lent .work))

@@ -25,7 +25,7 @@ use Rattle.jobs.proofs.Order.{Hangs, on-ab, on-bc}
 use Rattle.triangulation.specs.Problems.{pairWeight}
 use Rattle.rows.specs.Search.{RowsAscend}
 use Rattle.triangulator.proofs.Accepting.{well-formed}
-use Rattle.pipeline.specs.Patching.{Tables, weightsIn, rowsIn, tablesShort, patchBy, polygonNumber, fileNumber, patchFile}
+use Rattle.pipeline.specs.Patching.{Tables, weightsIn, rowsIn, jobIn, tablesShort, patchBy, polygonNumber, fileNumber, patchFile}
 use Rattle.pipeline.proofs.Accepted.{lists-accepted}
 use Rattle.patch_program.specs.Places.{rowCount}
 
@@ -96,7 +96,7 @@ counted rows n a h =
 -- ---- a polygon's rows
 module _ (p : Polygon) (v : ValidPolygon p) where
   ascends : RowsAscend (rowsIn p)
-  ascends = well-formed (p .n) (candidatesOf p) (weightsIn p) (rowsIn p) (v .least) (v .most) (lists-accepted p v) .rows-ascend
+  ascends = well-formed (jobIn p) (v .least) (v .most) (lists-accepted p v) .rows-ascend
 
   -- no candidate hangs on itself
   apart : Apart (rowsIn p)

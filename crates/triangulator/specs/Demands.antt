@@ -3,7 +3,7 @@ use mathlib.Core.Path.{_≡_}
 use mathlib.Core.List.{List, []}
 use Prim.Native.Nat.{ℕ, _-_}
 use lib.ListN.{take}
-use Rattle.codes.specs.Refusals.{refusal}
+use Rattle.codes.specs.declared.Refusal.{Refusal}
 use Rattle.triangulation.specs.Triangulations.{Problem, Answer, none, patch}
 use Rattle.triangulation.specs.Demand3.{HandedBack}
 use Rattle.triangulator.specs.declared.Outcome.{Outcome}
@@ -25,4 +25,4 @@ pub data Taken : Outcome → Type 0 where
 pub data Handed (job : Problem) (part : List ℕ) : Outcome → Type 0 where
   with-patch : {count total : ℕ} → count ≡ job .n - 2 → HandedBack job total part → Handed job part (Patch count total)
   with-none : part ≡ [] → Handed job part None
-  with-refusal : {number : ℕ} → part ≡ [] → Handed job part (Refused (refusal number))
+  with-refusal : {r : Refusal} → part ≡ [] → Handed job part (Refused r)
