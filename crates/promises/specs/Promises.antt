@@ -10,7 +10,7 @@ use mathlib.Core.List.{List}
 use Prim.Native.Nat.{ℕ, suc, _≤_, _<_}
 use lib.IntN.{ℤ}
 use lib.Ieee.{Float}
-use lib.ListN.{length, getD, replicate}
+use lib.ListN.{length, replicate}
 use Rattle.codes.specs.Refusals.{refusal}
 use Rattle.terms.specs.Limits.{minVertices, maxVertices, trimVertices, countFits}
 use Rattle.terms.specs.Entries.{triple}
@@ -32,7 +32,7 @@ use Rattle.reader.specs.Rounded.{Rounded}
 use Rattle.reader.specs.Reading.{readingOf, refusedReading, statusNumber}
 use Rattle.planar.specs.Planes.{OnOneLine}
 use Rattle.planar.specs.Circles.{collinear}
-use Rattle.delaunay.specs.Candidates.{vertex}
+use Rattle.polygon.specs.Polygon.{vertex}
 use Rattle.weights.specs.Weights.{ownWeight}
 use Rattle.finder.specs.declared.Found.the-variants as found
 use Rattle.finder.specs.declared.Places.{Places}
@@ -47,7 +47,7 @@ use Rattle.triangulation.specs.Triangulations.{Problem, ValidProblem, patch, to
 use Rattle.triangulation.specs.Problems.{problemOf}
 use Rattle.triangulation.specs.Demand3.{Triangulates, Demand3, HandedBack}
 use Rattle.triangulation.specs.Tiling.{Tiling}
-use Rattle.preorder.specs.Preorder.{TurnByTurn, partsAfter, mostParts}
+use Rattle.preorder.specs.Preorder.{TurnByTurn}
 use Rattle.triangulator.specs.declared.Outcome.the-variants.{Patch, None, Refused}
 use Rattle.triangulator.specs.Call.{result, numberOf, partOf, triangulated}
 use Rattle.triangulator.specs.Demands.{Taken, Handed, stated}
@@ -260,7 +260,7 @@ pub record Judging (job : Job) (list : List ℕ) (total : ℕ) (work : List ℕ)
       judged job list total work ≡ judge.result (judgement.Accepted 0) (filled (replicate (length (job .candidates)) 0) work)
 
 -- so is what the one call answered, with the lists that it left (rules 3.13, 3.14)
-OwnPatches : Type 0
+abbrev pub OwnPatches : Type 0
 OwnPatches = (limit : ℕ) (file : List ℕ) → Bytes file → (t : Tables) (count total : ℕ) (work : List ℕ) →
     placesOf (polygonIn limit file) .candidates ≤ length work → patchFile limit file t .outcome ≡ Patch count total →
     judged (jobLeft (polygonIn limit file) (patchFile limit file t .left)) (partOf (Patch count total) (patchFile limit file t .left .triangles)) total work
@@ -287,3 +287,19 @@ pub record Promises : Type 0 where
   pub flat-rims : FlatRims
   pub judging : (job : Job) (list : List ℕ) (total : ℕ) (work : List ℕ) → Judging job list total work
   pub own-patches : OwnPatches
+
+-- ---- what the page rests on, by name
+-- numbers that are due: `DueAt` (reader/Due), `CallDue`, `TooShort` (demands/Demand1), `FindDue`, `PatchDue` (demands/Polygons), `Accepted`, `FirstDue`
+--   (jobs/Due), `FirstDue` (judge/Due), `ConvertDue` (converter/Due); which of them is the first: `First`, `NoneDue` (terms/Order)
+-- what a file says: `HasRecords`, `HasVertex`, `HasNormal`, `ChainAtMost` (reader/Due), `Rounded` (reader/Rounded), `HalfStep`, `EvenHalf` (grid/Number),
+--   `Edition1`, `Edition2` (rim_file/Layouts), `SameRim` (rim_file/Editions)
+-- candidates, weights and rows: `Candidate`, `Face`, `CountsInPlane`, `Flat`, `Cocircular` (demands/Candidates), `TablesHold` (demands/Demand2),
+--   `ListsLeft`, `RightOfTables` (demands/Demand3), `OnOneLine` (planar/Planes), `collinear` (planar/Circles), `ownWeight` (weights/Weights)
+-- tilings and answers: `Job` (jobs/Job), `Problem`, `totalWeight` (triangulation/Triangulations), `problemOf` (triangulation/Problems), `Tiling`
+--   (triangulation/Tiling), `Triangulates`, `Demand3`, `HandedBack` (triangulation/Demand3), `Taken`, `Handed`, `stated` (triangulator/Demands), `TurnByTurn`
+--   (preorder/Preorder)
+-- lists to judge: `IsTiling`, `Acceptable`, `SameNumbers`, `Excess` (judge/Demands)
+-- answers that are alike: `baseFile` (demands/Base), `SameAnswers` (demands/Conversion), `SamePatch`, `LongEnough` (demands/OnePatch), `OneAnswer`
+--   (demands/Limits)
+-- and the definitions of the calls: reader/Reading, finder/Finding, pipeline/Patching and Sizes, triangulator/Call, judge/Call, converter/Call. All of them are
+-- in crates/NAME/specs/FILE.antt; docs/ARCHITECTURE.md lists what they in turn rest on.
