@@ -86,7 +86,8 @@ fn conversion_code(short: bool, lost: bool) -> u32
 // Carries a file on which the reader found no number.
 fn carry(file: &[u8], out: &mut [u8]) -> Conversion
     requires { ⌜ lengthWrong (now file) ≡ false ⌝ }
-    ensures { λ r. ⌜ converting r (now (out .exit)) ≡ convertBy (conversionNumber (now (file .entry)) (now (out .entry))) (now (file .entry)) (now (out .entry)) ⌝ }
+    ensures { λ r. ⌜ converting r (now (out .exit))
+        ≡ convertBy (conversionNumber (now (file .entry)) (now (out .entry))) (now (file .entry)) (now (out .entry)) ⌝ }
 {
     let source = edition::layout(file);
     let target = target_of(source);

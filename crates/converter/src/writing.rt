@@ -35,7 +35,9 @@ fn fill(out: &mut [u8], to: usize, count: usize, byte: u8)
 // All records, each at its place, with zeros for its normal where the layout has one.
 fn write_records(file: &[u8], source: Layout, target: Layout, count: usize, out: &mut [u8])
     requires { ⌜ Room (now file) source target count (now out) ⌝ }
-    ensures { λ _. ⌜ now (out .exit) ≡ sets (now (out .entry)) (target .header + headerSize) (over 1 (suc (recordCount (now (file .entry)))) (λ k. recordBytes (now (file .entry)) k ++ endingIn target)) ⌝ }
+    ensures { λ _. ⌜ now (out .exit)
+        ≡ sets (now (out .entry)) (target .header + headerSize) (over 1 (suc (recordCount (now (file .entry)))) (λ k. recordBytes
+        (now (file .entry)) k ++ endingIn target)) ⌝ }
 {
     for k in 1..count + 1 {
         let from = edition::record_start(source, k);

@@ -91,7 +91,9 @@ pub extern "C" fn patch_box_rim_within(
     rows: &mut [[u32; 3]],
     work: &mut [u64],
 ) -> PatchAnswer
-    ensures { λ r. ⌜ rimPatch r (tables (now (triangles .exit)) (now (candidates .exit)) (now (weights .exit)) (now (rows .exit)) (now (work .exit))) ≡ rimPatchOf (patchFile limit (now (file .entry)) (tables (now (triangles .entry)) (now (candidates .entry)) (now (weights .entry)) (now (rows .entry)) (now (work .entry)))) ⌝ }
+    ensures { λ r. ⌜ rimPatch r (tables (now (triangles .exit)) (now (candidates .exit)) (now (weights .exit)) (now (rows .exit)) (now (work .exit)))
+        ≡ rimPatchOf (patchFile limit (now (file .entry)) (tables (now (triangles .entry)) (now (candidates .entry)) (now (weights .entry))
+        (now (rows .entry)) (now (work .entry)))) ⌝ }
 {
     let outcome = pipeline::patch_file(limit, file, triangles, candidates, weights, rows, work);
     patch_answer(outcome)
@@ -106,7 +108,9 @@ pub extern "C" fn patch_box_rim(
     rows: &mut [[u32; 3]],
     work: &mut [u64],
 ) -> PatchAnswer
-    ensures { λ r. ⌜ rimPatch r (tables (now (triangles .exit)) (now (candidates .exit)) (now (weights .exit)) (now (rows .exit)) (now (work .exit))) ≡ rimPatchOf (patchFile maxVertices (now (file .entry)) (tables (now (triangles .entry)) (now (candidates .entry)) (now (weights .entry)) (now (rows .entry)) (now (work .entry)))) ⌝ }
+    ensures { λ r. ⌜ rimPatch r (tables (now (triangles .exit)) (now (candidates .exit)) (now (weights .exit)) (now (rows .exit)) (now (work .exit)))
+        ≡ rimPatchOf (patchFile maxVertices (now (file .entry)) (tables (now (triangles .entry)) (now (candidates .entry)) (now (weights .entry))
+        (now (rows .entry)) (now (work .entry)))) ⌝ }
 {
     patch_box_rim_within(
         terms::MAX_VERTICES,
@@ -129,7 +133,9 @@ pub extern "C" fn patch_box_job(
     triangles: &mut [u16],
     work: &mut [u64],
 ) -> PatchAnswer
-    ensures { λ r. ⌜ jobPatch r (now (triangles .exit)) (now (work .exit)) ≡ jobPatchOf (triangulated (jobOf n (now (candidates .entry)) (now (weights .entry)) (now (rows .entry))) (now (triangles .entry)) (now (work .entry))) ⌝ }
+    ensures { λ r. ⌜ jobPatch r (now (triangles .exit)) (now (work .exit))
+        ≡ jobPatchOf (triangulated (jobOf n (now (candidates .entry)) (now (weights .entry)) (now (rows .entry))) (now (triangles .entry))
+        (now (work .entry))) ⌝ }
 {
     let outcome = triangulator::triangulate(n, candidates, weights, rows, triangles, work);
     patch_answer(outcome)
@@ -154,7 +160,9 @@ pub extern "C" fn patch_box_judge(
     stated: u64,
     work: &mut [u64],
 ) -> JudgeAnswer
-    ensures { λ r. ⌜ jobJudgement r (now (work .exit)) ≡ jobJudgementOf (judged (jobOf n (now (candidates .entry)) (now (weights .entry)) (now (rows .entry))) (now (list .entry)) stated (now (work .entry))) ⌝ }
+    ensures { λ r. ⌜ jobJudgement r (now (work .exit))
+        ≡ jobJudgementOf (judged (jobOf n (now (candidates .entry)) (now (weights .entry)) (now (rows .entry))) (now (list .entry)) stated
+        (now (work .entry))) ⌝ }
 {
     let judgement = judge::judge(n, candidates, weights, rows, list, stated, work);
     judge_answer(judgement)
@@ -188,7 +196,8 @@ fn find_in_file(
     weights: &mut [u32],
     rows: &mut [[u32; 3]],
 ) -> Found
-    ensures { λ r. ⌜ finding r (now (candidates .exit)) (now (weights .exit)) (now (rows .exit)) ≡ findFile limit (now (file .entry)) (now (candidates .entry)) (now (weights .entry)) (now (rows .entry)) ⌝ }
+    ensures { λ r. ⌜ finding r (now (candidates .exit)) (now (weights .exit)) (now (rows .exit))
+        ≡ findFile limit (now (file .entry)) (now (candidates .entry)) (now (weights .entry)) (now (rows .entry)) ⌝ }
 {
     let reading = reader::read_polygon(limit, file);
     let status = reading.status;
@@ -208,7 +217,8 @@ pub extern "C" fn patch_box_find_within(
     weights: &mut [u32],
     rows: &mut [[u32; 3]],
 ) -> FindAnswer
-    ensures { λ r. ⌜ rimLists r (now (candidates .exit)) (now (weights .exit)) (now (rows .exit)) ≡ rimListsOf (findFile limit (now (file .entry)) (now (candidates .entry)) (now (weights .entry)) (now (rows .entry))) ⌝ }
+    ensures { λ r. ⌜ rimLists r (now (candidates .exit)) (now (weights .exit)) (now (rows .exit))
+        ≡ rimListsOf (findFile limit (now (file .entry)) (now (candidates .entry)) (now (weights .entry)) (now (rows .entry))) ⌝ }
 {
     let found = find_in_file(limit, file, candidates, weights, rows);
     let number = found.number();
@@ -228,7 +238,8 @@ pub extern "C" fn patch_box_find(
     weights: &mut [u32],
     rows: &mut [[u32; 3]],
 ) -> FindAnswer
-    ensures { λ r. ⌜ rimLists r (now (candidates .exit)) (now (weights .exit)) (now (rows .exit)) ≡ rimListsOf (findFile maxVertices (now (file .entry)) (now (candidates .entry)) (now (weights .entry)) (now (rows .entry))) ⌝ }
+    ensures { λ r. ⌜ rimLists r (now (candidates .exit)) (now (weights .exit)) (now (rows .exit))
+        ≡ rimListsOf (findFile maxVertices (now (file .entry)) (now (candidates .entry)) (now (weights .entry)) (now (rows .entry))) ⌝ }
 {
     patch_box_find_within(terms::MAX_VERTICES, file, candidates, weights, rows)
 }

@@ -94,7 +94,8 @@ pub fn count(masks: &[u64; PAIRS], n: usize) -> usize
 // The triangles of the set on the first n vertices, in ascending order.
 pub fn list(masks: &[u64; PAIRS], n: usize, out: &mut [[u8; 3]]) -> usize
     requires { ⌜ (n ≤ maxVertices) × (length (triplesOf n (has (now masks))) ≤ length (now out)) ⌝ }
-    ensures { λ r. ⌜ (r ≡ length (triplesOf n (has (now (masks .entry))))) × (now (out .exit) ≡ filled (triplesOf n (has (now (masks .entry)))) (now (out .entry))) ⌝ }
+    ensures { λ r. ⌜ (r
+        ≡ length (triplesOf n (has (now (masks .entry))))) × (now (out .exit) ≡ filled (triplesOf n (has (now (masks .entry)))) (now (out .entry))) ⌝ }
 {
     let mut count = 0;
     for a in 0..n {

@@ -145,7 +145,8 @@ fn fill(
     rows: &mut [[u32; 3]],
 ) -> Found
     requires { ⌜ ProperCandidates p (facesOf p (now masks)) ⌝ }
-    ensures { λ r. ⌜ finding r (now (candidates .exit)) (now (weights .exit)) (now (rows .exit)) ≡ fillOr13 p (facesOf p (now (masks .entry))) «triangle_places» «work_places» (now (candidates .entry)) (now (weights .entry)) (now (rows .entry)) ⌝ }
+    ensures { λ r. ⌜ finding r (now (candidates .exit)) (now (weights .exit)) (now (rows .exit))
+        ≡ fillOr13 p (facesOf p (now (masks .entry))) «triangle_places» «work_places» (now (candidates .entry)) (now (weights .entry)) (now (rows .entry)) ⌝ }
 {
     let n = p.n;
     let needed = count_places(n, masks);
@@ -184,8 +185,10 @@ pub fn find_beside(
     weights: &mut [u32],
     rows: &mut [[u32; 3]],
 ) -> Found
-    ensures { λ r. ⌜ finding r (now (candidates .exit)) (now (weights .exit)) (now (rows .exit)) ≡ findBesideCall p «triangle_places» «work_places» (now (candidates .entry)) (now (weights .entry)) (now (rows .entry)) ⌝ }
-    ensures { λ r. ⌜ valuesOf r ≡ dueValues (besideNumber p «triangle_places» «work_places» (now (candidates .entry)) (now (weights .entry)) (now (rows .entry))) p ⌝ }
+    ensures { λ r. ⌜ finding r (now (candidates .exit)) (now (weights .exit)) (now (rows .exit))
+        ≡ findBesideCall p «triangle_places» «work_places» (now (candidates .entry)) (now (weights .entry)) (now (rows .entry)) ⌝ }
+    ensures { λ r. ⌜ valuesOf r
+        ≡ dueValues (besideNumber p «triangle_places» «work_places» (now (candidates .entry)) (now (weights .entry)) (now (rows .entry))) p ⌝ }
 {
     let mut masks = [0u64; faces::PAIRS];
     let number = search(p, &mut masks);
@@ -210,7 +213,8 @@ pub fn find(
     weights: &mut [u32],
     rows: &mut [[u32; 3]],
 ) -> Found
-    ensures { λ r. ⌜ finding r (now (candidates .exit)) (now (weights .exit)) (now (rows .exit)) ≡ findCall p (now (candidates .entry)) (now (weights .entry)) (now (rows .entry)) ⌝ }
+    ensures { λ r. ⌜ finding r (now (candidates .exit)) (now (weights .exit)) (now (rows .exit))
+        ≡ findCall p (now (candidates .entry)) (now (weights .entry)) (now (rows .entry)) ⌝ }
     ensures { λ r. ⌜ valuesOf r ≡ dueValues (findNumber p (now (candidates .entry)) (now (weights .entry)) (now (rows .entry))) p ⌝ }
 {
     let n = p.n;

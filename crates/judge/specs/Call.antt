@@ -46,6 +46,10 @@ excessOver (patch least triangles) stated = stated - least
 unfoldable pub judgeCode : Job → List ℕ → ℕ → ℕ → ℕ
 judgeCode job list stated workPlaces = firstDue (codeWithoutTriangles job workPlaces) (listCode (problemOf job) list stated)
 
+-- the values of a judgement, by the first number due (rule 5.10)
+abbrev pub judgedValues : Job → List ℕ → ℕ → ℕ → Values
+judgedValues job list stated workPlaces = dueValues (judgeCode job list stated workPlaces) (excessOver (best (problemOf job)) stated)
+
 -- a judgement, and what the work table holds after the call (rule 5.10)
 pub record Result : Type 0 where
   pub judgement : Judgement

@@ -3,9 +3,7 @@ use codes::Refusal;
 ghost use mathlib.Core.Path.{_≡_};
 ghost use lib.ListN.{length};
 ghost use Rattle.jobs.specs.Job.{jobOf};
-ghost use Rattle.triangulation.specs.Triangulations.{best};
-ghost use Rattle.triangulation.specs.Problems.{problemFrom};
-ghost use Rattle.judge.specs.Call.{numberOf, excessOf, valuesOf, dueValues, judgeCode, excessOver, result, judged};
+ghost use Rattle.judge.specs.Call.{numberOf, excessOf, valuesOf, result, judgedValues, judged};
 
 // Accepted with the excess over the least total, or a refusal.
 pub enum Judgement {
@@ -45,8 +43,10 @@ pub fn judge(
     stated: u64,
     work: &mut [u64],
 ) -> Judgement
-    ensures { λ r. ⌜ result r (now (work .exit)) ≡ judged (jobOf n (now (candidates .entry)) (now (weights .entry)) (now (rows .entry))) (now (list .entry)) stated (now (work .entry)) ⌝ }
-    ensures { λ r. ⌜ valuesOf r ≡ dueValues (judgeCode (jobOf n (now (candidates .entry)) (now (weights .entry)) (now (rows .entry))) (now (list .entry)) stated (length (now (work .entry)))) (excessOver (best (problemFrom n (now (candidates .entry)) (now (weights .entry)) (now (rows .entry)))) stated) ⌝ }
+    ensures { λ r. ⌜ result r (now (work .exit))
+        ≡ judged (jobOf n (now (candidates .entry)) (now (weights .entry)) (now (rows .entry))) (now (list .entry)) stated (now (work .entry)) ⌝ }
+    ensures { λ r. ⌜ valuesOf r
+        ≡ judgedValues (jobOf n (now (candidates .entry)) (now (weights .entry)) (now (rows .entry))) (now (list .entry)) stated (length (now (work .entry))) ⌝ }
 {
     let job_number = jobs::code_without_triangles(n, candidates, weights, rows, work.len());
     if job_number != 0 {

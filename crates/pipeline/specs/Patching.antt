@@ -18,7 +18,7 @@ use Rattle.triangulation.specs.Triangulations.{Problem, best}
 use Rattle.triangulation.specs.Problems.{problemOf}
 use Rattle.triangulator.specs.declared.Outcome.{Outcome}
 use Rattle.triangulator.specs.declared.Outcome.the-variants.{Refused}
-use Rattle.triangulator.specs.Call.{Result, settled}
+use Rattle.triangulator.specs.Call.{Values, dueValues, Result, settled}
 
 -- the five lent tables (rule 5.1)
 pub record Tables : Type 0 where
@@ -88,16 +88,22 @@ abbrev pub patchBy : ℕ → Polygon → Tables → Patching
 patchBy zero p t = patched p t
 patchBy (suc k) p t = refused (suc k) t
 
--- a polygon that a host built by hand, with its first number due (rule 4.34)
+-- a polygon that a host built by hand, with its first number due and its values (rules 4.34, 5.2)
 abbrev pub polygonNumber : Polygon → Tables → ℕ
 polygonNumber p t = numberDue (tablesShort p t) p
+
+abbrev pub polygonValues : Polygon → Tables → Values
+polygonValues p t = dueValues (polygonNumber p t) (p .n) (best (problemIn p))
 
 unfoldable pub patchPolygon : Polygon → Tables → Patching
 patchPolygon p t = patchBy (polygonNumber p t) p t
 
--- a rim file read with a limit, and its first number due (rule 4.31): the reader's in their order, then those of its polygon
+-- a rim file read with a limit, its first number due and its values (rules 4.31, 5.2): the reader's in their order, then those of its polygon
 abbrev pub fileNumber : ℕ → List ℕ → Tables → ℕ
 fileNumber limit file t = firstDue (reader.numberDue limit file) (polygonNumber (polygonOf file) t)
+
+abbrev pub fileValues : ℕ → List ℕ → Tables → Values
+fileValues limit file t = dueValues (fileNumber limit file t) (polygonOf file .n) (best (problemIn (polygonOf file)))
 
 unfoldable pub patchFile : ℕ → List ℕ → Tables → Patching
 patchFile limit file t = patchBy (fileNumber limit file t) (polygonOf file) t

@@ -13,8 +13,8 @@ ghost use Rattle.finder.specs.Sizes as sizes;
 ghost use Rattle.triangulation.specs.Triangulations.{best};
 ghost use Rattle.triangulation.specs.Problems.{problemFrom};
 ghost use Rattle.minimum_weight.specs.Tables.{WellFormed};
-ghost use Rattle.triangulator.specs.Call.{valuesOf, dueValues, result, settled};
-ghost use Rattle.pipeline.specs.Patching.{tables, patching, problemIn, polygonNumber, patchPolygon, fileNumber, patchFile};
+ghost use Rattle.triangulator.specs.Call.{valuesOf, result, settled};
+ghost use Rattle.pipeline.specs.Patching.{tables, patching, polygonValues, patchPolygon, fileValues, patchFile};
 ghost use Rattle.pipeline.specs.Sizes.{sizesNumber, sizesFile};
 
 // The best triangulation by the lists in the first places of the tables.
@@ -28,9 +28,12 @@ fn triangulate_first(
     triangles: &mut [u16],
     work: &mut [u64],
 ) -> Outcome
-    requires { ⌜ (count ≤ length (now candidates)) × (count ≤ length (now weights)) × («row_count» ≤ length (now rows)) × (count ≤ length (now work)) × (n ≤ length (now triangles) + 2) ⌝ }
+    requires { ⌜ (count ≤ length (now candidates)) × (count ≤ length (now weights)) × («row_count» ≤ length (now rows))
+        × (count ≤ length (now work)) × (n ≤ length (now triangles) + 2) ⌝ }
     requires { ⌜ WellFormed n (take count (now candidates)) (take count (now weights)) (take «row_count» (now rows)) ⌝ }
-    ensures { λ r. ⌜ result r (now (triangles .exit)) (now (work .exit)) ≡ settled (best (problemFrom n (take count (now (candidates .entry))) (take count (now (weights .entry))) (take «row_count» (now (rows .entry))))) count (now (triangles .entry)) (now (work .entry)) ⌝ }
+    ensures { λ r. ⌜ result r (now (triangles .exit)) (now (work .exit))
+        ≡ settled (best (problemFrom n (take count (now (candidates .entry))) (take count (now (weights .entry))) (take «row_count» (now (rows .entry)))))
+        count (now (triangles .entry)) (now (work .entry)) ⌝ }
 {
     triangulator::best_triangulation(
         n,
@@ -51,8 +54,10 @@ pub fn patch_polygon(
     rows: &mut [[u32; 3]],
     work: &mut [u64],
 ) -> Outcome
-    ensures { λ r. ⌜ patching r (tables (now (triangles .exit)) (now (candidates .exit)) (now (weights .exit)) (now (rows .exit)) (now (work .exit))) ≡ patchPolygon p (tables (now (triangles .entry)) (now (candidates .entry)) (now (weights .entry)) (now (rows .entry)) (now (work .entry))) ⌝ }
-    ensures { λ r. ⌜ valuesOf r ≡ dueValues (polygonNumber p (tables (now (triangles .entry)) (now (candidates .entry)) (now (weights .entry)) (now (rows .entry)) (now (work .entry)))) (p .n) (best (problemIn p)) ⌝ }
+    ensures { λ r. ⌜ patching r (tables (now (triangles .exit)) (now (candidates .exit)) (now (weights .exit)) (now (rows .exit)) (now (work .exit)))
+        ≡ patchPolygon p (tables (now (triangles .entry)) (now (candidates .entry)) (now (weights .entry)) (now (rows .entry)) (now (work .entry))) ⌝ }
+    ensures { λ r. ⌜ valuesOf r
+        ≡ polygonValues p (tables (now (triangles .entry)) (now (candidates .entry)) (now (weights .entry)) (now (rows .entry)) (now (work .entry))) ⌝ }
 {
     let n = p.n;
     let found = finder::find_beside(p, triangles.len(), work.len(), candidates, weights, rows);
@@ -84,8 +89,10 @@ pub fn patch_file(
     rows: &mut [[u32; 3]],
     work: &mut [u64],
 ) -> Outcome
-    ensures { λ r. ⌜ patching r (tables (now (triangles .exit)) (now (candidates .exit)) (now (weights .exit)) (now (rows .exit)) (now (work .exit))) ≡ patchFile limit (now (file .entry)) (tables (now (triangles .entry)) (now (candidates .entry)) (now (weights .entry)) (now (rows .entry)) (now (work .entry))) ⌝ }
-    ensures { λ r. ⌜ valuesOf r ≡ dueValues (fileNumber limit (now (file .entry)) (tables (now (triangles .entry)) (now (candidates .entry)) (now (weights .entry)) (now (rows .entry)) (now (work .entry)))) (polygonOf (now (file .entry)) .n) (best (problemIn (polygonOf (now (file .entry))))) ⌝ }
+    ensures { λ r. ⌜ patching r (tables (now (triangles .exit)) (now (candidates .exit)) (now (weights .exit)) (now (rows .exit)) (now (work .exit)))
+        ≡ patchFile limit (now (file .entry)) (tables (now (triangles .entry)) (now (candidates .entry)) (now (weights .entry)) (now (rows .entry)) (now (work .entry))) ⌝ }
+    ensures { λ r. ⌜ valuesOf r
+        ≡ fileValues limit (now (file .entry)) (tables (now (triangles .entry)) (now (candidates .entry)) (now (weights .entry)) (now (rows .entry)) (now (work .entry))) ⌝ }
 {
     let reading = reader::read_polygon(limit, file);
     let status = reading.status;
@@ -99,7 +106,8 @@ pub fn patch_file(
 // The places that the lent tables need for a rim file of at most so many vertices, or the number due on it: one of the reader's, or 12.
 pub fn table_sizes(limit: usize, file: &[u8]) -> Sizes
     ensures { λ r. ⌜ r ≡ sizesFile limit (now (file .entry)) ⌝ }
-    ensures { λ r. ⌜ (sizes.numberOf r ≡ sizesNumber limit (now (file .entry))) × (placesIn r ≡ duePlaces (sizesNumber limit (now (file .entry))) (polygonOf (now (file .entry)))) ⌝ }
+    ensures { λ r. ⌜ (sizes.numberOf r ≡ sizesNumber limit (now (file .entry)))
+        × (placesIn r ≡ duePlaces (sizesNumber limit (now (file .entry))) (polygonOf (now (file .entry)))) ⌝ }
 {
     let reading = reader::read_polygon(limit, file);
     let status = reading.status;

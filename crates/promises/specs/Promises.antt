@@ -2,7 +2,7 @@
 -- proofs/Promises.antt proves them all. A call is named here by the definition that its contract equates it with, on every path and for every place of
 -- every lent table: `read_polygon` is `readingOf`, `find` is `findCall`, `patch_polygon` is `patchPolygon`, `patch_file` is `patchFile`, `table_sizes` is
 -- `sizesFile`, `triangulate` is `triangulated`, `judge` is `judged`, `convert` is `convertCall`. `Bytes file` says that the places of a file are bytes, as
--- those of every `&[u8]` are. What the statements rest on is listed at the end.
+-- those of every `&[u8]` are. What the statements rest on stands at the end.
 use mathlib.Core.Path.{_≡_}
 use mathlib.Core.Logic.{_≢_}
 use mathlib.Core.Bool.{not, true, false}
@@ -152,8 +152,7 @@ pub record DirectJob (job : Job) (triangles work : List ℕ) : Type 0 where
   pub handed : Handed (problemOf job) (partOf (triangulated job triangles work .outcome) (triangulated job triangles work .triangles))
       (triangulated job triangles work .outcome)
 
--- ---- editions
--- where a file of each edition has its numbers, and the answer without a surface outside (rules 1.2 to 1.4, 1.12, 1.13, 2.16)
+-- ---- editions: where a file of each has its numbers, and the answer without a surface outside (rules 1.2 to 1.4, 1.12, 1.13, 2.16)
 pub record Editions (file : List ℕ) : Type 0 where
   pub layout-1 : (u16At file 0 ≡ 65535 → ⊥) → Edition1 file
   pub layout-2 : u16At file 0 ≡ 65535 → Edition2 file
@@ -242,7 +241,8 @@ pub record Judging (job : Job) (list : List ℕ) (total : ℕ) (work : List ℕ)
   pub accepted-work : (excess : ℕ) → judged job list total work .judgement ≡ judgement.Accepted excess →
       judged job list total work .work ≡ filled (replicate (length (job .candidates)) 0) work
   -- every other call gets the first number due, and the work table holds what it held (rules 4.30, 4.36)
-  pub refused-first : (k : ℕ) → judge-due.FirstDue job list total (length work) k → judged job list total work ≡ judge.result (judgement.Refused (refusal k)) work
+  pub refused-first : (k : ℕ) → judge-due.FirstDue job list total (length work) k →
+      judged job list total work ≡ judge.result (judgement.Refused (refusal k)) work
   pub given-first : (k : ℕ) → judged job list total work .judgement ≡ judgement.Refused (refusal k) → judge-due.FirstDue job list total (length work) k
   -- of an accepted job, 21 exactly when the list is no tiling without repeats, and 22 exactly when it is one of another total (rules 4.21, 4.22)
   pub gives-21 : JobAccepted job (length work) → ((set : List ℕ) → IsTiling (problemOf job) list set → ⊥) →
@@ -288,18 +288,13 @@ pub record Promises : Type 0 where
   pub judging : (job : Job) (list : List ℕ) (total : ℕ) (work : List ℕ) → Judging job list total work
   pub own-patches : OwnPatches
 
--- ---- what the page rests on, by name
--- numbers that are due: `DueAt` (reader/Due), `CallDue`, `TooShort` (demands/Demand1), `FindDue`, `PatchDue` (demands/Polygons), `Accepted`, `FirstDue`
---   (jobs/Due), `FirstDue` (judge/Due), `ConvertDue` (converter/Due); which of them is the first: `First`, `NoneDue` (terms/Order)
--- what a file says: `HasRecords`, `HasVertex`, `HasNormal`, `ChainAtMost` (reader/Due), `Rounded` (reader/Rounded), `HalfStep`, `EvenHalf` (grid/Number),
---   `Edition1`, `Edition2` (rim_file/Layouts), `SameRim` (rim_file/Editions)
--- candidates, weights and rows: `Candidate`, `Face`, `CountsInPlane`, `Flat`, `Cocircular` (demands/Candidates), `TablesHold` (demands/Demand2),
---   `ListsLeft`, `RightOfTables` (demands/Demand3), `OnOneLine` (planar/Planes), `collinear` (planar/Circles), `ownWeight` (weights/Weights)
--- tilings and answers: `Job` (jobs/Job), `Problem`, `totalWeight` (triangulation/Triangulations), `problemOf` (triangulation/Problems), `Tiling`
---   (triangulation/Tiling), `Triangulates`, `Demand3`, `HandedBack` (triangulation/Demand3), `Taken`, `Handed`, `stated` (triangulator/Demands), `TurnByTurn`
---   (preorder/Preorder)
--- lists to judge: `IsTiling`, `Acceptable`, `SameNumbers`, `Excess` (judge/Demands)
--- answers that are alike: `baseFile` (demands/Base), `SameAnswers` (demands/Conversion), `SamePatch`, `LongEnough` (demands/OnePatch), `OneAnswer`
---   (demands/Limits)
--- and the definitions of the calls: reader/Reading, finder/Finding, pipeline/Patching and Sizes, triangulator/Call, judge/Call, converter/Call. All of them are
--- in crates/NAME/specs/FILE.antt; docs/ARCHITECTURE.md lists what they in turn rest on.
+-- ---- what the page rests on, beside the calls' own definitions; `crate/File` is crates/CRATE/specs/FILE.antt, docs/ARCHITECTURE.md has the rest
+-- numbers that are due: reader/Due `DueAt`, demands/Demand1 `CallDue`, `TooShort`, demands/Polygons `FindDue`, `PatchDue`, jobs/Due `Accepted`, `FirstDue`,
+--   judge/Due `FirstDue`, converter/Due `ConvertDue`; the first of them: terms/Order `First`, `NoneDue`
+-- what a file says: reader/Due `HasRecords`, `HasVertex`, `HasNormal`, `ChainAtMost`, reader/Rounded `Rounded`, grid/Number `HalfStep`, `EvenHalf`,
+--   rim_file/Layouts `Edition1`, `Edition2`, rim_file/Editions `SameRim`
+-- candidates, weights and rows: demands/Candidates `Candidate`, `Flat`, `Cocircular`, demands/Demand2 `TablesHold`, demands/Demand3 `ListsLeft`,
+--   `RightOfTables`, planar/Planes `OnOneLine`, planar/Circles `collinear`, weights/Weights `ownWeight`
+-- tilings and answers: jobs/Job `Job`, triangulation/Triangulations `Problem`, `totalWeight`, Problems `problemOf`, Tiling `Tiling`, Demand3 `Demand3`,
+--   `HandedBack`, triangulator/Demands `Taken`, `Handed`, preorder/Preorder `TurnByTurn`, judge/Demands `IsTiling`, `Acceptable`, `SameNumbers`, `Excess`
+-- answers alike: demands/Base `baseFile`, Conversion `SameAnswers`, OnePatch `SamePatch`, `LongEnough`, Limits `OneAnswer`

@@ -68,7 +68,8 @@ fn stop(walk: Progress, code: u32) -> Progress
 
 // One position of the chain: the walk past its record, or stopped by the first number due there.
 fn step(limit: usize, file: &[u8], layout: Layout, walk: Progress) -> Progress
-    requires { ⌜ (layout ≡ layoutOf (now file)) × (lengthWrong (now file) ≡ false) × (Walking limit (now file) walk) × (walk .link ≡ 0 → ⊥) × (limit ≤ maxVertices) ⌝ }
+    requires { ⌜ (layout
+        ≡ layoutOf (now file)) × (lengthWrong (now file) ≡ false) × (Walking limit (now file) walk) × (walk .link ≡ 0 → ⊥) × (limit ≤ maxVertices) ⌝ }
     ensures { λ r. ⌜ Stepped limit (now (file .entry)) walk r ⌝ }
 {
     let link = walk.link;

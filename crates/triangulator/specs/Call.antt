@@ -49,6 +49,10 @@ abbrev pub dueValues : ℕ → ℕ → Answer → Values
 dueValues zero n answer = answerValues n answer
 dueValues (suc k) n answer = values (suc k) 0 0
 
+-- the values of the call for a direct job, by the first number due on it and the places lent with it (rules 4.32, 5.2)
+abbrev pub triangulatedValues : Job → ℕ → ℕ → Values
+triangulatedValues job trianglePlaces workPlaces = dueValues (jobCode job trianglePlaces workPlaces) (job .n) (best (problemOf job))
+
 -- the part handed back: as many first places as the outcome says, none where the table is shorter (rule 3.8)
 abbrev pub partOf : Outcome → List ℕ → List ℕ
 partOf outcome table = firstPlaces (trianglesOf outcome) table

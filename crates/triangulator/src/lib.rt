@@ -8,8 +8,8 @@ ghost use lib.ListN.{length};
 ghost use Rattle.triangulation.specs.Triangulations.{best};
 ghost use Rattle.triangulation.specs.Problems.{problemFrom};
 ghost use Rattle.minimum_weight.specs.Tables.{WellFormed};
-ghost use Rattle.jobs.specs.Job.{jobOf, jobCode};
-ghost use Rattle.triangulator.specs.Call.{numberOf, trianglesOf, totalOf, valuesOf, answerValues, dueValues, partOf, result, settled, triangulated};
+ghost use Rattle.jobs.specs.Job.{jobOf};
+ghost use Rattle.triangulator.specs.Call.{numberOf, trianglesOf, totalOf, valuesOf, answerValues, triangulatedValues, partOf, result, settled, triangulated};
 
 // A patch with the number of its triangles and its total, 'none', or a refusal.
 pub enum Outcome {
@@ -72,7 +72,9 @@ pub fn best_triangulation(
     work: &mut [u64],
 ) -> Outcome
     requires { ⌜ WellFormed n (now candidates) (now weights) (now rows) × (length (now candidates) ≤ length (now work)) × (n ≤ length (now triangles) + 2) ⌝ }
-    ensures { λ r. ⌜ result r (now (triangles .exit)) (now (work .exit)) ≡ settled (best (problemFrom n (now (candidates .entry)) (now (weights .entry)) (now (rows .entry)))) (length (now (candidates .entry))) (now (triangles .entry)) (now (work .entry)) ⌝ }
+    ensures { λ r. ⌜ result r (now (triangles .exit)) (now (work .exit))
+        ≡ settled (best (problemFrom n (now (candidates .entry)) (now (weights .entry)) (now (rows .entry))))
+        (length (now (candidates .entry))) (now (triangles .entry)) (now (work .entry)) ⌝ }
     ensures { λ r. ⌜ valuesOf r ≡ answerValues n (best (problemFrom n (now (candidates .entry)) (now (weights .entry)) (now (rows .entry)))) ⌝ }
 {
     let least = solver::solve(n, candidates, weights, rows, triangles, work);
@@ -94,8 +96,11 @@ pub fn triangulate(
     triangles: &mut [u16],
     work: &mut [u64],
 ) -> Outcome
-    ensures { λ r. ⌜ result r (now (triangles .exit)) (now (work .exit)) ≡ triangulated (jobOf n (now (candidates .entry)) (now (weights .entry)) (now (rows .entry))) (now (triangles .entry)) (now (work .entry)) ⌝ }
-    ensures { λ r. ⌜ valuesOf r ≡ dueValues (jobCode (jobOf n (now (candidates .entry)) (now (weights .entry)) (now (rows .entry))) (length (now (triangles .entry))) (length (now (work .entry)))) n (best (problemFrom n (now (candidates .entry)) (now (weights .entry)) (now (rows .entry)))) ⌝ }
+    ensures { λ r. ⌜ result r (now (triangles .exit)) (now (work .exit))
+        ≡ triangulated (jobOf n (now (candidates .entry)) (now (weights .entry)) (now (rows .entry))) (now (triangles .entry)) (now (work .entry)) ⌝ }
+    ensures { λ r. ⌜ valuesOf r
+        ≡ triangulatedValues (jobOf n (now (candidates .entry)) (now (weights .entry)) (now (rows .entry)))
+        (length (now (triangles .entry))) (length (now (work .entry))) ⌝ }
 {
     let number = jobs::job_code(n, candidates, weights, rows, triangles.len(), work.len());
     if number != 0 {

@@ -23,7 +23,8 @@ pub fn solve(
 ) -> u64
     requires { ⌜ WellFormed n (now candidates) (now weights) (now rows) × (length (now candidates) ≤ length (now work)) × (n ≤ length (now triangles) + 2) ⌝ }
     ensures total { λ r. ⌜ r ≡ costOf (bestKey (problemFrom n (now (candidates .entry)) (now (weights .entry)) (now (rows .entry)))) ⌝ }
-    ensures triangles { λ _. ⌜ now (triangles .exit) ≡ filled (restOf (bestKey (problemFrom n (now (candidates .entry)) (now (weights .entry)) (now (rows .entry))))) (now (triangles .entry)) ⌝ }
+    ensures triangles { λ _. ⌜ now (triangles .exit)
+        ≡ filled (restOf (bestKey (problemFrom n (now (candidates .entry)) (now (weights .entry)) (now (rows .entry))))) (now (triangles .entry)) ⌝ }
     ensures work { λ _. ⌜ now (work .exit) ≡ filled (replicate (length (now (candidates .entry))) 0) (now (work .entry)) ⌝ }
 {
     let count = candidates.len();
