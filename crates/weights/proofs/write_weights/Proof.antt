@@ -21,6 +21,7 @@ use Rattle.weights.specs.declared.outside.EdgeNormals.{EdgeNormals}
 use Rattle.weights.specs.Weights.{ownWeight, weightsOf}
 use Rattle.weights.specs.Edges.{EdgesInRange, ownWeightOf}
 use Rattle.weights.proofs.Edges.{edgesAt, edgesOf, edges-in-range}
+use Rattle.weights.proofs.RimEdges.{own-weight-along-the-rim}
 use Rattle.weights.proofs.write_weights.Statement.{statement}
 use Rattle.weights.proofs.write_weights.Tie as tie
 
@@ -145,6 +146,12 @@ module _ (e : tie.After-edge-normals Inv-loop μ-loop) where
   edges-are : e .edge-normals .result ≡ edgesOf (polygon read) (candidate read)
   edges-are = e .edge-normals .ensures ∙ (λ i. edgesAt (polygon read) (corners read .a-is i) (corners read .b-is i) (corners read .c-is i))
 
+  weight-is : ownWeightOf (polygon read .«area_factor») (polygon read .«bend_factor») normal (e .edge-normals .result) ≡ ownWeight (polygon read) (candidate read)
+  weight-is =
+      let s = begin read .pre .0 in
+      (λ i. ownWeightOf (polygon read .«area_factor») (polygon read .«bend_factor») (face-is i) (edges-are i))
+      ∙ own-weight-along-the-rim (polygon read) (candidate read) (s .sorted .a<b (index read) (below read)) (s .sorted .b<c (index read) (below read)) (s .corners (index read) (below read) .c<n)
+
 mul-own-weight : tie.Need-mul-own-weight Inv-loop μ-loop
 mul-own-weight c = let h = a<limit (corners (read c)) in omega arith
 
@@ -179,7 +186,7 @@ next o =
     let e = o .before .before .before .before in
     let g = read e in
     let p = polygon g in
-    let w = o .own-weight .ensures ∙ (λ i. ownWeightOf (p .«area_factor») (p .«bend_factor») (face-is e i) (edges-are e i)) in
+    let w = o .own-weight .ensures ∙ weight-is e in
     turn (rest-step (ownWeight p) (list g) (index g) [] (below g) ∙ ap (λ (k : ℕ). k ∷ map (ownWeight p) (drop (index g + 1) (list g))) (sym w)) (g .before .before .before .before .before .before .loop .inv)
 
 mul-weights : tie.Need-mul-weights Inv-loop μ-loop
