@@ -25,7 +25,7 @@ vectorOf k = record { x = k .x; y = k .y; z = k .z }
 abbrev pub nextVertex : ℕ → ℕ → ℕ
 nextVertex n i = cond (eqb (i + 1) n) 0 (i + 1)
 
--- v is a corner of candidate t
+-- v is a corner of candidate t (rule 2.14)
 abbrev pub isCorner : List ℕ → ℕ → Bool
 isCorner t v = either (eqb v (vertexA t)) (either (eqb v (vertexB t)) (eqb v (vertexC t)))
 
@@ -42,7 +42,7 @@ rimBend p t i =
 abbrev pub rimBends : Polygon → List ℕ → ℕ
 rimBends p t = sumBelow (p .n) (λ i. cond (hasRimEdge (p .n) t i) (rimBend p t i) 0)
 
--- the own weight of candidate t (rule 2.15)
+-- the own weight of candidate t: its area weight, and its bends along the rim (rule 2.15)
 abbrev pub ownWeight : Polygon → List ℕ → ℕ
 ownWeight p t = areaWeight p t + rimBends p t
 
