@@ -13,12 +13,12 @@ use Rattle.integers.specs.Rounding.{rootDigits}
 use Rattle.geometry.specs.Faces.{lengthOf, ratioOf, bendOf}
 use Rattle.geometry.specs.Spheres.{orientOf, centreOf, distanceOf}
 use Rattle.lists.specs.Lists.{upFrom, everyFrom, someFrom}
+use Rattle.lists.specs.Sums.{sumBelow}
 use Rattle.terms.specs.Limits.{maxVertices}
 use Rattle.terms.specs.Entries.{triple, hangs}
 use Rattle.faces.specs.Faces.{isFace}
 use Rattle.delaunay_tetrahedra.specs.Tetrahedra.{counts, isFaceOfFour, cospherical}
 use Rattle.delaunay.specs.Candidates.{isFlat, isCandidate, degenerate}
-use Rattle.weights.specs.Weights.{edgeNormal, outsideWeightOf}
 use Rattle.finder.specs.declared.Found.the-variants.{Lists, Refused}
 use Rattle.finder.specs.Finding.{Finding, candidateCountOf, rowCountOf, finding, numberDue, findCall}
 use Rattle.triangulator.specs.declared.Outcome.{Outcome}
@@ -49,7 +49,7 @@ found = triple 0 1 2 ∷ triple 0 1 3 ∷ triple 0 2 3 ∷ triple 1 2 3 ∷ trip
 -- where the bend factor is 0, every row has the weight 0 and is there
 pub rows-of-weight-0 :
     findCall (rim 0) (nines 5) (replicate 5 9) (nines 3) ≡ finding (Lists 4 2) found (80 ∷ 64 ∷ 80 ∷ 93 ∷ 9 ∷ []) (triple 1 3 0 ∷ triple 2 0 0 ∷ triple 9 9 9 ∷ [])
-unfolding numberDue codeOf repeatedVertex verticesCodeFrom upFrom everyFrom someFrom isFace counts isFaceOfFour isFlat isCandidate cospherical degenerate orientOf centreOf distanceOf hangs lengthOf rootDigits ratioOf bendOf edgeNormal outsideWeightOf
+unfolding numberDue codeOf repeatedVertex verticesCodeFrom upFrom everyFrom someFrom isFace counts isFaceOfFour isFlat isCandidate cospherical degenerate orientOf centreOf distanceOf hangs lengthOf rootDigits ratioOf bendOf sumBelow
 rows-of-weight-0 = refl
 
 -- a row table one place short: 13, and nothing is changed

@@ -14,7 +14,6 @@ use Rattle.delaunay.specs.Candidates.{isCandidate, candidatesOf}
 use Rattle.dihedrals.specs.Dihedrals.{hingeWeight, rowAt, rowsOf}
 use Rattle.weights.specs.Weights.{ownWeight, weightsOf}
 use Rattle.weights.proofs.Edges.{weight-at}
-use Rattle.weights.proofs.RimEdges.{own-weight-along-the-rim}
 use Rattle.demands.specs.Demand2.{IsRow, Demand2}
 use Rattle.demands.proofs.Candidates.{true-candidate, candidate-true}
 use Rattle.finder.proofs.Accepted.{row-hinge, hinge-row, rows-in-order, candidates-in-order, weights-allowed}
@@ -36,7 +35,7 @@ module _ (p : Polygon) (v : ValidPolygon p) where
     only-listed = λ t m. let r = triples-member (p .n) (isCandidate p) t m in (r .a, r .b, r .c, r .is, candidate-true p (r .a) (r .b) (r .c) (r .holds-of));
     ascending = λ i j h k. true-before (entryAt cs i) (entryAt cs j) (candidates-in-order p v .ascending i j h k);
     weight-count = length-map cs (ownWeight p);
-    weight = λ i h. let o = candidates-in-order p v .ordered i h in weight-at p cs i h ∙ own-weight-along-the-rim p (entryAt cs i) (o .a-b) (o .b-c) (o .c-n);
+    weight = weight-at p cs;
     hinge = λ k h. true-hangs (entryAt cs (inner (entryAt rows k))) (entryAt cs (outer (entryAt rows k))) (rows-in-order p cs .named k h .hanging);
     hinge-outer = λ k h. rows-in-order p cs .named k h .outer-is;
     hinge-inner = λ k h. rows-in-order p cs .named k h .inner-is;

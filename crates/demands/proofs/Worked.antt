@@ -10,6 +10,7 @@ use lib.ListN.{length, take, drop, replicate}
 use Rattle.terms.specs.Limits.{maxVertices}
 use Rattle.terms.specs.Entries.{triple, before, hangs, rowBefore}
 use Rattle.lists.specs.Lists.{filled, either, upFrom, everyFrom, someFrom}
+use Rattle.lists.specs.Sums.{sumBelow}
 use Rattle.lists.proofs.Choice.{yes, no}
 use Rattle.grid.specs.Point.{point}
 use Rattle.grid.specs.Number.{finite, numerator, denominator, negative, inRange, roundEighths, gridNumberOf}
@@ -32,7 +33,7 @@ use Rattle.delaunay_tetrahedra.specs.Tetrahedra.{counts, isFaceOfFour, cospheri
 use Rattle.delaunay_triangles.specs.Triangles.{countsInPlane, isCountedThree, cocircular}
 use Rattle.delaunay.specs.Candidates.{isFlat, isCandidate, candidatesOf, degenerate}
 use Rattle.dihedrals.specs.Dihedrals.{rowsOf}
-use Rattle.weights.specs.Weights.{edgeNormal, outsideWeightOf, weightsOf}
+use Rattle.weights.specs.Weights.{weightsOf}
 use Rattle.jobs.specs.Job.{ascends, candidateFits, namesPair, rowFits, listsCode, jobCode}
 use Rattle.finder.specs.Finding.{short, numberDue}
 use Rattle.triangulation.specs.Triangulations.{Problem, Answer, best, patch, bestKey, key, isTriangulation, totalWeight, preorderFrom, countBetween, countOutside}
@@ -96,11 +97,11 @@ unfolding codeOf repeatedVertex verticesCodeFrom someFrom
 code-N = refl
 
 weights-P : weightsOf (rimWith none) triplesP ≡ 80 ∷ 64 ∷ 80 ∷ 93 ∷ []
-unfolding lengthOf rootDigits edgeNormal outsideWeightOf
+unfolding lengthOf rootDigits sumBelow
 weights-P = refl
 
 weights-N : weightsOf (rimWith slopes) triplesP ≡ 80 ∷ 264 ∷ 800 ∷ 233 ∷ []
-unfolding lengthOf rootDigits ratioOf bendOf edgeNormal outsideWeightOf
+unfolding lengthOf rootDigits ratioOf bendOf sumBelow
 weights-N = refl
 
 best-P : best (job (80 ∷ 64 ∷ 80 ∷ 93 ∷ [])) ≡ patch 469 (1 ∷ 3 ∷ [])
@@ -179,7 +180,7 @@ abbrev rims : List Case
 rims = take 6 (drop 3 worked)
 
 rims-hold : map (λ c. c .computed) rims ≡ map (λ c. c .expected) rims
-unfolding patchPolygon tablesShort numberDue codeOf repeatedVertex verticesCodeFrom upFrom everyFrom someFrom orientOf circumcentreOf distanceInPlane countsInPlane isCountedThree isFlat isCandidate cocircular degenerate hangs lengthOf rootDigits ratioOf bendOf edgeNormal outsideWeightOf bestKey key isTriangulation totalWeight preorderFrom countBetween countOutside
+unfolding patchPolygon tablesShort numberDue codeOf repeatedVertex verticesCodeFrom upFrom everyFrom someFrom orientOf circumcentreOf distanceInPlane countsInPlane isCountedThree isFlat isCandidate cocircular degenerate hangs lengthOf rootDigits ratioOf bendOf sumBelow bestKey key isTriangulation totalWeight preorderFrom countBetween countOutside
 rims-hold = refl
 
 -- ---- the list

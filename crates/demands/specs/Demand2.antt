@@ -2,14 +2,14 @@
 use mathlib.Core.Path.{_≡_}
 use mathlib.Core.Bool.{true}
 use mathlib.Core.List.{List, List·Memᴰ}
-use Prim.Native.Nat.{ℕ, _+_, _*_, _≤_, _<_}
+use Prim.Native.Nat.{ℕ, _*_, _≤_, _<_}
 use lib.ListN.{length, take, drop, getD}
 use Rattle.polygon.specs.declared.Polygon.{Polygon}
-use Rattle.geometry.specs.Faces.{lengthOf, bendBetween}
+use Rattle.geometry.specs.Faces.{bendBetween}
 use Rattle.terms.specs.Limits.{maxWeight}
 use Rattle.terms.specs.Entries.{triple, entryAt, outer, inner, rowWeight, before, rowBefore, hangs}
 use Rattle.dihedrals.specs.Dihedrals.{faceNormal}
-use Rattle.weights.specs.RimEdges.{rimBends}
+use Rattle.weights.specs.Weights.{ownWeight}
 use Rattle.demands.specs.Candidates.{Candidate}
 
 -- row k is that of outer o and inner i (rule 2.13)
@@ -25,10 +25,10 @@ pub record Demand2 (p : Polygon) (candidates : List (List ℕ)) (weights : List 
   pub only-listed : (t : List ℕ) → List·Memᴰ t candidates → (a : ℕ) × (b : ℕ) × (c : ℕ) × (t ≡ triple a b c) × Candidate p a b c
   -- the list is strictly ascending, so each candidate stands in it once (rule 2.4)
   pub ascending : (i j : ℕ) → i < j → j < length candidates → before (entryAt candidates i) (entryAt candidates j) ≡ true
-  -- each weight is the area factor times the length of the normal, and besides, summed over the candidate's rim edges that have a surface outside, the
-  -- bend factor times the bend against that surface (rules 2.8, 2.14, 2.15)
+  -- each weight is the candidate's own: the area factor times the length of its normal, and besides, summed over its rim edges that have a surface
+  -- outside, the bend factor times the bend against that surface (rules 2.8, 2.14, 2.15)
   pub weight-count : length weights ≡ length candidates
-  pub weight : (i : ℕ) → i < length candidates → getD weights i 0 ≡ p .«area_factor» * lengthOf (faceNormal p (entryAt candidates i)) + rimBends p (entryAt candidates i)
+  pub weight : (i : ℕ) → i < length candidates → getD weights i 0 ≡ ownWeight p (entryAt candidates i)
   -- every row is that of a hanging pair, and carries the bend factor times the bend (rules 2.9, 2.12, 2.13)
   pub hinge : (k : ℕ) → k < length rows → hangs (entryAt candidates (inner (entryAt rows k))) (entryAt candidates (outer (entryAt rows k))) ≡ true
   pub hinge-outer : (k : ℕ) → k < length rows → outer (entryAt rows k) < length candidates

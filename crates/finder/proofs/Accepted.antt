@@ -21,8 +21,9 @@ use Rattle.lists.proofs.Members.{Ascending, over-member, over-put, when-member,
 use Rattle.delaunay.specs.Candidates.{isCandidate, candidatesOf}
 use Rattle.dihedrals.specs.Dihedrals.{faceNormal, rowAt, rowsOn, rowsOf}
 use Rattle.weights.specs.Weights.{weightsOf}
-use Rattle.weights.proofs.Edges.{own-weight-bound, weight-at}
-use Rattle.finder.proofs.Candidates.{triples-ascend, candidate-at, candidates-proper}
+use Rattle.weights.proofs.Edges.{weight-at}
+use Rattle.weights.proofs.RimEdges.{own-weight-bound}
+use Rattle.finder.proofs.Candidates.{triples-ascend, candidate-at}
 
 -- ---- rows, of any list of candidates
 module _ (p : Polygon) (cs : List (List ℕ)) where
@@ -94,7 +95,7 @@ module _ (p : Polygon) (v : ValidPolygon p) where
 
   pub weights-allowed : lists.Weights (candidatesOf p) (weightsOf p (candidatesOf p)) (rowsOf p (candidatesOf p))
   weights-allowed = record {
-    own = λ i h. subst (λ (w : ℕ). w ≤ maxWeight) (sym (weight-at p (candidatesOf p) i h)) (own-weight-bound v (candidates-proper p v .corners i h));
+    own = λ i h. let o = candidates-in-order .ordered i h in subst (λ (w : ℕ). w ≤ maxWeight) (sym (weight-at p (candidatesOf p) i h)) (own-weight-bound p (entryAt (candidatesOf p) i) (o .a-b) (o .b-c) (o .c-n) v);
     of-row = λ k h. let f = row-hinge p (candidatesOf p) (entryAt (rowsOf p (candidatesOf p)) k) (entry-member (rowsOf p (candidatesOf p)) [] k h) in
         subst (λ (w : ℕ). w ≤ maxWeight) (sym (ap rowWeight (f .is))) (le-trans (bend-weight-bound (v .bend-factor) (bend-bound (dotOf (faceNormal p (entryAt (candidatesOf p) (f .i))) (faceNormal p (entryAt (candidatesOf p) (f .o)))) (lengthOf (faceNormal p (entryAt (candidatesOf p) (f .i)))) (lengthOf (faceNormal p (entryAt (candidatesOf p) (f .o)))))) (lit≤ tt));
   }

@@ -1,8 +1,8 @@
--- The edges of a candidate of a polygon: which normals they have, and that its own weight stays below the limit. Assumes nothing.
+-- The edges of a candidate of a polygon: which normals they have. Assumes nothing.
 use mathlib.Core.Path.{_≡_}
 use mathlib.Core.Bool.{true}
 use mathlib.Core.List.{List, []}
-use Prim.Native.Nat.{ℕ, _*_, _≤_, _<_}
+use Prim.Native.Nat.{ℕ, _<_}
 use native.Mathlib.Omega.{arith}
 use lib.ListN.{length, getD}
 use Rattle.lists.specs.Lists.{both}
@@ -12,18 +12,13 @@ use Rattle.polygon.specs.declared.Polygon.{Polygon}
 use Rattle.polygon.specs.Polygon.{ValidPolygon}
 use Rattle.polygon.specs.Normal.{isNone, normalAt}
 use Rattle.geometry.specs.declared.Vector.{Vector}
-use Rattle.geometry.specs.Bounds.{maxLength, maxBend}
 use Rattle.geometry.specs.Faces.{lengthOf, areaWeightOf}
-use Rattle.geometry.proofs.Faces.{length-bound, area-weight-bound}
-use Rattle.terms.specs.Limits.{maxAreaFactor, maxBendFactor, maxWeight}
 use Rattle.terms.specs.Entries.{entryAt, vertexA, vertexB, vertexC}
-use Rattle.dihedrals.specs.Dihedrals.{faceNormal}
 use Rattle.dihedrals.specs.Lists.{Corners}
-use Rattle.dihedrals.proofs.Faces.{face-within}
 use Rattle.weights.specs.declared.outside.EdgeNormals.{EdgeNormals}
-use Rattle.weights.specs.Weights.{areaWeight, outsideNormal, outsideWeight, ownWeight, weightsOf}
+use Rattle.weights.specs.Weights.{ownWeight, weightsOf}
 use Rattle.weights.specs.Edges.{edgeNormals, EdgesInRange, allNone, ownWeightOf}
-use Rattle.weights.proofs.Surfaces.{edge-in-range, outside-none, outside-bound}
+use Rattle.weights.proofs.Surfaces.{edge-in-range, outside-none}
 
 -- the edges of vertices a, b, c
 abbrev pub edgesAt : Polygon → ℕ → ℕ → ℕ → EdgeNormals
@@ -53,13 +48,6 @@ none-outside area bend normal e h =
       outside-none bend normal (e .bc) (both-left (isNone (e .bc)) (isNone (e .ac)) rest),
       outside-none bend normal (e .ac) (both-right (isNone (e .bc)) (isNone (e .ac)) rest),
     )
-
--- no own weight is above what a direct job may have
-pub own-weight-bound : {p : Polygon} {t : List ℕ} → ValidPolygon p → Corners p t → ownWeight p t ≤ maxWeight
-own-weight-bound {p} {t} v c =
-    let area : areaWeight p t ≤ maxAreaFactor * maxLength = area-weight-bound (v .area-factor) (length-bound (face-within v c)) in
-    let bend : (x y : ℕ) → outsideWeight p t x y ≤ maxBendFactor * maxBend = λ x y. outside-bound (p .«bend_factor») (faceNormal p t) (outsideNormal p x y) (v .bend-factor) in
-    omega (arith, area, bend (vertexA t) (vertexB t), bend (vertexB t) (vertexC t), bend (vertexA t) (vertexC t))
 
 pub weight-at : (p : Polygon) (cs : List (List ℕ)) (i : ℕ) → i < length cs → getD (weightsOf p cs) i 0 ≡ ownWeight p (entryAt cs i)
 weight-at p cs i h = map-at (ownWeight p) cs [] 0 i h

@@ -1,24 +1,30 @@
--- The own weight by the candidate's three edges is its area weight and the bends summed along the rim. Assumes nothing.
+-- The own weight, a sum along the rim, is the one by the candidate's three edges; so it stays below the limit. Assumes nothing.
 use mathlib.Core.Path.{_≡_, refl, sym, ap, _∙_}
 use mathlib.Core.Bool.{Bool, true, false, cond}
 use mathlib.Core.List.{List}
 use mathlib.Core.Logic.{_⊎_, inl, inr}
-use Prim.Native.Nat.{ℕ, zero, suc, _+_, _≤_, _<_}
+use Prim.Native.Nat.{ℕ, zero, suc, _+_, _*_, _≤_, _<_}
 use native.Mathlib.Nat.{add-zero}
 use native.Mathlib.Omega.{arith}
 use borrow.Author.Tests.{eq-eqb, ne-eqb, eqb-true, eqb-false}
 use lib.Dec.{eqb}
 use Rattle.lists.specs.Lists.{both, either}
-use Rattle.lists.proofs.Choice.{below-or-same, either-left, either-right, both-true}
+use Rattle.lists.specs.Sums.{sumBelow}
+use Rattle.lists.proofs.Choice.{yes, below-or-same, either-left, either-right, both-true}
 use Rattle.polygon.specs.declared.Polygon.{Polygon}
 use Rattle.polygon.specs.declared.normal.Normal.{Normal}
-use Rattle.polygon.specs.Normal.{noNormal, normalAt}
+use Rattle.polygon.specs.Polygon.{ValidPolygon}
+use Rattle.polygon.specs.Normal.{noNormal, isNone, normalAt}
+use Rattle.geometry.specs.Bounds.{maxLength, maxBend}
+use Rattle.geometry.proofs.Faces.{length-bound, area-weight-bound}
+use Rattle.terms.specs.Limits.{maxAreaFactor, maxBendFactor, maxWeight}
 use Rattle.terms.specs.Entries.{vertexA, vertexB, vertexC}
 use Rattle.dihedrals.specs.Dihedrals.{faceNormal}
-use Rattle.weights.specs.Weights.{edgeNormal, outsideWeightOf, outsideWeight, areaWeight, ownWeight}
-use Rattle.lists.specs.Sums.{sumBelow}
-use Rattle.weights.specs.RimEdges.{nextVertex, isCorner, hasRimEdge, rimBend, rimBends}
-use Rattle.weights.proofs.Surfaces.{of-the-next, of-the-last, not-from-0, not-to-the-last, outside-none}
+use Rattle.dihedrals.proofs.Faces.{face-within}
+use Rattle.weights.specs.Weights.{nextVertex, isCorner, hasRimEdge, rimBend, rimBends, areaWeight, ownWeight}
+use Rattle.weights.specs.Edges.{edgeNormal, outsideWeightOf, ownWeightOf}
+use Rattle.weights.proofs.Surfaces.{of-the-next, of-the-last, not-from-0, not-to-the-last, outside-none, outside-bound}
+use Rattle.weights.proofs.Edges.{edgesOf}
 
 same-or-not : (x y : ℕ) → (x ≡ y) ⊎ (x ≡ y → ⊥)
 same-or-not x y = by (eqb x y) refl
@@ -46,6 +52,15 @@ three f a b c n ab bc cn h =
     let past-a : sumBelow b f ≡ sumBelow a f + f a = skip f b (suc a) ab (λ i l m. h i (omega arith) (λ e. omega (arith, e)) (λ e. omega (arith, e)) (λ e. omega (arith, e))) in
     let none : sumBelow a f ≡ 0 = skip f a 0 (omega arith) (λ i l m. h i (omega arith) (λ e. omega (arith, e)) (λ e. omega (arith, e)) (λ e. omega (arith, e))) in
     omega (arith, past-c, past-b, past-a, none)
+
+-- a rim without a surface outside bends no candidate
+pub no-bends : (p : Polygon) (t : List ℕ) → ((i : ℕ) → i < p .n → isNone (normalAt (p .normals) i) ≡ true) → rimBends p t ≡ 0
+unfolding sumBelow
+no-bends p t bare = skip _ (p .n) 0 (omega arith) (λ i _ l. by (hasRimEdge (p .n) t i) (yes 0 _ (bare i l)))
+  where
+    by : (b : Bool) {w : ℕ} → w ≡ 0 → cond b w 0 ≡ 0
+    by true e = e
+    by false e = refl
 
 module _ (p : Polygon) (t : List ℕ) (ab : vertexA t < vertexB t) (bc : vertexB t < vertexC t) (cn : vertexC t < p .n) where
   abbrev a : ℕ
@@ -96,11 +111,18 @@ module _ (p : Polygon) (t : List ℕ) (ab : vertexA t < vertexB t) (bc : vertexB
   term-no : (i : ℕ) → hasRimEdge (p .n) t i ≡ false → term i ≡ 0
   term-no i h = ap (λ (k : Bool). cond k (rimBend p t i) 0) h
 
+  -- the surface outside the edge of vertices x < y, and the weight of the bend there
+  abbrev outsideNormal : ℕ → ℕ → Normal
+  outsideNormal x y = edgeNormal (p .n) x y (normalAt (p .normals) x) (normalAt (p .normals) y)
+
+  abbrev outside : ℕ → ℕ → ℕ
+  outside x y = outsideWeightOf (p .«bend_factor») (faceNormal p t) (outsideNormal x y)
+
   -- an edge with the normal k, and one with none
-  has : (x y i : ℕ) → edgeNormal (p .n) x y (normalAt (p .normals) x) (normalAt (p .normals) y) ≡ normalAt (p .normals) i → hasRimEdge (p .n) t i ≡ true → term i ≡ outsideWeight p t x y
+  has : (x y i : ℕ) → outsideNormal x y ≡ normalAt (p .normals) i → hasRimEdge (p .n) t i ≡ true → term i ≡ outside x y
   has x y i e h = term-yes i h ∙ ap (outsideWeightOf (p .«bend_factor») (faceNormal p t)) (sym e)
 
-  has-none : (x y i : ℕ) → edgeNormal (p .n) x y (normalAt (p .normals) x) (normalAt (p .normals) y) ≡ noNormal → hasRimEdge (p .n) t i ≡ false → term i ≡ outsideWeight p t x y
+  has-none : (x y i : ℕ) → outsideNormal x y ≡ noNormal → hasRimEdge (p .n) t i ≡ false → term i ≡ outside x y
   has-none x y i e h =
       term-no i h
       ∙ sym (ap (outsideWeightOf (p .«bend_factor») (faceNormal p t)) e ∙ outside-none (p .«bend_factor») (faceNormal p t) noNormal refl)
@@ -115,13 +137,13 @@ module _ (p : Polygon) (t : List ℕ) (ab : vertexA t < vertexB t) (bc : vertexB
   kc = normalAt (p .normals) c
 
   -- (a, b)
-  first : term a ≡ outsideWeight p t a b
+  first : term a ≡ outside a b
   first = by (same-or-not b (a + 1)) (same-or-not a 0)
     where
       within : nextVertex (p .n) a ≡ a + 1
       within = next-within a (omega arith)
 
-      by : (b ≡ a + 1) ⊎ (b ≡ a + 1 → ⊥) → (a ≡ 0) ⊎ (a ≡ 0 → ⊥) → term a ≡ outsideWeight p t a b
+      by : (b ≡ a + 1) ⊎ (b ≡ a + 1 → ⊥) → (a ≡ 0) ⊎ (a ≡ 0 → ⊥) → term a ≡ outside a b
       by (inl e) z = has a b a (of-the-next (p .n) a b ka kb e) (edge-yes a (a + 1) (is-a) within (is-b (a + 1) (sym e)))
       by (inr d) z = has-none a b a (none z) (edge-no a (a + 1) (is-a) within (no-corner (a + 1) (λ e. omega (arith, e)) (λ e. d (sym e)) (λ e. omega (arith, e))))
         where
@@ -130,18 +152,18 @@ module _ (p : Polygon) (t : List ℕ) (ab : vertexA t < vertexB t) (bc : vertexB
           none (inr z) = not-from-0 (p .n) a b ka kb d z
 
   -- (b, c)
-  second : term b ≡ outsideWeight p t b c
+  second : term b ≡ outside b c
   second = by (same-or-not c (b + 1))
     where
       within : nextVertex (p .n) b ≡ b + 1
       within = next-within b (omega arith)
 
-      by : (c ≡ b + 1) ⊎ (c ≡ b + 1 → ⊥) → term b ≡ outsideWeight p t b c
+      by : (c ≡ b + 1) ⊎ (c ≡ b + 1 → ⊥) → term b ≡ outside b c
       by (inl e) = has b c b (of-the-next (p .n) b c kb kc e) (edge-yes b (b + 1) (is-b b refl) within (is-c (b + 1) (sym e)))
       by (inr d) = has-none b c b (not-from-0 (p .n) b c kb kc d (λ e. omega (arith, e))) (edge-no b (b + 1) (is-b b refl) within (no-corner (b + 1) (λ e. omega (arith, e)) (λ e. omega (arith, e)) (λ e. d (sym e))))
 
   -- (a, c), which closes the rim or is not on it
-  third : term c ≡ outsideWeight p t a c
+  third : term c ≡ outside a c
   third = by (same-or-not (c + 1) (p .n)) (same-or-not a 0)
     where
       far : c ≡ a + 1 → ⊥
@@ -153,7 +175,7 @@ module _ (p : Polygon) (t : List ℕ) (ab : vertexA t < vertexB t) (bc : vertexB
       beyond : (c + 1 ≡ p .n → ⊥) → hasRimEdge (p .n) t c ≡ false
       beyond d = edge-no c (c + 1) at-c (next-within c (omega arith)) (no-corner (c + 1) (λ e. omega (arith, e)) (λ e. omega (arith, e)) (λ e. omega (arith, e)))
 
-      by : (c + 1 ≡ p .n) ⊎ (c + 1 ≡ p .n → ⊥) → (a ≡ 0) ⊎ (a ≡ 0 → ⊥) → term c ≡ outsideWeight p t a c
+      by : (c + 1 ≡ p .n) ⊎ (c + 1 ≡ p .n → ⊥) → (a ≡ 0) ⊎ (a ≡ 0 → ⊥) → term c ≡ outside a c
       by (inl e) (inl z) = has a c c (of-the-last (p .n) a c ka kc far z e) (edge-yes c 0 at-c (next-last c e) (is-0 z))
       by (inl e) (inr z) = has-none a c c (not-from-0 (p .n) a c ka kc far z) (edge-no c 0 at-c (next-last c e) (no-corner 0 (λ q. z (sym q)) (λ q. omega (arith, q)) (λ q. omega (arith, q))))
       by (inr d) (inl z) = has-none a c c (not-to-the-last (p .n) a c ka kc far z d) (beyond d)
@@ -162,9 +184,13 @@ module _ (p : Polygon) (t : List ℕ) (ab : vertexA t < vertexB t) (bc : vertexB
   elsewhere : (i : ℕ) → i < p .n → (i ≡ a → ⊥) → (i ≡ b → ⊥) → (i ≡ c → ⊥) → term i ≡ 0
   elsewhere i l x y z = term-no i (ap (λ (k : Bool). both k (isCorner t (nextVertex (p .n) i))) (no-corner i x y z))
 
-  pub rim-bends-are : rimBends p t ≡ outsideWeight p t a b + outsideWeight p t b c + outsideWeight p t a c
-  rim-bends-are = three term a b c (p .n) ab bc cn elsewhere ∙ (λ i. first i + second i + third i)
+  -- the own weight by the three edges is the area weight and the sum along the rim
+  pub own-weight-along-the-rim : ownWeightOf (p .«area_factor») (p .«bend_factor») (faceNormal p t) (edgesOf p t) ≡ ownWeight p t
+  own-weight-along-the-rim = omega (arith, three term a b c (p .n) ab bc cn elsewhere, first, second, third)
 
-  -- the own weight is the area weight and the sum along the rim
-  pub own-weight-along-the-rim : ownWeight p t ≡ areaWeight p t + rimBends p t
-  own-weight-along-the-rim = omega (arith, rim-bends-are)
+  -- no own weight is above what a direct job may have
+  pub own-weight-bound : ValidPolygon p → ownWeight p t ≤ maxWeight
+  own-weight-bound v =
+      let area : areaWeight p t ≤ maxAreaFactor * maxLength = area-weight-bound (v .area-factor) (length-bound (face-within {t = t} v (record { a<n = omega arith; b<n = omega arith; c<n = cn }))) in
+      let bend : (x y : ℕ) → outside x y ≤ maxBendFactor * maxBend = λ x y. outside-bound (p .«bend_factor») (faceNormal p t) (outsideNormal x y) (v .bend-factor) in
+      omega (arith, own-weight-along-the-rim, area, bend a b, bend b c, bend a c)

@@ -20,7 +20,8 @@ use Rattle.geometry.specs.Faces.{lengthOf, bendBetween, bendWeightOf}
 use Rattle.geometry.proofs.Faces.{zero-vector, length-above-0, bend-weight-bound}
 use Rattle.geometry.proofs.Bends.{bend-bound}
 use Rattle.terms.specs.Limits.{maxBendFactor}
-use Rattle.weights.specs.Weights.{vectorOf, edgeNormal, outsideWeightOf}
+use Rattle.weights.specs.Weights.{vectorOf}
+use Rattle.weights.specs.Edges.{edgeNormal, outsideWeightOf}
 
 -- ---- its normal
 at-most : {c : ℤ} → OnGrid c → AtMost maxNormal c

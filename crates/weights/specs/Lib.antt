@@ -1,3 +1,2 @@
 pub mod Weights
 pub mod Edges
-pub mod RimEdges

@@ -7,8 +7,8 @@ ghost use Prim.Native.Nat.{_≤_, _<_};
 ghost use Rattle.terms.specs.Limits.{maxVertices, maxBendFactor};
 ghost use Rattle.polygon.specs.Normal.{NormalInRange};
 ghost use Rattle.dihedrals.specs.Lists.{Measured};
-ghost use Rattle.weights.specs.Weights.{vectorOf, edgeNormal, outsideWeightOf};
-ghost use Rattle.weights.specs.Edges.{edgeNormals, allNone};
+ghost use Rattle.weights.specs.Weights.{vectorOf};
+ghost use Rattle.weights.specs.Edges.{edgeNormal, edgeNormals, allNone, outsideWeightOf};
 
 fn vector(normal: Normal) -> Vector
     ensures { λ r. ⌜ r ≡ vectorOf normal ⌝ }

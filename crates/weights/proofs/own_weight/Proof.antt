@@ -9,7 +9,7 @@ use Rattle.geometry.specs.Bounds.{maxLength, maxBend}
 use Rattle.geometry.specs.declared.Vector.{Vector}
 use Rattle.geometry.specs.Faces.{normalOf, lengthOf, areaWeightOf}
 use Rattle.geometry.proofs.Faces.{length-bound, area-weight-bound}
-use Rattle.weights.specs.Weights.{outsideWeightOf}
+use Rattle.weights.specs.Edges.{outsideWeightOf}
 use Rattle.dihedrals.specs.Lists.{Measured}
 use Rattle.weights.proofs.Surfaces.{outside-bound}
 use Rattle.weights.proofs.Edges.{none-outside}

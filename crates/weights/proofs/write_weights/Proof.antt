@@ -21,6 +21,7 @@ use Rattle.weights.specs.declared.outside.EdgeNormals.{EdgeNormals}
 use Rattle.weights.specs.Weights.{ownWeight, weightsOf}
 use Rattle.weights.specs.Edges.{EdgesInRange, ownWeightOf}
 use Rattle.weights.proofs.Edges.{edgesAt, edgesOf, edges-in-range}
+use Rattle.weights.proofs.RimEdges.{own-weight-along-the-rim}
 use Rattle.weights.proofs.write_weights.Statement.{statement}
 use Rattle.weights.proofs.write_weights.Tie as tie
 
@@ -171,16 +172,25 @@ own-weight-requires c κs =
     let q = on-grid (corners g) in
     (omega (arith, s .pre .0 .valid .area-factor), s .pre .0 .valid .bend-factor, q .0, q .1, q .2, face-measured (s .pre .0) (index g) (below g) (face-is e) (length-is g), subst (λ (x : EdgeNormals). EdgesInRange x) (sym (edges-are e)) (edges-in-range (s .pre .0 .valid) (s .pre .0 .corners (index g) (below g))))
 
+-- the weight by the three edges is the own weight
+weight-is : (o : tie.After-own-weight Inv-loop μ-loop) → let g = read (o .before .before .before .before) in o .own-weight .result ≡ ownWeight (polygon g) (candidate g)
+weight-is o =
+    let e = o .before .before .before .before in
+    let g = read e in
+    let p = polygon g in
+    let s = begin g .pre .0 in
+    o .own-weight .ensures
+    ∙ (λ i. ownWeightOf (p .«area_factor») (p .«bend_factor») (face-is e i) (edges-are e i))
+    ∙ own-weight-along-the-rim p (candidate g) (s .sorted .a<b (index g) (below g)) (s .sorted .b<c (index g) (below g)) (s .corners (index g) (below g) .c<n)
+
 -- the weight that is written next
 next : (o : tie.After-own-weight Inv-loop μ-loop) →
     let g = read (o .before .before .before .before) in
     Writing (weightsOf (polygon g) (list g)) (o .own-weight .result ∷ map (ownWeight (polygon g)) (drop (index g + 1) (list g))) (begin g .args .weights .now) 0 (table g) (index g)
 next o =
-    let e = o .before .before .before .before in
-    let g = read e in
+    let g = read (o .before .before .before .before) in
     let p = polygon g in
-    let w = o .own-weight .ensures ∙ (λ i. ownWeightOf (p .«area_factor») (p .«bend_factor») (face-is e i) (edges-are e i)) in
-    turn (rest-step (ownWeight p) (list g) (index g) [] (below g) ∙ ap (λ (k : ℕ). k ∷ map (ownWeight p) (drop (index g + 1) (list g))) (sym w)) (g .before .before .before .before .before .before .loop .inv)
+    turn (rest-step (ownWeight p) (list g) (index g) [] (below g) ∙ ap (λ (k : ℕ). k ∷ map (ownWeight p) (drop (index g + 1) (list g))) (sym (weight-is o))) (g .before .before .before .before .before .before .loop .inv)
 
 mul-weights : tie.Need-mul-weights Inv-loop μ-loop
 mul-weights c = let g = read (c .before .before .before .before) in omega (arith, inside g, begin g .good)
