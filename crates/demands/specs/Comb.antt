@@ -10,7 +10,9 @@ use Rattle.triangulation.specs.Problems.{problemFrom}
 
 -- (0, 1, 3); then (0, 3, 5), .. , (0, 61, 63); and on the right of each (1, 2, 3), .. , (61, 62, 63)
 unfoldable pub comb : List (List ℕ)
-comb = triple 0 1 3 ∷ (map (λ k. triple 0 (2 * k + 1) (2 * k + 3)) (numbersFrom 1 30) ++ map (λ k. triple (2 * k + 1) (2 * k + 2) (2 * k + 3)) (numbersFrom 0 31))
+comb =
+    triple 0 1 3
+    ∷ (map (λ k. triple 0 (2 * k + 1) (2 * k + 3)) (numbersFrom 1 30) ++ map (λ k. triple (2 * k + 1) (2 * k + 2) (2 * k + 3)) (numbersFrom 0 31))
 
 -- each weighs 1
 unfoldable pub ones : List ℕ

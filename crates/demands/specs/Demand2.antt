@@ -34,7 +34,8 @@ pub record Demand2 (p : Polygon) (candidates : List (List ℕ)) (weights : List 
   pub hinge-outer : (k : ℕ) → k < length rows → outer (entryAt rows k) < length candidates
   pub hinge-inner : (k : ℕ) → k < length rows → inner (entryAt rows k) < length candidates
   pub hinge-weight : (k : ℕ) → k < length rows →
-      rowWeight (entryAt rows k) ≡ p .«bend_factor» * bendBetween (faceNormal p (entryAt candidates (inner (entryAt rows k)))) (faceNormal p (entryAt candidates (outer (entryAt rows k))))
+      rowWeight (entryAt rows k)
+      ≡ p .«bend_factor» * bendBetween (faceNormal p (entryAt candidates (inner (entryAt rows k)))) (faceNormal p (entryAt candidates (outer (entryAt rows k))))
   -- every hanging pair has exactly one row, whatever its weight (rule 2.13)
   pub row : (o i : ℕ) → o < length candidates → i < length candidates → hangs (entryAt candidates i) (entryAt candidates o) ≡ true → (k : ℕ) × IsRow rows k o i
   pub one-row : (o i j k : ℕ) → IsRow rows j o i → IsRow rows k o i → j ≡ k
@@ -46,7 +47,8 @@ pub record Demand2 (p : Polygon) (candidates : List (List ℕ)) (weights : List 
 
 -- what the tables hold after a call with so many candidates and rows (rule 3.9): the lists in the first places, and each further place what it held
 pub record TablesHold (p : Polygon) (count row-count : ℕ)
-    (candidates : List (List ℕ)) (weights : List ℕ) (rows : List (List ℕ)) (candidates′ : List (List ℕ)) (weights′ : List ℕ) (rows′ : List (List ℕ)) : Type 0 where
+    (candidates : List (List ℕ)) (weights : List ℕ) (rows : List (List ℕ))
+    (candidates′ : List (List ℕ)) (weights′ : List ℕ) (rows′ : List (List ℕ)) : Type 0 where
   pub lists : Demand2 p (take count candidates′) (take count weights′) (take row-count rows′)
   pub counted : length (take count candidates′) ≡ count
   pub rows-counted : length (take row-count rows′) ≡ row-count

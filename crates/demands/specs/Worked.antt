@@ -28,7 +28,8 @@ use Rattle.judge.specs.Call as judge
 use Rattle.judge.specs.Cases.{judgedOn, accepted, refused}
 use Rattle.pipeline.specs.Patching.{Tables, tables, Patching, patching, problemIn, patchPolygon, patchFile}
 
--- what a case computes: what the one call on a file or a polygon, or the call for a direct job, answers and leaves, and what the judge does; tilings; a bend; a grid number
+-- what a case computes: what the one call on a file or a polygon, or the call for a direct job, answers and leaves, and what the judge does; tilings; a bend;
+-- a grid number
 pub data Value : Type 0 where
   of-file : Patching → Value
   of-rim : Patching → Value
@@ -133,7 +134,8 @@ worked =
     (triple 1 3 312 ∷ triple 2 0 360 ∷ triple 9 9 9 ∷ [])
     (0 ∷ 0 ∷ 0 ∷ 0 ∷ 9 ∷ []))))
     -- rule 6.8: a triangle, with a surface outside each edge too; a square with a dent; a rim in a tilted plane; a square; points on one line
-    ∷ case (of-rim (patchPolygon (rimOf triangle []) (lent 2 1 0))) (of-rim (patching (Patch 1 53146) (tables (0 ∷ 9 ∷ []) (triple 0 1 2 ∷ []) (53146 ∷ []) [] (0 ∷ []))))
+    ∷ case (of-rim (patchPolygon (rimOf triangle []) (lent 2 1 0)))
+    (of-rim (patching (Patch 1 53146) (tables (0 ∷ 9 ∷ []) (triple 0 1 2 ∷ []) (53146 ∷ []) [] (0 ∷ []))))
     ∷ case (of-rim (patchPolygon (rimOf triangle (replicate 3 (normal (pos 0) (pos 0) (pos 9)))) (lent 1 1 0)))
     (of-rim (patching (Patch 1 53224) (tables (0 ∷ []) (triple 0 1 2 ∷ []) (53224 ∷ []) [] (0 ∷ []))))
     ∷ case (of-rim (patchPolygon (rimOf dent []) (lent 3 4 2)))

@@ -87,7 +87,8 @@ rimListsOf f =
 -- the number and the places of each table: those for candidates in three of them (rule 5.5)
 abbrev pub sizesAnswerOf : Sizes → SizesAnswer
 sizesAnswerOf s =
-    record { number = sizes.numberOf s; triangles = placesIn s .triangles; candidates = placesIn s .candidates; weights = placesIn s .candidates; rows = placesIn s .rows; work = placesIn s .candidates }
+    let p = placesIn s in
+    record { number = sizes.numberOf s; triangles = p .triangles; candidates = p .candidates; weights = p .candidates; rows = p .rows; work = p .candidates }
 
 -- the number, the edition and the length of a conversion (rule 5.2), and with it the output table after the call (rule 5.7)
 abbrev pub convertAnswerOf : Conversion → ConvertAnswer

@@ -123,7 +123,8 @@ fn write_lists(
     rows: &mut [[u32; 3]],
 )
     requires { ⌜ (ProperCandidates p (facesOf p (now masks))) × Room p (facesOf p (now masks)) (now candidates) (now weights) (now rows) ⌝ }
-    ensures { λ _. ⌜ Written p (facesOf p (now (masks .entry))) (now (candidates .entry)) (now (weights .entry)) (now (rows .entry)) (now (candidates .exit)) (now (weights .exit)) (now (rows .exit)) ⌝ }
+    ensures { λ _. ⌜ Written p (facesOf p (now (masks .entry))) (now (candidates .entry)) (now (weights .entry)) (now (rows .entry))
+        (now (candidates .exit)) (now (weights .exit)) (now (rows .exit)) ⌝ }
 {
     let n = p.n;
     let count = faces::list(masks, n, candidates);

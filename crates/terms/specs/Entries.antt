@@ -1,4 +1,5 @@
--- The words of the lists: a candidate is [a, b, c], a row is [outer, inner, weight]; which of two comes first, and which candidate hangs on which. Definitions only.
+-- The words of the lists: a candidate is [a, b, c], a row is [outer, inner, weight]; which of two comes first, which candidate hangs on which.
+-- Definitions only.
 use mathlib.Core.Bool.{Bool}
 use mathlib.Core.List.{List, [], _∷_}
 use Prim.Native.Nat.{ℕ}

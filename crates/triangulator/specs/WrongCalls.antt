@@ -1,4 +1,5 @@
--- What wrong tilers would answer and leave on the direct jobs of rules 6.1 to 6.3. That none of it is right is proved (proofs/WrongCalls.antt); nobody has to believe it.
+-- What wrong tilers would answer and leave on the direct jobs of rules 6.1 to 6.3. That none of it is right is proved (proofs/WrongCalls.antt); nobody has
+-- to believe it.
 use mathlib.Core.List.{List, [], _∷_}
 use Prim.Native.Nat.{ℕ}
 use Rattle.codes.specs.Refusals.{refusal}

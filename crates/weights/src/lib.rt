@@ -25,7 +25,8 @@ fn own_weight(
     m: u32,
     edges: EdgeNormals,
 ) -> u32
-    requires { ⌜ («area_factor» ≤ maxAreaFactor) × («bend_factor» ≤ maxBendFactor) × (PointOnGrid a) × (PointOnGrid b) × (PointOnGrid c) × (Measured (normalOf a b c) m) × (EdgesInRange edges) ⌝ }
+    requires { ⌜ («area_factor» ≤ maxAreaFactor) × («bend_factor» ≤ maxBendFactor) × (PointOnGrid a) × (PointOnGrid b) × (PointOnGrid c)
+        × (Measured (normalOf a b c) m) × (EdgesInRange edges) ⌝ }
     ensures { λ r. ⌜ r ≡ ownWeightOf «area_factor» «bend_factor» (normalOf a b c) edges ⌝ }
 {
     let area = face::area_weight(area_factor, m);
