@@ -23,8 +23,8 @@ use Rattle.rim_file.specs.Record.{heldNormal, normalIn}
 use Rattle.rim_file.proofs.Layouts.{record-within}
 use Rattle.rim_file.proofs.Lengths.{whole}
 use Rattle.rim_file.proofs.Normals.{normal-1, normal-2}
-use Rattle.reader.specs.Order.{Place, rim, Precedes, by-number, First, NoneDue}
-use Rattle.reader.specs.Due.{InFile, DueAt, too-few, vertex-repeated}
+use Rattle.reader.specs.Order.{FilePlace, rim, Precedes, by-number, First, NoneDue}
+use Rattle.reader.specs.Due.{InFile, FileDue, too-few, vertex-repeated}
 use Rattle.reader.specs.Reading as reader
 use Rattle.reader.proofs.Order.{none-first, Verdict, first-due, none-due, verdict-either, verdict-first, verdict-given, verdict-zero, verdict-none}
 use Rattle.reader.proofs.FirstNumber.{number-first, no-number-read, read-none}
@@ -64,17 +64,17 @@ module _ (file out : List ℕ) where
 
 -- ---- the reader's numbers come first
 module _ (file out : List ℕ) where
-  rim-most : (n : ℕ) → DueAt maxVertices file rim n → n ≤ 11
+  rim-most : (n : ℕ) → FileDue maxVertices file rim n → n ≤ 11
   rim-most _ (too-few i has e l) = omega arith
   rim-most _ (vertex-repeated i j p l has a b) = omega arith
 
-  later : (q : Place) (n j : ℕ) → DueAt maxVertices file q n → Precedes rim j q n → 11 < j → ⊥
+  later : (q : FilePlace) (n j : ℕ) → FileDue maxVertices file q n → Precedes rim j q n → 11 < j → ⊥
   later _ n j d (by-number l) h = omega (arith, rim-most n d)
 
-  reader-first : (k : ℕ) → First (DueAt maxVertices file) (suc k) → First (ConvertDue file out) (suc k)
+  reader-first : (k : ℕ) → First (FileDue maxVertices file) (suc k) → First (ConvertDue file out) (suc k)
   reader-first k f = record { place = f .place; is-due = by-reader (f .is-due); none-before = before }
     where
-      before : (p : Place) (j : ℕ) → Precedes p j (f .place) (suc k) → ConvertDue file out p j → ⊥
+      before : (p : FilePlace) (j : ℕ) → Precedes p j (f .place) (suc k) → ConvertDue file out p j → ⊥
       before p j h (by-reader d) = f .none-before p j h d
       before _ _ h (thirteen right short) = later (f .place) (suc k) 13 (f .is-due) h (omega arith)
       before _ _ h (nineteen i in-file two some) = later (f .place) (suc k) 19 (f .is-due) h (omega arith)
@@ -84,7 +84,7 @@ module _ (file out : List ℕ) where
   Decided = Verdict (ConvertDue file out) (numberDue file out)
 
   module _ (e : reader.numberDue maxVertices file ≡ 0) where
-    no-reader : (p : Place) (k : ℕ) → DueAt maxVertices file p k → ⊥
+    no-reader : (p : FilePlace) (k : ℕ) → FileDue maxVertices file p k → ⊥
     no-reader p k d = read-none maxVertices file (no-number-read maxVertices file e) .none p k d
 
     number-is : numberDue file out ≡ conversionNumber file out
@@ -95,7 +95,7 @@ module _ (file out : List ℕ) where
         first-due 12 (record { place = rim; is-due = thirteen (right-length maxVertices file e) (ltb-true (length out) (length (converted file)) a); none-before = before })
         (number-is ∙ yes _ _ a)
       where
-        before : (p : Place) (j : ℕ) → Precedes p j rim 13 → ConvertDue file out p j → ⊥
+        before : (p : FilePlace) (j : ℕ) → Precedes p j rim 13 → ConvertDue file out p j → ⊥
         before p j h (by-reader d) = no-reader p j d
         before _ _ (by-number l) (thirteen right short) = omega arith
         before _ _ (by-number l) (nineteen k in-file two some) = omega arith
@@ -103,7 +103,7 @@ module _ (file out : List ℕ) where
         first-due 18 (record { place = rim; is-due = lost-due file out e b; none-before = before })
         (number-is ∙ no _ _ a ∙ yes _ _ b)
       where
-        before : (p : Place) (j : ℕ) → Precedes p j rim 19 → ConvertDue file out p j → ⊥
+        before : (p : FilePlace) (j : ℕ) → Precedes p j rim 19 → ConvertDue file out p j → ⊥
         before p j h (by-reader d) = no-reader p j d
         before p j h (thirteen right short) = omega (arith, ltb-false (length out) (length (converted file)) a)
         before _ _ (by-number l) (nineteen k in-file two some) = omega arith
@@ -111,7 +111,7 @@ module _ (file out : List ℕ) where
         none-due (record { none = nothing })
         (number-is ∙ no _ _ a ∙ no _ _ b)
       where
-        nothing : (p : Place) (k : ℕ) → ConvertDue file out p k → ⊥
+        nothing : (p : FilePlace) (k : ℕ) → ConvertDue file out p k → ⊥
         nothing p k (by-reader d) = no-reader p k d
         nothing p k (thirteen right short) = omega (arith, ltb-false (length out) (length (converted file)) a)
         nothing p k (nineteen i in-file two some) = true-not-false (due-lost file out i in-file two some) b

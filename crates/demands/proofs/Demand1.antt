@@ -18,8 +18,8 @@ use Rattle.terms.specs.Numbers.{firstDue}
 use Rattle.polygon.proofs.Validity.{valid-code}
 use Rattle.rim_file.specs.File.{Bytes}
 use Rattle.reader.specs.declared.Status.the-variants.{Complete}
-use Rattle.reader.specs.Order.{Place, rim, Precedes, by-number, First, NoneDue}
-use Rattle.reader.specs.Due.{DueAt}
+use Rattle.reader.specs.Order.{FilePlace, rim, Precedes, by-number, First, NoneDue}
+use Rattle.reader.specs.Due.{FileDue}
 use Rattle.reader.specs.Reading.{polygonOf, answer, readingOf}
 use Rattle.reader.specs.Reading as reader
 use Rattle.reader.proofs.Order.{none-first, Verdict, first-due, none-due, verdict-either, verdict-first, verdict-given, verdict-zero, verdict-none}
@@ -89,22 +89,22 @@ module _ (limit : ℕ) (file : List ℕ) (bytes : Bytes file) (t : Tables) where
   Decided = Verdict (CallDue limit file t) (fileNumber limit file t)
 
   -- ---- the reader's numbers come first
-  reader-first : (k : ℕ) → First (DueAt limit file) (suc k) → First (CallDue limit file t) (suc k)
+  reader-first : (k : ℕ) → First (FileDue limit file) (suc k) → First (CallDue limit file t) (suc k)
   reader-first k f = record { place = f .place; is-due = by-reader (f .is-due); none-before = before }
     where
       empty : polygonIn limit file ≡ emptyPolygon
       empty = refused-empty limit file (suc k) f
 
-      before : (p : Place) (j : ℕ) → Precedes p j (f .place) (suc k) → CallDue limit file t p j → ⊥
+      before : (p : FilePlace) (j : ℕ) → Precedes p j (f .place) (suc k) → CallDue limit file t p j → ⊥
       before p j h (by-reader d) = f .none-before p j h d
       before p j h (twelve d) = nothing-12 (subst (λ (x : Polygon). Degenerate x) empty d)
       before p j h (thirteen d) = nothing-13 (subst (λ (x : Polygon). TooShort (placesOf x) t) empty d)
 
   -- ---- 12 comes next
-  pub twelve-first : NoneDue (DueAt limit file) → Degenerate (polygonIn limit file) → First (CallDue limit file t) 12
+  pub twelve-first : NoneDue (FileDue limit file) → Degenerate (polygonIn limit file) → First (CallDue limit file t) 12
   twelve-first none d = record { place = rim; is-due = twelve d; none-before = before }
     where
-      before : (p : Place) (j : ℕ) → Precedes p j rim 12 → CallDue limit file t p j → ⊥
+      before : (p : FilePlace) (j : ℕ) → Precedes p j rim 12 → CallDue limit file t p j → ⊥
       before p j h (by-reader d) = none .none p j d
       before _ _ (by-number l) (twelve d) = omega arith
       before _ _ (by-number l) (thirteen d) = omega arith
@@ -117,7 +117,7 @@ module _ (limit : ℕ) (file : List ℕ) (bytes : Bytes file) (t : Tables) where
     polygon-is : polygonIn limit file ≡ polygonOf file
     polygon-is = ap (λ (k : ℕ). answer k (polygonOf file) .polygon) e
 
-    no-reader : (p : Place) (k : ℕ) → DueAt limit file p k → ⊥
+    no-reader : (p : FilePlace) (k : ℕ) → FileDue limit file p k → ⊥
     no-reader p k d = read-only-when limit file complete .none p k d
 
     valid : ValidPolygon (polygonIn limit file)
@@ -135,7 +135,7 @@ module _ (limit : ℕ) (file : List ℕ) (bytes : Bytes file) (t : Tables) where
         first-due 12 (record { place = rim; is-due = thirteen (short-true (polygonIn limit file) t b); none-before = before })
         (number-is ∙ yes _ _ (eq-eqb (codeOf (polygonIn limit file)) 0 (valid-code (polygonIn limit file) valid)) ∙ no _ _ a ∙ yes _ _ b)
       where
-        before : (p : Place) (j : ℕ) → Precedes p j rim 13 → CallDue limit file t p j → ⊥
+        before : (p : FilePlace) (j : ℕ) → Precedes p j rim 13 → CallDue limit file t p j → ⊥
         before p j h (by-reader d) = no-reader p j d
         before p j h (twelve d) = true-not-false (true-degenerate (polygonIn limit file) d) a
         before _ _ (by-number l) (thirteen d) = omega arith
@@ -143,7 +143,7 @@ module _ (limit : ℕ) (file : List ℕ) (bytes : Bytes file) (t : Tables) where
         none-due (record { none = nothing })
         (number-is ∙ yes _ _ (eq-eqb (codeOf (polygonIn limit file)) 0 (valid-code (polygonIn limit file) valid)) ∙ no _ _ a ∙ no _ _ b)
       where
-        nothing : (p : Place) (k : ℕ) → CallDue limit file t p k → ⊥
+        nothing : (p : FilePlace) (k : ℕ) → CallDue limit file t p k → ⊥
         nothing p k (by-reader d) = no-reader p k d
         nothing p k (twelve d) = true-not-false (true-degenerate (polygonIn limit file) d) a
         nothing p k (thirteen d) = true-not-false (true-short (polygonIn limit file) t d) b

@@ -15,7 +15,7 @@ use Rattle.lists.proofs.Choice.{Truth, holds, fails, truth, no, true-not-false,
 use Rattle.terms.specs.Order.{NoneDue}
 use Rattle.terms.proofs.Order.{Verdict, none-first, verdict-either, verdict-first, verdict-given, verdict-zero, verdict-none}
 use Rattle.polygon.specs.declared.Polygon.{Polygon}
-use Rattle.polygon.specs.Due.{Before, First}
+use Rattle.polygon.specs.Due.{PolygonBefore, First}
 use Rattle.polygon.proofs.Due.{ordered}
 use Rattle.finder.specs.declared.Found.the-variants.{Lists, Refused}
 use Rattle.finder.specs.declared.Sizes.the-variants as sizes
@@ -42,7 +42,7 @@ module _ (p : Polygon) (candidates : List (List ℕ)) (weights : List ℕ) (rows
   true-short (few-rows h) =
       either-right (ltb (length candidates) (placesOf p .candidates)) _ (either-right (ltb (length weights) (placesOf p .candidates)) _ (lt-ltb _ _ h))
 
-  verdict : Verdict Before (FindDue p candidates weights rows) (findNumber p candidates weights rows)
+  verdict : Verdict PolygonBefore (FindDue p candidates weights rows) (findNumber p candidates weights rows)
   verdict = polygon-verdict p (FindTooShort (placesOf p) candidates weights rows) (shortTables p candidates weights rows) short-true true-short
 
   by-number : {k : ℕ} → findNumber p candidates weights rows ≡ k → findCall p candidates weights rows ≡ findBy k p candidates weights rows
@@ -83,7 +83,7 @@ module _ (p : Polygon) (candidates : List (List ℕ)) (weights : List ℕ) (rows
 
 -- ---- the places that a polygon needs (rule 5.5)
 module _ (p : Polygon) where
-  sizes-verdict : Verdict Before (SizesDue p) (numberDue false p)
+  sizes-verdict : Verdict PolygonBefore (SizesDue p) (numberDue false p)
   sizes-verdict = polygon-verdict p ⊥ false (λ e. true-not-false e refl) (λ z. absurd z)
 
   by-sizes : {k : ℕ} → numberDue false p ≡ k → sizesOf p ≡ sizesBy k p

@@ -26,8 +26,8 @@ use Rattle.delaunay.specs.Candidates.{isCandidate, candidatesOf}
 use Rattle.dihedrals.specs.Dihedrals.{rowsOf}
 use Rattle.weights.specs.Weights.{ownWeight, weightsOf}
 use Rattle.rim_file.specs.File.{Bytes}
-use Rattle.reader.specs.Order.{Place, NoneDue}
-use Rattle.reader.specs.Due.{DueAt}
+use Rattle.reader.specs.Order.{FilePlace, NoneDue}
+use Rattle.reader.specs.Due.{FileDue}
 use Rattle.triangulation.specs.Triangulations.{Answer, patch, best, bestKey, key, isTriangulation, totalWeight, preorderFrom, countBetween, countOutside}
 use Rattle.triangulation.specs.Problems.{problemFrom}
 use Rattle.triangulation.specs.Demand3.{Triangulates}
@@ -125,11 +125,11 @@ alone w rows = ap (λ (x : ℕ). patch x (0 ∷ [])) (sum w)
 
 -- ---- the one call
 -- where the reader takes the file: 12 where a three of a flat rim that counts has a fourth vertex on its circle
-pub circle-gets-12 : (limit : ℕ) (file : List ℕ) → Bytes file → (t : Tables) → NoneDue (DueAt limit file) → Cocircular (polygonIn limit file) → patchFile limit file t ≡ refused 12 t
+pub circle-gets-12 : (limit : ℕ) (file : List ℕ) → Bytes file → (t : Tables) → NoneDue (FileDue limit file) → Cocircular (polygonIn limit file) → patchFile limit file t ≡ refused 12 t
 circle-gets-12 limit file bytes t none r = refused-first limit file bytes t 12 (twelve-first limit file bytes t none (on-circle r))
 
 -- and only there: 12 given on a flat rim is that of such a circle
-due-12 : (limit : ℕ) (file : List ℕ) (t : Tables) (p : Place) → CallDue limit file t p 12 → Degenerate (polygonIn limit file)
+due-12 : (limit : ℕ) (file : List ℕ) (t : Tables) (p : FilePlace) → CallDue limit file t p 12 → Degenerate (polygonIn limit file)
 due-12 limit file t _ (twelve d) = d
 due-12 limit file t _ (by-reader d) = elim d [ ]
 

@@ -10,7 +10,7 @@ use Rattle.codes.specs.Refusals.{refusal}
 use Rattle.terms.specs.Limits.{minVertices, maxVertices, trimVertices, countFits}
 use Rattle.terms.specs.Numbers.{firstDue}
 use Rattle.rim_file.specs.File.{Bytes}
-use Rattle.reader.specs.Order.{Place, request, Precedes, by-number}
+use Rattle.reader.specs.Order.{FilePlace, request, Precedes, by-number}
 use Rattle.reader.specs.Due.{HasRecords, ChainAtMost, limit-wrong}
 use Rattle.reader.specs.Reading.{polygonOf, readingOf}
 use Rattle.reader.specs.declared.Status.the-variants.{Complete}
@@ -71,13 +71,13 @@ module _ (limit : ℕ) (file : List ℕ) (bytes : Bytes file) (t : Tables) where
   limit-refused wrong =
       refused-first limit file bytes t 14 (record { place = request; is-due = by-reader (limit-wrong wrong); none-before = before })
     where
-      before : (p : Place) (j : ℕ) → Precedes p j request 14 → CallDue limit file t p j → ⊥
+      before : (p : FilePlace) (j : ℕ) → Precedes p j request 14 → CallDue limit file t p j → ⊥
       before _ j (by-number l) (by-reader (limit-wrong h)) = omega arith
 
-  five : {p : Place} → CallDue limit file t p 5 → HasRecords file (suc limit) × (limit ≡ maxVertices)
+  five : {p : FilePlace} → CallDue limit file t p 5 → HasRecords file (suc limit) × (limit ≡ maxVertices)
   five (by-reader d) = due-5 limit file d
 
-  twenty : {p : Place} → CallDue limit file t p 20 → HasRecords file (suc limit) × (limit < maxVertices)
+  twenty : {p : FilePlace} → CallDue limit file t p 20 → HasRecords file (suc limit) × (limit < maxVertices)
   twenty (by-reader d) = due-20 limit file d
 
   pub five-given : numberOf (patchFile limit file t .outcome) ≡ 5 → HasRecords file (suc limit) × (limit ≡ maxVertices)

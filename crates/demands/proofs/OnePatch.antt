@@ -11,7 +11,7 @@ use Rattle.lists.proofs.Writing.{filled-at}
 use Rattle.polygon.specs.declared.Polygon.{Polygon}
 use Rattle.polygon.specs.Polygon.{ValidPolygon}
 use Rattle.rim_file.specs.File.{Bytes}
-use Rattle.reader.specs.Order.{Place, First, NoneDue}
+use Rattle.reader.specs.Order.{FilePlace, First, NoneDue}
 use Rattle.delaunay.specs.Candidates.{candidatesOf}
 use Rattle.weights.specs.Weights.{ownWeight}
 use Rattle.triangulation.specs.Triangulations.{Answer, none, patch, best}
@@ -77,7 +77,7 @@ module _ (p : Polygon) (valid : ValidPolygon p) (s t : Tables) where
 
 module _ (limit : ℕ) (file : List ℕ) where
   -- 13 aside, a number is due by the file alone
-  due-again : {s t : Tables} {p : Place} {k : ℕ} → LongEnough limit file s → CallDue limit file s p k → CallDue limit file t p k
+  due-again : {s t : Tables} {p : FilePlace} {k : ℕ} → LongEnough limit file s → CallDue limit file s p k → CallDue limit file t p k
   due-again h (by-reader d) = by-reader d
   due-again h (twelve d) = twelve d
   due-again h (thirteen d) = absurd (h d)

@@ -9,7 +9,7 @@ use Rattle.terms.specs.Order.{Precedes, by-number, NoneDue}
 use Rattle.terms.proofs.Order.{Verdict, first-due, none-due}
 use Rattle.polygon.specs.declared.Polygon.{Polygon}
 use Rattle.polygon.specs.Polygon.{codeOf}
-use Rattle.polygon.specs.Due.{Place, rim, Before, First, PolygonDue, too-few, vertex-repeated}
+use Rattle.polygon.specs.Due.{PolygonPlace, rim, PolygonBefore, First, PolygonDue, too-few, vertex-repeated}
 use Rattle.polygon.proofs.Due.{code-first, code-none}
 use Rattle.delaunay.specs.Candidates.{degenerate}
 use Rattle.finder.specs.Finding.{numberDue}
@@ -28,10 +28,10 @@ module _ (p : Polygon) (Short : Type 0) (short : Bool) (is-short : short ≡ tru
       below _ (too-few h) = omega arith
       below _ (vertex-repeated l m e) = omega arith
 
-      not-later : (q : Place) (k j : ℕ) → PolygonDue p q k → 12 ≤ j → Precedes Before rim j q k → ⊥
+      not-later : (q : PolygonPlace) (k j : ℕ) → PolygonDue p q k → 12 ≤ j → Precedes PolygonBefore rim j q k → ⊥
       not-later _ k j d m (by-number l) = omega (arith, below k d)
 
-      before : (q : Place) (j : ℕ) → Precedes Before q j (f .place) k → PolygonCallDue p Short q j → ⊥
+      before : (q : PolygonPlace) (j : ℕ) → Precedes PolygonBefore q j (f .place) k → PolygonCallDue p Short q j → ⊥
       before q j h (by-polygon d) = f .none-before q j h d
       before _ _ h (twelve d) = not-later (f .place) k 12 (f .is-due) (omega arith) h
       before _ _ h (thirteen d) = not-later (f .place) k 13 (f .is-due) (omega arith) h
@@ -41,7 +41,7 @@ module _ (p : Polygon) (Short : Type 0) (short : Bool) (is-short : short ≡ tru
     twelve-first : Degenerate p → First (PolygonCallDue p Short) 12
     twelve-first d = record { place = rim; is-due = twelve d; none-before = before }
       where
-        before : (q : Place) (j : ℕ) → Precedes Before q j rim 12 → PolygonCallDue p Short q j → ⊥
+        before : (q : PolygonPlace) (j : ℕ) → Precedes PolygonBefore q j rim 12 → PolygonCallDue p Short q j → ⊥
         before q j h (by-polygon d) = none .none q j d
         before _ _ (by-number l) (twelve d) = omega arith
         before _ _ (by-number l) (thirteen d) = omega arith
@@ -49,7 +49,7 @@ module _ (p : Polygon) (Short : Type 0) (short : Bool) (is-short : short ≡ tru
     thirteen-first : (Degenerate p → ⊥) → Short → First (PolygonCallDue p Short) 13
     thirteen-first no-12 d = record { place = rim; is-due = thirteen d; none-before = before }
       where
-        before : (q : Place) (j : ℕ) → Precedes Before q j rim 13 → PolygonCallDue p Short q j → ⊥
+        before : (q : PolygonPlace) (j : ℕ) → Precedes PolygonBefore q j rim 13 → PolygonCallDue p Short q j → ⊥
         before q j h (by-polygon d) = none .none q j d
         before _ _ h (twelve d) = no-12 d
         before _ _ (by-number l) (thirteen d) = omega arith
@@ -57,19 +57,19 @@ module _ (p : Polygon) (Short : Type 0) (short : Bool) (is-short : short ≡ tru
     nothing-due : (Degenerate p → ⊥) → (Short → ⊥) → NoneDue (PolygonCallDue p Short)
     nothing-due no-12 no-13 = record { none = nothing }
       where
-        nothing : (q : Place) (k : ℕ) → PolygonCallDue p Short q k → ⊥
+        nothing : (q : PolygonPlace) (k : ℕ) → PolygonCallDue p Short q k → ⊥
         nothing q k (by-polygon d) = none .none q k d
         nothing _ _ (twelve d) = no-12 d
         nothing _ _ (thirteen d) = no-13 d
 
-  pub polygon-verdict : Verdict Before (PolygonCallDue p Short) (numberDue short p)
+  pub polygon-verdict : Verdict PolygonBefore (PolygonCallDue p Short) (numberDue short p)
   unfolding numberDue
   polygon-verdict = by (codeOf p) refl (truth (degenerate p)) (truth short)
     where
       no-twelve : degenerate p ≡ false → Degenerate p → ⊥
       no-twelve a d = true-not-false (true-degenerate p d) a
 
-      by : (k : ℕ) → codeOf p ≡ k → Truth (degenerate p) → Truth short → Verdict Before (PolygonCallDue p Short) (numberDue short p)
+      by : (k : ℕ) → codeOf p ≡ k → Truth (degenerate p) → Truth short → Verdict PolygonBefore (PolygonCallDue p Short) (numberDue short p)
       by (suc k) e a b = first-due k (polygon-first (suc k) (code-first p k e)) (no _ _ (ne-eqb (codeOf p) 0 (λ z. omega (arith, z, e))) ∙ e)
       by zero e (holds a) b = first-due 11 (twelve-first (code-none p e) (degenerate-true p a)) (yes _ _ (eq-eqb (codeOf p) 0 e) ∙ yes _ _ a)
       by zero e (fails a) (holds b) =

@@ -9,7 +9,7 @@ use Rattle.terms.specs.Order.{NoneDue}
 use Rattle.terms.proofs.Order.{Verdict, none-first, verdict-either, verdict-first, verdict-given, verdict-zero, verdict-none}
 use Rattle.polygon.specs.declared.Polygon.{Polygon}
 use Rattle.polygon.specs.Polygon.{ValidPolygon}
-use Rattle.polygon.specs.Due.{Before, First}
+use Rattle.polygon.specs.Due.{PolygonBefore, First}
 use Rattle.polygon.proofs.Due.{ordered, none-valid}
 use Rattle.delaunay.specs.Candidates.{candidatesOf}
 use Rattle.finder.specs.Sizes.{placesOf}
@@ -27,7 +27,7 @@ use Rattle.demands.proofs.PolygonNumbers.{polygon-verdict}
 use Rattle.demands.proofs.Patched.{patched-demand2, patched-demand3, patched-demand3-of-tables, patched-handed}
 
 module _ (p : Polygon) (t : Tables) where
-  verdict : Verdict Before (PatchDue p t) (polygonNumber p t)
+  verdict : Verdict PolygonBefore (PatchDue p t) (polygonNumber p t)
   verdict = polygon-verdict p (TooShort (placesOf p) t) (tablesShort p t) (short-true p t) (true-short p t)
 
   by-number : {k : ℕ} → polygonNumber p t ≡ k → patchPolygon p t ≡ patchBy k p t

@@ -3,8 +3,8 @@ use mathlib.Core.List.{List}
 use Prim.Native.Nat.{ℕ, _<_}
 use lib.ListN.{length}
 use Rattle.polygon.specs.declared.Polygon.{Polygon}
-use Rattle.reader.specs.Order.{Place, rim}
-use Rattle.reader.specs.Due.{DueAt}
+use Rattle.reader.specs.Order.{FilePlace, rim}
+use Rattle.reader.specs.Due.{FileDue}
 use Rattle.reader.specs.Reading.{readingOf}
 use Rattle.finder.specs.declared.Places.{Places}
 use Rattle.finder.specs.Sizes.{placesOf}
@@ -25,7 +25,7 @@ pub data TooShort (needed : Places) (t : Tables) : Type 0 where
   work : length (t .work) < needed .candidates → TooShort needed t
 
 -- number k is due on a call with a limit (rules 4.1 to 4.14, 4.18 and 4.20), at its place; 12 and 13 on the rim as a whole
-pub data CallDue (limit : ℕ) (file : List ℕ) (t : Tables) : Place → ℕ → Type 0 where
-  by-reader : {p : Place} {k : ℕ} → DueAt limit file p k → CallDue limit file t p k
+pub data CallDue (limit : ℕ) (file : List ℕ) (t : Tables) : FilePlace → ℕ → Type 0 where
+  by-reader : {p : FilePlace} {k : ℕ} → FileDue limit file p k → CallDue limit file t p k
   twelve : Degenerate (polygonIn limit file) → CallDue limit file t rim 12
   thirteen : TooShort (placesOf (polygonIn limit file)) t → CallDue limit file t rim 13

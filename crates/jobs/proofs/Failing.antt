@@ -1,7 +1,7 @@
--- Each number's test fails exactly where the number is due. Assumes nothing.
-use mathlib.Core.Path.{_≡_, refl, sym, ap, _∙_, subst}
-use mathlib.Core.Bool.{Bool, true, false, cond}
-use mathlib.Core.List.{List, List·Memᴰ, List·Memᴰ·head, List·Memᴰ·tail, List·Memᴰ·not-nil, List·Memᴰ·cases-cons}
+-- Each number's test fails exactly where the number is due, and at its place. Assumes nothing.
+use mathlib.Core.Path.{_≡_, refl, sym, ap, _∙_}
+use mathlib.Core.Bool.{Bool, true, false}
+use mathlib.Core.List.{List}
 use mathlib.Core.Logic.{_⊎_, inl, inr, ⊎-elim}
 use Prim.Native.Nat.{ℕ, zero, suc, _+_, _-_, _<_}
 use native.Mathlib.Omega.{arith}
@@ -15,7 +15,7 @@ use Rattle.lists.proofs.Ranges.{every-at}
 use Rattle.terms.specs.Limits.{minVertices, maxVertices, countFits, maxWeight}
 use Rattle.terms.specs.Entries.{entryAt, outer, inner, vertexA, vertexB, vertexC, rowWeight, before, rowBefore}
 use Rattle.jobs.specs.Job.{Job, enough, ascends, candidateFits, candidatesFit, namesPair, rowFits, rowsFit, weightsFit, rowWeightsFit}
-use Rattle.jobs.specs.Due.{order, Due, few-vertices, many-vertices, few-triangles, little-work, few-weights, no-triangle, candidate-not-after, no-pair, row-not-after, heavy, heavy-row}
+use Rattle.jobs.specs.Due.{JobPlace, count, tables, lists, JobDue, few-vertices, many-vertices, few-triangles, little-work, few-weights, no-triangle, candidate-not-after, no-pair, row-not-after, heavy, heavy-row}
 
 -- a number below a bound at which a test fails
 record Some (bound : ℕ) (P : ℕ → Bool) : Type 0 where
@@ -57,22 +57,6 @@ order-fails i own after e = both-no own (go (eqb (i + 1) 0) refl)
     go true q = absurd (omega (arith, eqb-true (i + 1) 0 q))
     go false q = e
 
--- ---- each number's place in the order
-pub in-14 : List·Memᴰ 14 order
-in-14 = List·Memᴰ·head refl
-
-pub in-13 : List·Memᴰ 13 order
-in-13 = List·Memᴰ·tail (List·Memᴰ·head refl)
-
-pub in-15 : List·Memᴰ 15 order
-in-15 = List·Memᴰ·tail (List·Memᴰ·tail (List·Memᴰ·head refl))
-
-pub in-16 : List·Memᴰ 16 order
-in-16 = List·Memᴰ·tail (List·Memᴰ·tail (List·Memᴰ·tail (List·Memᴰ·head refl)))
-
-pub in-17 : List·Memᴰ 17 order
-in-17 = List·Memᴰ·tail (List·Memᴰ·tail (List·Memᴰ·tail (List·Memᴰ·tail (List·Memᴰ·head refl))))
-
 module _ (job : Job) (tp wp : ℕ) where
   abbrev n : ℕ
   n = job .n
@@ -92,17 +76,16 @@ module _ (job : Job) (tp wp : ℕ) where
   abbrev pub weightTests : Bool
   weightTests = both (weightsFit weights (length candidates)) (rowWeightsFit rows)
 
-  -- each number's test
-  abbrev pub test : ℕ → Bool
-  test k =
-      cond (eqb k 14) (countFits n)
-      (cond (eqb k 13) placesFit
-      (cond (eqb k 15) (candidatesFit n candidates)
-      (cond (eqb k 16) (rowsFit candidates rows)
-      (cond (eqb k 17) weightTests true))))
+  -- each number's test fails, at the number's place
+  pub data Fails : JobPlace → ℕ → Type 0 where
+    fails-14 : countFits n ≡ false → Fails count 14
+    fails-13 : placesFit ≡ false → Fails tables 13
+    fails-15 : candidatesFit n candidates ≡ false → Fails lists 15
+    fails-16 : rowsFit candidates rows ≡ false → Fails lists 16
+    fails-17 : weightTests ≡ false → Fails lists 17
 
-  abbrev D : ℕ → Type 0
-  D k = Due job tp wp k
+  abbrev D : JobPlace → ℕ → Type 0
+  D = JobDue job tp wp
 
   abbrev own : ℕ → Bool
   own i = ascends n (vertexA (entryAt candidates i)) (vertexB (entryAt candidates i)) (vertexC (entryAt candidates i))
@@ -119,44 +102,31 @@ module _ (job : Job) (tp wp : ℕ) where
   unfolding rowFits
   row-fails i e = order-fails i (pair (i + 1)) _ (ap (λ j. rowBefore (entryAt rows j) (entryAt rows (i + 1))) (omega arith) ∙ e)
 
-  pub due-fails : {k : ℕ} → D k → test k ≡ false
+  pub due-fails : {p : JobPlace} {k : ℕ} → JobDue job tp wp p k → Fails p k
   unfolding candidateFits rowFits
-  due-fails (few-vertices h) = no _ _ (lt-leb minVertices n h)
-  due-fails (many-vertices h) = both-no (leb minVertices n) (lt-leb n maxVertices h)
-  due-fails (few-triangles h) = no _ _ (lt-leb (n - 2) tp h)
-  due-fails (little-work h) = both-no (enough (n - 2) tp) (no _ _ (lt-leb (length candidates) wp h))
-  due-fails (few-weights h) = both-no (enough (n - 2) tp) (both-no (enough (length candidates) wp) (lt-leb (length candidates) (length weights) h))
-  due-fails (no-triangle i h e) = fails-every (length candidates) (candidateFits n candidates) i h (no _ _ e)
-  due-fails (candidate-not-after i h e) = fails-every (length candidates) (candidateFits n candidates) (i + 1) h (candidate-fails i e)
-  due-fails (no-pair i h e) = fails-every (length rows) (rowFits candidates rows) i h (no _ _ e)
-  due-fails (row-not-after i h e) = fails-every (length rows) (rowFits candidates rows) (i + 1) h (row-fails i e)
-  due-fails (heavy i h e) = no _ _ (fails-every (length candidates) (λ i. leb (getD weights i 0) maxWeight) i h (lt-leb _ _ e))
-  due-fails (heavy-row i h e) = both-no (weightsFit weights (length candidates)) (fails-every (length rows) (λ i. leb (rowWeight (entryAt rows i)) maxWeight) i h (lt-leb _ _ e))
-
-  pub due-listed : {k : ℕ} → D k → List·Memᴰ k order
-  due-listed (few-vertices h) = in-14
-  due-listed (many-vertices h) = in-14
-  due-listed (few-triangles h) = in-13
-  due-listed (little-work h) = in-13
-  due-listed (few-weights h) = in-13
-  due-listed (no-triangle i h e) = in-15
-  due-listed (candidate-not-after i h e) = in-15
-  due-listed (no-pair i h e) = in-16
-  due-listed (row-not-after i h e) = in-16
-  due-listed (heavy i h e) = in-17
-  due-listed (heavy-row i h e) = in-17
+  due-fails (few-vertices h) = fails-14 (no _ _ (lt-leb minVertices n h))
+  due-fails (many-vertices h) = fails-14 (both-no (leb minVertices n) (lt-leb n maxVertices h))
+  due-fails (few-triangles h) = fails-13 (no _ _ (lt-leb (n - 2) tp h))
+  due-fails (little-work h) = fails-13 (both-no (enough (n - 2) tp) (no _ _ (lt-leb (length candidates) wp h)))
+  due-fails (few-weights h) = fails-13 (both-no (enough (n - 2) tp) (both-no (enough (length candidates) wp) (lt-leb (length candidates) (length weights) h)))
+  due-fails (no-triangle i h e) = fails-15 (fails-every (length candidates) (candidateFits n candidates) i h (no _ _ e))
+  due-fails (candidate-not-after i h e) = fails-15 (fails-every (length candidates) (candidateFits n candidates) (i + 1) h (candidate-fails i e))
+  due-fails (no-pair i h e) = fails-16 (fails-every (length rows) (rowFits candidates rows) i h (no _ _ e))
+  due-fails (row-not-after i h e) = fails-16 (fails-every (length rows) (rowFits candidates rows) (i + 1) h (row-fails i e))
+  due-fails (heavy i h e) = fails-17 (no _ _ (fails-every (length candidates) (λ i. leb (getD weights i 0) maxWeight) i h (lt-leb _ _ e)))
+  due-fails (heavy-row i h e) = fails-17 (both-no (weightsFit weights (length candidates)) (fails-every (length rows) (λ i. leb (rowWeight (entryAt rows i)) maxWeight) i h (lt-leb _ _ e)))
 
   -- ---- what fails is due
-  due-14 : countFits n ≡ false → D 14
+  due-14 : countFits n ≡ false → D count 14
   due-14 e = ⊎-elim (λ f. few-vertices (leb-false minVertices n f)) (λ f. many-vertices (leb-false n maxVertices f)) (both-fails (leb minVertices n) (leb n maxVertices) e)
 
-  due-13 : placesFit ≡ false → D 13
+  due-13 : placesFit ≡ false → D tables 13
   due-13 e =
       ⊎-elim (λ f. few-triangles (leb-false _ _ f))
       (λ g. ⊎-elim (λ f. little-work (leb-false _ _ f)) (λ f. few-weights (leb-false _ _ f)) (both-fails (enough (length candidates) wp) _ g))
       (both-fails (enough (n - 2) tp) _ e)
 
-  due-15 : candidatesFit n candidates ≡ false → D 15
+  due-15 : candidatesFit n candidates ≡ false → D lists 15
   unfolding candidateFits
   due-15 e =
       let s = every-fails (length candidates) (candidateFits n candidates) e in
@@ -165,7 +135,7 @@ module _ (job : Job) (tp wp : ℕ) where
       (λ f. candidate-not-after (i - 1) (omega (arith, s .below, f .0)) (ap (λ j. before (entryAt candidates (i - 1)) (entryAt candidates j)) (omega (arith, f .0)) ∙ f .1))
       (split i (own i) (before (entryAt candidates (i - 1)) (entryAt candidates i)) (s .is))
 
-  due-16 : rowsFit candidates rows ≡ false → D 16
+  due-16 : rowsFit candidates rows ≡ false → D lists 16
   unfolding rowFits
   due-16 e =
       let s = every-fails (length rows) (rowFits candidates rows) e in
@@ -174,20 +144,15 @@ module _ (job : Job) (tp wp : ℕ) where
       (λ f. row-not-after (i - 1) (omega (arith, s .below, f .0)) (ap (λ j. rowBefore (entryAt rows (i - 1)) (entryAt rows j)) (omega (arith, f .0)) ∙ f .1))
       (split i (pair i) (rowBefore (entryAt rows (i - 1)) (entryAt rows i)) (s .is))
 
-  due-17 : weightTests ≡ false → D 17
+  due-17 : weightTests ≡ false → D lists 17
   due-17 e =
       ⊎-elim (λ f. let s = every-fails (length candidates) (λ i. leb (getD weights i 0) maxWeight) f in heavy (s .at) (s .below) (leb-false _ _ (s .is)))
       (λ f. let s = every-fails (length rows) (λ i. leb (rowWeight (entryAt rows i)) maxWeight) f in heavy-row (s .at) (s .below) (leb-false _ _ (s .is)))
       (both-fails (weightsFit weights (length candidates)) (rowWeightsFit rows) e)
 
-  pub fails-due : (k : ℕ) → List·Memᴰ k order → test k ≡ false → D k
-  fails-due k m f =
-      ⊎-elim (λ q. at q due-14)
-      (λ m. ⊎-elim (λ q. at q due-13)
-      (λ m. ⊎-elim (λ q. at q due-15)
-      (λ m. ⊎-elim (λ q. at q due-16)
-      (λ m. ⊎-elim (λ q. at q due-17) (λ m. absurd (List·Memᴰ·not-nil m))
-      (List·Memᴰ·cases-cons m)) (List·Memᴰ·cases-cons m)) (List·Memᴰ·cases-cons m)) (List·Memᴰ·cases-cons m)) (List·Memᴰ·cases-cons m)
-    where
-      at : {j : ℕ} → k ≡ j → (test j ≡ false → D j) → D k
-      at q due = subst D (sym q) (due (sym (ap test q) ∙ f))
+  pub fails-due : {p : JobPlace} {k : ℕ} → Fails p k → JobDue job tp wp p k
+  fails-due (fails-14 e) = due-14 e
+  fails-due (fails-13 e) = due-13 e
+  fails-due (fails-15 e) = due-15 e
+  fails-due (fails-16 e) = due-16 e
+  fails-due (fails-17 e) = due-17 e

@@ -7,6 +7,7 @@ use lib.ListN.{length, replicate}
 use Rattle.codes.specs.Refusals.{refusal}
 use Rattle.lists.specs.Lists.{filled}
 use Rattle.terms.specs.Numbers.{firstDue}
+use Rattle.terms.proofs.Order.{none-first, verdict-none}
 use Rattle.triangulation.specs.Triangulations.{Problem, ValidProblem, best}
 use Rattle.triangulation.specs.Problems.{problemOf}
 use Rattle.triangulation.specs.Demand3.{HandedBack}
@@ -23,7 +24,8 @@ use Rattle.judge.specs.Call.{numberOf, excessOf, excessOver, judgeCode, 
 use Rattle.judge.specs.Demands.{JobAccepted, Acceptable, SameNumbers, Excess}
 use Rattle.judge.specs.Due.{FirstDue}
 use Rattle.judge.proofs.Tilings.{same-code}
-use Rattle.judge.proofs.Numbers.{code-due, due-code, zero-accepts, accepts-zero, due-above}
+use Rattle.judge.proofs.Numbers.{code-due, due-code, zero-accepts, accepts-zero}
+use Rattle.judge.proofs.FirstNumber.{verdict}
 use Rattle.judge.proofs.Least.{excess-is}
 
 -- an acceptance is no refusal
@@ -79,11 +81,8 @@ module _ (job : Job) where
 
     -- every other call is refused with the first number due, and changes no table (rules 4.30, 4.36)
     pub refused-first : (k : ℕ) → FirstDue job list stated (length work) k → judged job list stated work ≡ result (judgement.Refused (refusal k)) work
-    refused-first k d = by k (due-code job list stated (length work) k d) (due-above job list stated (length work) (d .due))
-      where
-        by : (k : ℕ) → code ≡ k → (k ≡ 0 → ⊥) → call ≡ result (judgement.Refused (refusal k)) work
-        by zero e d = absurd (d refl)
-        by (suc k) e d = by-code e
+    refused-first zero f = absurd (none-first (verdict-none (verdict job list stated (length work)) (due-code job list stated (length work) 0 f)) f)
+    refused-first (suc k) f = by-code (due-code job list stated (length work) (suc k) f)
 
     pub given-first : (k : ℕ) → judged job list stated work .judgement ≡ judgement.Refused (refusal k) → FirstDue job list stated (length work) k
     given-first k r = by code refl

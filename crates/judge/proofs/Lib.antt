@@ -1,4 +1,5 @@
 pub mod Tilings
+pub mod FirstNumber
 pub mod Numbers
 pub mod Least
 pub mod Settling

@@ -1,8 +1,8 @@
 -- When the judge gives 21 and when 22, of the call, in the users' words. Assumes nothing.
 use Prim.Native.Nat.{ℕ, _-_, _≤_, _<_}
-use mathlib.Core.Path.{_≡_, refl, sym, _∙_}
+use mathlib.Core.Path.{_≡_, refl, sym, _∙_, subst}
 use mathlib.Core.Logic.{_≢_, _⊎_, inl, inr, ⊎-elim}
-use mathlib.Core.List.{List, [], _∷_, List·Memᴰ, List·Memᴰ·head, Memᴰ·append-left, Memᴰ·append-right}
+use mathlib.Core.List.{List, List·Memᴰ}
 use native.Mathlib.Omega.{arith}
 use lib.ListN.{length, getD}
 use Rattle.jobs.specs.Job.{Job}
@@ -11,14 +11,14 @@ use Rattle.lists.proofs.Choice.{Truth, truth, holds, fails, true-not-false}
 use Rattle.triangulation.specs.Triangulations.{Problem, totalWeight}
 use Rattle.triangulation.specs.Problems.{problemOf}
 use Rattle.triangulation.specs.Demand3.{Triangulates}
-use Rattle.jobs.specs.Due.{order}
-use Rattle.jobs.proofs.Failing.{due-listed}
+use Rattle.terms.specs.Order.{Precedes, by-place, by-number}
+use Rattle.jobs.proofs.Acceptance.{at-most-17}
 use Rattle.validation.specs.Validation.{named, isTiling, listTotal}
 use Rattle.validation.proofs.Tilings.{tiling-length}
 use Rattle.judge.specs.declared.Judgement.the-variants.{Refused}
 use Rattle.judge.specs.Call.{result, judged}
 use Rattle.judge.specs.Demands.{JobAccepted, IsTiling}
-use Rattle.judge.specs.Due.{JudgeDue, of-job, no-tiling, other-total, FirstDue}
+use Rattle.judge.specs.Due.{JudgementPlace, job-at, judged-list, JudgementBefore, job-list, JudgeDue, of-job, no-tiling, other-total, FirstDue}
 use Rattle.judge.proofs.Tilings.{names, tiling-is, is-tiling, total-of}
 use Rattle.judge.proofs.Numbers.{no-tiling-code, other-total-code}
 use Rattle.judge.proofs.Demands.{valid, by-code, given-first}
@@ -28,11 +28,24 @@ module _ (job : Job) (list : List ℕ) (stated : ℕ) (work : List ℕ) where
   problem = problemOf job
 
   -- a number that is due on an accepted problem is one of the list's two
-  of-list : {k : ℕ} → JudgeDue job list stated (length work) k → JobAccepted job (length work)
+  of-list : {p : JudgementPlace} {k : ℕ} → JudgeDue job list stated (length work) p k → JobAccepted job (length work)
       → ((k ≡ 21) × ((set : List ℕ) → IsTiling problem list set → ⊥)) ⊎ ((k ≡ 22) × (stated ≢ listTotal problem list))
-  of-list (of-job {k} d) a = absurd (a k d)
+  of-list (of-job {p} {k} d) a = absurd (a .none p k d)
   of-list (no-tiling h) a = inl (refl, h)
   of-list (other-total h) a = inr (refl, h)
+
+  -- a number of the list is due there, after every place of the job
+  at-list : {p : JudgementPlace} {k : ℕ} → 17 < k → JudgeDue job list stated (length work) p k → p ≡ judged-list
+  at-list l (of-job d) = absurd (omega (arith, at-most-17 job (job .n - 2) (length work) d))
+  at-list l (no-tiling h) = refl
+  at-list l (other-total h) = refl
+
+  none-before-list : {k : ℕ} → 17 < k → FirstDue job list stated (length work) k → (q : JudgementPlace) (j : ℕ)
+      → Precedes JudgementBefore q j judged-list k → JudgeDue job list stated (length work) q j → ⊥
+  none-before-list {k} l f q j h = f .none-before q j (subst (λ (p : JudgementPlace). Precedes JudgementBefore q j p k) (sym (at-list l (f .is-due))) h)
+
+  job-accepted : {k : ℕ} → 17 < k → FirstDue job list stated (length work) k → JobAccepted job (length work)
+  job-accepted l f = record { none = λ p j d. none-before-list l f (job-at p) j (by-place job-list) (of-job d) }
 
   -- ---- 21 is given exactly when the problem is accepted and the list is no tiling without repeats (rules 4.21, 4.36)
   pub gives-21 : JobAccepted job (length work) → ((set : List ℕ) → IsTiling problem list set → ⊥)
@@ -43,8 +56,8 @@ module _ (job : Job) (list : List ℕ) (stated : ℕ) (work : List ℕ) where
       → JobAccepted job (length work) × ((set : List ℕ) → IsTiling problem list set → ⊥)
   given-21 e =
       let f : FirstDue job list stated (length work) 21 = given-first job list stated work 21 e in
-      let a : JobAccepted job (length work) = λ k d. f .none-before k (due-listed job (job .n - 2) (length work) d) (of-job d) in
-      (a, ⊎-elim (λ d. d .1) (λ d. absurd (omega (arith, d .0))) (of-list (f .due) a))
+      let a = job-accepted (omega arith) f in
+      (a, ⊎-elim (λ d. d .1) (λ d. absurd (omega (arith, d .0))) (of-list (f .is-due) a))
 
   -- so where a number stands at two places, or is no candidate's, where there are not n - 2 of them, and for every list of a problem that has no tiling
   pub twice-21 : JobAccepted job (length work) → (i j : ℕ) → i < j → j < length list → getD list i 0 ≡ getD list j 0
@@ -72,9 +85,9 @@ module _ (job : Job) (list : List ℕ) (stated : ℕ) (work : List ℕ) where
       → JobAccepted job (length work) × ((set : List ℕ) × IsTiling problem list set × (stated ≢ totalWeight problem set))
   given-22 e =
       let f : FirstDue job list stated (length work) 22 = given-first job list stated work 22 e in
-      let a : JobAccepted job (length work) = λ k d. f .none-before k (Memᴰ·append-left (21 ∷ []) (due-listed job (job .n - 2) (length work) d)) (of-job d) in
-      let t = tiling (truth (isTiling problem list)) (λ h. f .none-before 21 (Memᴰ·append-right order (List·Memᴰ·head refl)) (no-tiling h)) in
-      (a, (named problem list, t, λ (q : stated ≡ totalWeight problem (named problem list)). ⊎-elim (λ d. absurd (omega (arith, d .0))) (λ d. d .1 (q ∙ sym (total-of problem list t))) (of-list (f .due) a)))
+      let a = job-accepted (omega arith) f in
+      let t = tiling (truth (isTiling problem list)) (λ h. none-before-list (omega arith) f judged-list 21 (by-number (omega arith)) (no-tiling h)) in
+      (a, (named problem list, t, λ (q : stated ≡ totalWeight problem (named problem list)). ⊎-elim (λ d. absurd (omega (arith, d .0))) (λ d. d .1 (q ∙ sym (total-of problem list t))) (of-list (f .is-due) a)))
     where
       tiling : Truth (isTiling problem list) → (((set : List ℕ) → IsTiling problem list set → ⊥) → ⊥) → IsTiling problem list (named problem list)
       tiling (holds t) h = tiling-is problem list t

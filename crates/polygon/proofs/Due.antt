@@ -21,19 +21,19 @@ use Rattle.polygon.specs.declared.Polygon.{Polygon}
 use Rattle.polygon.specs.declared.normal.Normal.{Normal}
 use Rattle.polygon.specs.Normal.{normalAt, normalInRange}
 use Rattle.polygon.specs.Polygon.{vertexAt, repeatedVertex, vertexCode, verticesCodeFrom, verticesCode, codeOf, ValidPolygon}
-use Rattle.polygon.specs.Due.{Place, header, vertex, rim, Before, header-vertex, header-rim, vertex-vertex, vertex-rim, First, PolygonDue, area-factor, bend-factor, too-many, off-grid, normal-out-of-range, too-few, vertex-repeated}
+use Rattle.polygon.specs.Due.{PolygonPlace, header, vertex, rim, PolygonBefore, header-vertex, header-rim, vertex-vertex, vertex-rim, First, PolygonDue, area-factor, bend-factor, too-many, off-grid, normal-out-of-range, too-few, vertex-repeated}
 use Rattle.polygon.proofs.Normals.{normal-in-range, normal-in-range-test}
 use Rattle.polygon.proofs.Codes.{nine, eighteen, clear, on-grid-at, in-range-at}
 use Rattle.polygon.proofs.Codes as codes
 use Rattle.polygon.proofs.Validity.{Repeated, repeated-found, code-valid}
 
 -- ---- of two places one comes first
-vertices-ordered : {h i : ℕ} → Compared h i → Ordered Before (vertex h) (vertex i)
+vertices-ordered : {h i : ℕ} → Compared h i → Ordered PolygonBefore (vertex h) (vertex i)
 vertices-ordered {h} {i} (less l) = earlier (vertex-vertex {h = h} {i = i} (omega arith))
 vertices-ordered (same e) = one-place (ap vertex e)
 vertices-ordered {h} {i} (more l) = later (vertex-vertex {h = i} {i = h} (omega arith))
 
-pub ordered : (p q : Place) → Ordered Before p q
+pub ordered : (p q : PolygonPlace) → Ordered PolygonBefore p q
 ordered header header = one-place refl
 ordered header (vertex i) = earlier header-vertex
 ordered header rim = earlier header-rim
@@ -70,7 +70,7 @@ here vertices normals i (suc c) k h = by (vertexCode vertices normals i) refl h 
 
 module _ (p : Polygon) where
   -- ---- 2
-  two-first : (q : Place) (j : ℕ) → Precedes Before q j header 2 → PolygonDue p q j → ⊥
+  two-first : (q : PolygonPlace) (j : ℕ) → Precedes PolygonBefore q j header 2 → PolygonDue p q j → ⊥
   two-first _ j (by-number l) d = omega (arith, least j d)
     where
       least : (j : ℕ) → PolygonDue p header j → 2 ≤ j
@@ -88,7 +88,7 @@ module _ (p : Polygon) where
         number _ l (bend-factor h) = omega (arith, ltb-false maxBendFactor (p .«bend_factor») bend)
         number _ l (too-many h) = omega arith
 
-        before : (q : Place) (j : ℕ) → Precedes Before q j header 5 → PolygonDue p q j → ⊥
+        before : (q : PolygonPlace) (j : ℕ) → Precedes PolygonBefore q j header 5 → PolygonDue p q j → ⊥
         before _ j (by-number l) d = number j l d
 
     module _ (few : ltb maxVertices (p .n) ≡ false) where
@@ -106,7 +106,7 @@ module _ (p : Polygon) where
         here-first : (m : ℕ) → PolygonDue p (vertex (found .at)) m → ((j : ℕ) → j < m → PolygonDue p (vertex (found .at)) j → ⊥) → First (PolygonDue p) m
         here-first m d number = record { place = vertex (found .at); is-due = d; none-before = before }
           where
-            before : (q : Place) (j : ℕ) → Precedes Before q j (vertex (found .at)) m → PolygonDue p q j → ⊥
+            before : (q : PolygonPlace) (j : ℕ) → Precedes PolygonBefore q j (vertex (found .at)) m → PolygonDue p q j → ⊥
             before _ j (by-place header-vertex) d = no-header j d
             before _ j (by-place (vertex-vertex {h} l)) d = no-earlier h (omega arith) j d
             before _ j (by-number l) d = number j l d
@@ -140,7 +140,7 @@ module _ (p : Polygon) where
         rim-first : (m : ℕ) → PolygonDue p rim m → ((j : ℕ) → j < m → PolygonDue p rim j → ⊥) → First (PolygonDue p) m
         rim-first m d number = record { place = rim; is-due = d; none-before = before }
           where
-            before : (q : Place) (j : ℕ) → Precedes Before q j rim m → PolygonDue p q j → ⊥
+            before : (q : PolygonPlace) (j : ℕ) → Precedes PolygonBefore q j rim m → PolygonDue p q j → ⊥
             before _ j (by-place header-rim) d = no-header j d
             before _ j (by-place (vertex-rim {i})) d = no-vertex i j d
             before _ j (by-number l) d = number j l d
@@ -164,7 +164,7 @@ module _ (p : Polygon) where
   pub valid-none : ValidPolygon p → NoneDue (PolygonDue p)
   valid-none v = record { none = nothing }
     where
-      nothing : (q : Place) (k : ℕ) → PolygonDue p q k → ⊥
+      nothing : (q : PolygonPlace) (k : ℕ) → PolygonDue p q k → ⊥
       nothing _ _ (area-factor h) = omega (arith, v .area-factor)
       nothing _ _ (bend-factor h) = omega (arith, v .bend-factor)
       nothing _ _ (too-many h) = omega (arith, v .most)
@@ -201,10 +201,10 @@ module _ (p : Polygon) where
           let z : codeOf p ≡ 0 = no _ _ a ∙ no _ _ b ∙ no _ _ m ∙ due-on _ v ∙ no _ _ l ∙ no _ _ r in
           absurd (omega (arith, z, e))
 
-  pub verdict : Verdict Before (PolygonDue p) (codeOf p)
+  pub verdict : Verdict PolygonBefore (PolygonDue p) (codeOf p)
   verdict = by (codeOf p) refl
     where
-      by : (k : ℕ) → codeOf p ≡ k → Verdict Before (PolygonDue p) (codeOf p)
+      by : (k : ℕ) → codeOf p ≡ k → Verdict PolygonBefore (PolygonDue p) (codeOf p)
       by zero e = none-due (valid-none (code-valid p e)) e
       by (suc k) e = first-due k (number-first k e) e
 

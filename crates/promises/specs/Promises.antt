@@ -27,7 +27,7 @@ use Rattle.rim_file.specs.Editions.{SameRim}
 use Rattle.rim_file.specs.Layouts.{Edition1, Edition2}
 use Rattle.reader.specs.declared.Status.the-variants.{Complete}
 use Rattle.reader.specs.Order.{First}
-use Rattle.reader.specs.Due.{DueAt, HasRecords, HasVertex, HasNormal, ChainAtMost}
+use Rattle.reader.specs.Due.{FileDue, HasRecords, HasVertex, HasNormal, ChainAtMost}
 use Rattle.reader.specs.Rounded.{Rounded}
 use Rattle.reader.specs.Reading.{readingOf, refusedReading, statusNumber}
 use Rattle.planar.specs.Planes.{OnOneLine}
@@ -76,11 +76,11 @@ use Rattle.demands.specs.Limits.{OneAnswer}
 -- ---- reading a rim file, of the reader's call under any limit
 pub record Reading (limit : ℕ) (file : List ℕ) : Type 0 where
   -- a file is read exactly when no number is due (rules 4.31, 4.33)
-  pub read-when : NoneDue (DueAt limit file) → readingOf limit file .status ≡ Complete
-  pub read-only-when : readingOf limit file .status ≡ Complete → NoneDue (DueAt limit file)
+  pub read-when : NoneDue (FileDue limit file) → readingOf limit file .status ≡ Complete
+  pub read-only-when : readingOf limit file .status ≡ Complete → NoneDue (FileDue limit file)
   -- every other gets the first number due, and no polygon (rules 4.30, 4.31)
-  pub first-given : (k : ℕ) → First (DueAt limit file) k → readingOf limit file ≡ refusedReading k
-  pub given-first : (k : ℕ) → statusNumber (readingOf limit file .status) ≡ suc k → First (DueAt limit file) (suc k)
+  pub first-given : (k : ℕ) → First (FileDue limit file) k → readingOf limit file ≡ refusedReading k
+  pub given-first : (k : ℕ) → statusNumber (readingOf limit file .status) ≡ suc k → First (FileDue limit file) (suc k)
   -- vertices and normals are what the records give, in the order of the chain (rules 1.6 to 1.8, 1.13, 1.14)
   pub vertices : readingOf limit file .status ≡ Complete → (i : ℕ) → i < readingOf limit file .polygon .n →
       HasVertex file i (polygon.vertexAt (readingOf limit file .polygon .vertices) i)
@@ -218,7 +218,7 @@ pub record FlatRims : Type 0 where
   pub flat-candidate : (p : Polygon) → Flat p → (a b c : ℕ) → Candidate p a b c → CountsInPlane p a b c
   pub solid-candidate : (p : Polygon) → (Flat p → ⊥) → (a b c : ℕ) → Candidate p a b c → Face p a b c
   -- 12 exactly where the circle of a three that counts has a fourth vertex on it (rule 4.12)
-  pub circle-gets-12 : (limit : ℕ) (file : List ℕ) → Bytes file → (t : Tables) → NoneDue (DueAt limit file) → Cocircular (polygonIn limit file) →
+  pub circle-gets-12 : (limit : ℕ) (file : List ℕ) → Bytes file → (t : Tables) → NoneDue (FileDue limit file) → Cocircular (polygonIn limit file) →
       patchFile limit file t ≡ refused 12 t
   pub twelve-by-circle : (limit : ℕ) (file : List ℕ) → Bytes file → (t : Tables) → numberOf (patchFile limit file t .outcome) ≡ 12 →
       Flat (polygonIn limit file) → Cocircular (polygonIn limit file)
@@ -288,8 +288,9 @@ pub record Promises : Type 0 where
   pub judging : (job : Job) (list : List ℕ) (total : ℕ) (work : List ℕ) → Judging job list total work
   pub own-patches : OwnPatches
 
+<<<<<<< HEAD
 -- ---- what the page rests on, beside the calls' own definitions; `crate/File` is crates/CRATE/specs/FILE.antt, docs/ARCHITECTURE.md has the rest
--- numbers that are due: reader/Due `DueAt`, demands/Demand1 `CallDue`, `TooShort`, demands/Polygons `FindDue`, `PatchDue`, jobs/Due `Accepted`, `FirstDue`,
+-- numbers that are due: reader/Due `FileDue`, demands/Demand1 `CallDue`, `TooShort`, demands/Polygons `FindDue`, `PatchDue`, jobs/Due `Accepted`, `FirstDue`,
 --   judge/Due `FirstDue`, converter/Due `ConvertDue`; the first of them: terms/Order `First`, `NoneDue`
 -- what a file says: reader/Due `HasRecords`, `HasVertex`, `HasNormal`, `ChainAtMost`, reader/Rounded `Rounded`, grid/Number `HalfStep`, `EvenHalf`,
 --   rim_file/Layouts `Edition1`, `Edition2`, rim_file/Editions `SameRim`
@@ -298,3 +299,20 @@ pub record Promises : Type 0 where
 -- tilings and answers: jobs/Job `Job`, triangulation/Triangulations `Problem`, `totalWeight`, Problems `problemOf`, Tiling `Tiling`, Demand3 `Demand3`,
 --   `HandedBack`, triangulator/Demands `Taken`, `Handed`, preorder/Preorder `TurnByTurn`, judge/Demands `IsTiling`, `Acceptable`, `SameNumbers`, `Excess`
 -- answers alike: demands/Base `baseFile`, Conversion `SameAnswers`, OnePatch `SamePatch`, `LongEnough`, Limits `OneAnswer`
+=======
+-- ---- what the page rests on, by name
+-- numbers that are due: `FileDue` (reader/Due), `CallDue`, `TooShort` (demands/Demand1), `FindDue`, `PatchDue` (demands/Polygons), `Accepted`, `FirstDue`
+--   (jobs/Due), `FirstDue` (judge/Due), `ConvertDue` (converter/Due); which of them is the first: `First`, `NoneDue` (terms/Order)
+-- what a file says: `HasRecords`, `HasVertex`, `HasNormal`, `ChainAtMost` (reader/Due), `Rounded` (reader/Rounded), `HalfStep`, `EvenHalf` (grid/Number),
+--   `Edition1`, `Edition2` (rim_file/Layouts), `SameRim` (rim_file/Editions)
+-- candidates, weights and rows: `Candidate`, `Face`, `CountsInPlane`, `Flat`, `Cocircular` (demands/Candidates), `TablesHold` (demands/Demand2),
+--   `ListsLeft`, `RightOfTables` (demands/Demand3), `OnOneLine` (planar/Planes), `collinear` (planar/Circles), `ownWeight` (weights/Weights)
+-- tilings and answers: `Job` (jobs/Job), `Problem`, `totalWeight` (triangulation/Triangulations), `problemOf` (triangulation/Problems), `Tiling`
+--   (triangulation/Tiling), `Triangulates`, `Demand3`, `HandedBack` (triangulation/Demand3), `Taken`, `Handed`, `stated` (triangulator/Demands), `TurnByTurn`
+--   (preorder/Preorder)
+-- lists to judge: `IsTiling`, `Acceptable`, `SameNumbers`, `Excess` (judge/Demands)
+-- answers that are alike: `baseFile` (demands/Base), `SameAnswers` (demands/Conversion), `SamePatch`, `LongEnough` (demands/OnePatch), `OneAnswer`
+--   (demands/Limits)
+-- and the definitions of the calls: reader/Reading, finder/Finding, pipeline/Patching and Sizes, triangulator/Call, judge/Call, converter/Call. All of them are
+-- in crates/NAME/specs/FILE.antt; docs/ARCHITECTURE.md lists what they in turn rest on.
+>>>>>>> b8-first

@@ -16,7 +16,7 @@ use Rattle.rim_file.proofs.Lengths.{Whole}
 use Rattle.reader.specs.Chain.{vertexAtPosition, normalAtPosition, linkCode, recordCode, positionCode, codeFrom, endFrom, chainCode, vertexCount}
 use Rattle.reader.specs.Chain as chain
 use Rattle.reader.specs.Order.{link-to, record-at}
-use Rattle.reader.specs.Due.{HasRecords, DueAt}
+use Rattle.reader.specs.Due.{HasRecords, FileDue}
 use Rattle.reader.proofs.Answers.{code-step, end-step, past-limit, Passed, passed}
 use Rattle.reader.proofs.Walking.{positive}
 use Rattle.reader.proofs.Positions.{link-quiet, record-quiet, Reached, link-due-reached, record-due-reached, shorter, given-link, given-record, passing}
@@ -28,8 +28,8 @@ record Clear (limit : ℕ) (s : List ℕ) (i : ℕ) : Type 0 where
 
 -- number c is given at a position, on the link that leads there or else on the record, and none before
 pub data Stops (limit : ℕ) (s : List ℕ) (c : ℕ) : Type 0 where
-  on-link : (i : ℕ) → linkCode limit s i ≡ c → DueAt limit s (link-to i) c → ((j : ℕ) → j < i → positionCode limit s j ≡ 0) → Stops limit s c
-  on-record : (i : ℕ) → linkCode limit s i ≡ 0 → recordCode s i ≡ c → DueAt limit s (record-at i) c → ((j : ℕ) → j < i → positionCode limit s j ≡ 0) → Stops limit s c
+  on-link : (i : ℕ) → linkCode limit s i ≡ c → FileDue limit s (link-to i) c → ((j : ℕ) → j < i → positionCode limit s j ≡ 0) → Stops limit s c
+  on-record : (i : ℕ) → linkCode limit s i ≡ 0 → recordCode s i ≡ c → FileDue limit s (record-at i) c → ((j : ℕ) → j < i → positionCode limit s j ≡ 0) → Stops limit s c
 
 -- the link to position n is 0, and no number is given before
 pub record Ends (limit : ℕ) (s : List ℕ) (n : ℕ) : Type 0 where
@@ -112,10 +112,10 @@ module _ (limit : ℕ) (s : List ℕ) (n : ℕ) (end : Ends limit s n) where
           ⊎-elim (λ l. absurd (omega (arith, r .has .in-file n l .numbered, end .ended))) (λ d. absurd (omega (arith, r .goes-on, ap (λ (m : ℕ). chain.link s m) d, end .ended)))
           (below-or-same n i (ltb-false i n e))
 
-  pub no-link : (i k : ℕ) → DueAt limit s (link-to i) k → ⊥
+  pub no-link : (i k : ℕ) → FileDue limit s (link-to i) k → ⊥
   no-link i k d = link-quiet limit s i k (end .quiet i (before-end i (link-due-reached s i k d))) d
 
-  pub no-record : (i k : ℕ) → DueAt limit s (record-at i) k → ⊥
+  pub no-record : (i k : ℕ) → FileDue limit s (record-at i) k → ⊥
   no-record i k d = record-quiet limit s i k (end .quiet i (before-end i (record-due-reached s i k d))) d
 
   -- each record before the end has a vertex, and a normal in range

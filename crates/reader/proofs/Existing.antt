@@ -10,15 +10,15 @@ use Rattle.lists.proofs.Choice.{true-not-false}
 use Rattle.grid.specs.declared.GridPoint.{GridPoint}
 use Rattle.rim_file.specs.File.{headerSize, layoutOf, headerStart, recordCount}
 use Rattle.reader.specs.Chain.{link}
-use Rattle.reader.specs.Order.{Place, link-to, record-at}
-use Rattle.reader.specs.Due.{InFile, kindAt, tailZeroAt, OnGridAt, HasVertex, a-point, a-level-point, DueAt, link-over, met-again, too-many, over-limit, kind-unknown, no-height, not-finite, tail-not-zero, out-of-range, normal-out-of-range}
+use Rattle.reader.specs.Order.{FilePlace, link-to, record-at}
+use Rattle.reader.specs.Due.{InFile, kindAt, tailZeroAt, OnGridAt, HasVertex, a-point, a-level-point, FileDue, link-over, met-again, too-many, over-limit, kind-unknown, no-height, not-finite, tail-not-zero, out-of-range, normal-out-of-range}
 
 -- ---- a chain that comes back within the limit has no more records than that
 module _ (limit : ℕ) (s : List ℕ) (i j : ℕ) (h : i < j) (l : j ≤ limit) (e : link s i ≡ link s j) where
-  pub no-5-on-loop : (p : Place) → DueAt limit s p 5 → ⊥
+  pub no-5-on-loop : (p : FilePlace) → FileDue limit s p 5 → ⊥
   no-5-on-loop _ (too-many has m) = has .different i j h (omega arith) e
 
-  pub no-20-on-loop : (p : Place) → DueAt limit s p 20 → ⊥
+  pub no-20-on-loop : (p : FilePlace) → FileDue limit s p 20 → ⊥
   no-20-on-loop _ (over-limit has m) = has .different i j h (omega arith) e
 
 -- a loop of three points: 4 is due at position 3, where the chain comes back to record 1, and neither 5 nor 20 is due anywhere
@@ -54,28 +54,28 @@ loop-returns : link loop 0 ≡ link loop 3
 unfolding loop link layoutOf
 loop-returns = refl
 
-pub loop-4 : (limit : ℕ) → DueAt limit loop (link-to 3) 4
+pub loop-4 : (limit : ℕ) → FileDue limit loop (link-to 3) 4
 unfolding loop layoutOf
 loop-4 limit = met-again 0 3 (omega arith) (record { has-header = header; in-file = loop-in-file; different = loop-different }) loop-returns
   where
     header : headerStart loop + headerSize ≤ length loop
     header = let n : length loop ≡ 56 = refl in omega arith
 
-pub loop-no-5 : (limit : ℕ) → 3 ≤ limit → (p : Place) → DueAt limit loop p 5 → ⊥
+pub loop-no-5 : (limit : ℕ) → 3 ≤ limit → (p : FilePlace) → FileDue limit loop p 5 → ⊥
 loop-no-5 limit h = no-5-on-loop limit loop 0 3 (omega arith) h loop-returns
 
-pub loop-no-20 : (limit : ℕ) → 3 ≤ limit → (p : Place) → DueAt limit loop p 20 → ⊥
+pub loop-no-20 : (limit : ℕ) → 3 ≤ limit → (p : FilePlace) → FileDue limit loop p 20 → ⊥
 loop-no-20 limit h = no-20-on-loop limit loop 0 3 (omega arith) h loop-returns
 
 -- ---- a link above R leads to no record: only 3 is due where it leads
 module _ (limit : ℕ) (s : List ℕ) where
-  pub only-3-over : (i k : ℕ) → recordCount s < link s i → DueAt limit s (link-to i) k → k ≡ 3
+  pub only-3-over : (i k : ℕ) → recordCount s < link s i → FileDue limit s (link-to i) k → k ≡ 3
   only-3-over _ _ h (link-over i has l) = refl
   only-3-over _ _ h (met-again j i l has e) = absurd (omega (arith, has .in-file j l .counted))
   only-3-over _ _ h (too-many has m) = absurd (omega (arith, has .in-file limit (omega arith) .counted))
   only-3-over _ _ h (over-limit has m) = absurd (omega (arith, has .in-file limit (omega arith) .counted))
 
-  pub no-record-over : (i k : ℕ) → recordCount s < link s i → DueAt limit s (record-at i) k → ⊥
+  pub no-record-over : (i k : ℕ) → recordCount s < link s i → FileDue limit s (record-at i) k → ⊥
   no-record-over _ _ h (kind-unknown i has a b) = omega (arith, has .in-file i (omega arith) .counted)
   no-record-over _ _ h (no-height i has k none) = omega (arith, has .in-file i (omega arith) .counted)
   no-record-over _ _ h (not-finite i v has m f) = omega (arith, has .in-file i (omega arith) .counted)
@@ -101,7 +101,7 @@ module _ (s : List ℕ) where
   vertex-tail _ _ (a-point i k g) e f = omega arith
   vertex-tail _ _ (a-level-point i j k t g l h) e f = true-not-false t f
 
-  pub refused-no-vertex : {limit : ℕ} (i k : ℕ) (p : GridPoint) → k ≤ 9 → DueAt limit s (record-at i) k → HasVertex s i p → ⊥
+  pub refused-no-vertex : {limit : ℕ} (i k : ℕ) (p : GridPoint) → k ≤ 9 → FileDue limit s (record-at i) k → HasVertex s i p → ⊥
   refused-no-vertex _ _ p l (kind-unknown i has a b) v = vertex-kind i p v a b
   refused-no-vertex _ _ p l (no-height i has k none) v = vertex-height i p v k none
   refused-no-vertex _ _ p l (not-finite i x has m f) v = true-not-false (vertex-on-grid i p v .all-finite x m) f

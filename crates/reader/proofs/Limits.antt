@@ -11,8 +11,8 @@ use borrow.Author.Tests.{eq-eqb, ne-eqb, le-leb}
 use Rattle.lists.proofs.Choice.{yes, no, true-not-false, both-true}
 use Rattle.terms.specs.Limits.{minVertices, maxVertices, countFits}
 use Rattle.reader.specs.Chain.{overLimit, vertexCount}
-use Rattle.reader.specs.Order.{Place, link-to, link-link, Precedes, by-place, by-number, First, NoneDue}
-use Rattle.reader.specs.Due.{HasRecords, ChainAtMost, DueAt, limit-wrong, length-wrong, area-factor, link-over, met-again, too-many, over-limit, kind-unknown, no-height, not-finite, tail-not-zero, out-of-range, normal-out-of-range, too-few, vertex-repeated}
+use Rattle.reader.specs.Order.{FilePlace, link-to, link-link, Precedes, by-place, by-number, First, NoneDue}
+use Rattle.reader.specs.Due.{HasRecords, ChainAtMost, FileDue, limit-wrong, length-wrong, area-factor, link-over, met-again, too-many, over-limit, kind-unknown, no-height, not-finite, tail-not-zero, out-of-range, normal-out-of-range, too-few, vertex-repeated}
 use Rattle.reader.specs.Reading.{numberDue, polygonOf, answer, readingOf, statusNumber}
 use Rattle.reader.specs.declared.Status.the-variants.{Complete}
 use Rattle.reader.proofs.Order.{verdict-first, verdict-zero}
@@ -23,13 +23,13 @@ use Rattle.reader.proofs.Accepted.{complete-polygon, within-limit}
 
 -- ---- the numbers due with two limits
 -- the number of a record past the limit is due
-record Over (limit : ℕ) (s : List ℕ) (p : Place) (k : ℕ) : Type 0 where
+record Over (limit : ℕ) (s : List ℕ) (p : FilePlace) (k : ℕ) : Type 0 where
   has : HasRecords s (suc limit)
   at : p ≡ link-to limit
   number : k ≡ overLimit limit
 
 -- any other number is due with whichever limit
-due-or-over : {a b : ℕ} {s : List ℕ} → countFits a ≡ true → {p : Place} {k : ℕ} → DueAt a s p k → DueAt b s p k ⊎ Over a s p k
+due-or-over : {a b : ℕ} {s : List ℕ} → countFits a ≡ true → {p : FilePlace} {k : ℕ} → FileDue a s p k → FileDue b s p k ⊎ Over a s p k
 due-or-over f (limit-wrong h) = absurd (true-not-false f h)
 due-or-over f (length-wrong h) = inl (length-wrong h)
 due-or-over f (area-factor l h) = inl (area-factor l h)
@@ -52,16 +52,16 @@ limit-fits {limit} h l = both-true (le-leb minVertices limit h) (le-leb limit ma
 module _ {small large : ℕ} (least : minVertices ≤ small) (below : small ≤ large) (most : large ≤ maxVertices) (s : List ℕ) where
   -- ---- one reading where the chain is within the smaller limit
   module _ (few : ChainAtMost s small) where
-    onward : {p : Place} {k : ℕ} → DueAt small s p k → DueAt large s p k
+    onward : {p : FilePlace} {k : ℕ} → FileDue small s p k → FileDue large s p k
     onward d = ⊎-elim (λ e. e) (λ o. absurd (few (o .has))) (due-or-over (limit-fits least (omega arith)) d)
 
-    back : {p : Place} {k : ℕ} → DueAt large s p k → DueAt small s p k
+    back : {p : FilePlace} {k : ℕ} → FileDue large s p k → FileDue small s p k
     back d = ⊎-elim (λ e. e) (λ o. absurd (few (shorter (suc small) (omega arith) (o .has)))) (due-or-over (limit-fits (omega arith) most) d)
 
     pub number-alike : numberDue small s ≡ numberDue large s
     number-alike = by (first-or-none small s)
       where
-        by : ((k : ℕ) × First (DueAt small s) k) ⊎ NoneDue (DueAt small s) → numberDue small s ≡ numberDue large s
+        by : ((k : ℕ) × First (FileDue small s) k) ⊎ NoneDue (FileDue small s) → numberDue small s ≡ numberDue large s
         by (inl (k, f)) =
             verdict-first (verdict small s) f
             ∙ sym (verdict-first (verdict large s) (record { place = f .place; is-due = onward (f .is-due); none-before = λ p j h d. f .none-before p j h (back d) }))
@@ -78,7 +78,7 @@ module _ {small large : ℕ} (least : minVertices ≤ small) (below : small ≤ 
     many : HasRecords s (suc small)
     many = shorter (suc small) (subst (λ p. small < p .n) (complete-polygon large s complete) more) (read-end large s (complete-read large s complete) .has)
 
-    first-20 : First (DueAt small s) 20
+    first-20 : First (FileDue small s) 20
     first-20 = record { place = link-to small; is-due = over-limit many smaller; none-before = before }
       where
         twenty : overLimit small ≡ 20
@@ -88,10 +88,10 @@ module _ {small large : ℕ} (least : minVertices ≤ small) (below : small ≤ 
         not-later j h (by-place (link-link l)) = omega arith
         not-later j h (by-number l) = omega arith
 
-        before : (p : Place) (j : ℕ) → Precedes p j (link-to small) 20 → DueAt small s p j → ⊥
+        before : (p : FilePlace) (j : ℕ) → Precedes p j (link-to small) 20 → FileDue small s p j → ⊥
         before p j h d =
             ⊎-elim (λ e. read-only-when large s complete .none p j e)
-            (λ o. not-later j (omega (arith, o .number ∙ twenty)) (subst (λ (q : Place). Precedes q j (link-to small) 20) (o .at) h))
+            (λ o. not-later j (omega (arith, o .number ∙ twenty)) (subst (λ (q : FilePlace). Precedes q j (link-to small) 20) (o .at) h))
             (due-or-over (limit-fits least (omega arith)) d)
 
     pub number-over : numberDue small s ≡ 20
@@ -106,10 +106,10 @@ read-at-most limit s complete {m} h has =
 
 -- ---- 5 and 20
 module _ (limit : ℕ) (s : List ℕ) where
-  pub due-5 : {p : Place} → DueAt limit s p 5 → HasRecords s (suc limit) × (limit ≡ maxVertices)
+  pub due-5 : {p : FilePlace} → FileDue limit s p 5 → HasRecords s (suc limit) × (limit ≡ maxVertices)
   due-5 (too-many has m) = (has, m)
 
-  pub due-20 : {p : Place} → DueAt limit s p 20 → HasRecords s (suc limit) × (limit < maxVertices)
+  pub due-20 : {p : FilePlace} → FileDue limit s p 20 → HasRecords s (suc limit) × (limit < maxVertices)
   due-20 (over-limit has m) = (has, m)
 
   -- 5 is given with the largest limit alone, to a chain that has a record more

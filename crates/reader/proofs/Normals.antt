@@ -13,8 +13,8 @@ use Rattle.rim_file.specs.File.{isEdition2, offset}
 use Rattle.rim_file.specs.Record.{heldNormal}
 use Rattle.rim_file.proofs.Normals.{normal-1, normal-2, numbers-1, number-in-range, outside}
 use Rattle.reader.specs.Chain.{link, normalAtPosition}
-use Rattle.reader.specs.Order.{Place, record-at}
-use Rattle.reader.specs.Due.{normalNumbersAt, HasRecords, HasNormal, held, none, DueAt, normal-out-of-range}
+use Rattle.reader.specs.Order.{FilePlace, record-at}
+use Rattle.reader.specs.Due.{normalNumbersAt, HasRecords, HasNormal, held, none, FileDue, normal-out-of-range}
 
 -- number 18 at a position
 module _ (s : List ℕ) (i : ℕ) where
@@ -23,7 +23,7 @@ module _ (s : List ℕ) (i : ℕ) where
   normal-given c m f = not-true-false (normalInRange (normalAtPosition s i)) (λ h. f (number-in-range s (offset s (link s i)) h c m))
 
   -- and where the normal is, 18 is due
-  pub normal-due : (limit : ℕ) → HasRecords s (suc i) → normalInRange (normalAtPosition s i) ≡ false → DueAt limit s (record-at i) 18
+  pub normal-due : (limit : ℕ) → HasRecords s (suc i) → normalInRange (normalAtPosition s i) ≡ false → FileDue limit s (record-at i) 18
   normal-due limit has h =
       let o = outside s (offset s (link s i)) h in
       normal-out-of-range i (o .number) has (o .member) (o .fails)
@@ -42,6 +42,6 @@ module _ (s : List ℕ) (i : ℕ) where
       by false e = subst (λ (q : Normal). HasNormal s i q) (sym (normal-1 s at e)) (none i e)
 
 -- rule 4.18: 18 is due on no file of edition 1
-pub no-18-in-edition-1 : (limit : ℕ) (s : List ℕ) → isEdition2 s ≡ false → (p : Place) → DueAt limit s p 18 → ⊥
+pub no-18-in-edition-1 : (limit : ℕ) (s : List ℕ) → isEdition2 s ≡ false → (p : FilePlace) → FileDue limit s p 18 → ⊥
 no-18-in-edition-1 limit s e _ (normal-out-of-range i c has m f) =
     List·Memᴰ·not-nil (subst (λ (l : List ℤ). List·Memᴰ c l) (numbers-1 s (offset s (link s i)) e) m)

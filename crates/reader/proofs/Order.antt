@@ -6,29 +6,29 @@ use Rattle.lists.proofs.Choice.{Compared, less, same, more, compared}
 use Rattle.terms.proofs.Order.{Ordered, earlier, later, one-place}
 use Rattle.terms.proofs.Order as order
 pub use Rattle.terms.proofs.Order.{first-due, none-due, none-first, verdict-either, verdict-given, verdict-zero, verdict-none}
-use Rattle.reader.specs.Order.{Place, request, header, link-to, record-at, rim, Before, request-header, request-link, request-record, request-rim, header-link, header-record, header-rim, link-link, link-record, record-link, record-record, link-rim, record-rim, First}
+use Rattle.reader.specs.Order.{FilePlace, request, header, link-to, record-at, rim, FileBefore, request-header, request-link, request-record, request-rim, header-link, header-record, header-rim, link-link, link-record, record-link, record-record, link-rim, record-rim, First}
 
-link-and-link : {h i : ℕ} → Compared h i → Ordered Before (link-to h) (link-to i)
+link-and-link : {h i : ℕ} → Compared h i → Ordered FileBefore (link-to h) (link-to i)
 link-and-link (less l) = earlier (link-link l)
 link-and-link (same e) = one-place (ap link-to e)
 link-and-link (more l) = later (link-link l)
 
-link-and-record : {h i : ℕ} → Compared h i → Ordered Before (link-to h) (record-at i)
+link-and-record : {h i : ℕ} → Compared h i → Ordered FileBefore (link-to h) (record-at i)
 link-and-record {h} {i} (less l) = earlier (link-record {h = h} {i = i} (omega arith))
 link-and-record {h} {i} (same e) = earlier (link-record {h = h} {i = i} (omega arith))
 link-and-record (more l) = later (record-link l)
 
-record-and-link : {h i : ℕ} → Compared h i → Ordered Before (record-at h) (link-to i)
+record-and-link : {h i : ℕ} → Compared h i → Ordered FileBefore (record-at h) (link-to i)
 record-and-link (less l) = earlier (record-link l)
 record-and-link {h} {i} (same e) = later (link-record {h = i} {i = h} (omega arith))
 record-and-link {h} {i} (more l) = later (link-record {h = i} {i = h} (omega arith))
 
-record-and-record : {h i : ℕ} → Compared h i → Ordered Before (record-at h) (record-at i)
+record-and-record : {h i : ℕ} → Compared h i → Ordered FileBefore (record-at h) (record-at i)
 record-and-record (less l) = earlier (record-record l)
 record-and-record (same e) = one-place (ap record-at e)
 record-and-record (more l) = later (record-record l)
 
-ordered : (p q : Place) → Ordered Before p q
+ordered : (p q : FilePlace) → Ordered FileBefore p q
 ordered request request = one-place refl
 ordered request header = earlier request-header
 ordered request (link-to i) = earlier request-link
@@ -55,10 +55,10 @@ ordered rim (link-to i) = later link-rim
 ordered rim (record-at i) = later record-rim
 ordered rim rim = one-place refl
 
-abbrev pub Verdict : (Place → ℕ → Type 0) → ℕ → Type 0
-Verdict = order.Verdict Before
+abbrev pub Verdict : (FilePlace → ℕ → Type 0) → ℕ → Type 0
+Verdict = order.Verdict FileBefore
 
-module _ {due : Place → ℕ → Type 0} where
+module _ {due : FilePlace → ℕ → Type 0} where
   pub first-unique : {j k : ℕ} → First due j → First due k → j ≡ k
   first-unique a b = order.first-unique ordered a b
 

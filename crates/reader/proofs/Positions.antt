@@ -20,7 +20,7 @@ use Rattle.rim_file.proofs.Floats.{UpTo}
 use Rattle.reader.specs.Chain.{metBefore, vertexAtPosition, normalAtPosition, overLimit, linkCode, recordCode, positionCode}
 use Rattle.reader.specs.Chain as chain
 use Rattle.reader.specs.Order.{link-to, record-at}
-use Rattle.reader.specs.Due.{InFile, HasRecords, DueAt, link-over, met-again, too-many, over-limit, kind-unknown, no-height, not-finite, tail-not-zero, out-of-range, normal-out-of-range}
+use Rattle.reader.specs.Due.{InFile, HasRecords, FileDue, link-over, met-again, too-many, over-limit, kind-unknown, no-height, not-finite, tail-not-zero, out-of-range, normal-out-of-range}
 use Rattle.reader.proofs.Answers.{over-least}
 use Rattle.reader.proofs.Normals.{normal-given, normal-due}
 use Rattle.reader.proofs.RecordNumbers.{record-most, kind-given, height-given, tail-given, finite-given, range-given, record-due}
@@ -96,7 +96,7 @@ module _ (s : List ℕ) (i : ℕ) where
       by (suc c) e = record-first 18 (record { some = omega arith; most = omega (arith, record-most s i) })
 
 module _ (limit : ℕ) (s : List ℕ) where
-  pub link-given : (i k : ℕ) → DueAt limit s (link-to i) k → UpTo k (linkCode limit s i)
+  pub link-given : (i k : ℕ) → FileDue limit s (link-to i) k → UpTo k (linkCode limit s i)
   link-given _ _ (link-over i has h) = over-given limit s i h
   link-given _ _ (met-again j i h has e) = met-given limit s i (met-marked s j i (chain.link s i) h e)
   link-given _ _ (too-many has m) =
@@ -104,7 +104,7 @@ module _ (limit : ℕ) (s : List ℕ) where
   link-given _ _ (over-limit has m) =
       subst (λ (k : ℕ). UpTo k (linkCode limit s limit)) (no 5 20 (ne-eqb limit maxVertices (λ e. omega arith))) (many-given limit s limit (omega arith))
 
-  pub record-given : (i k : ℕ) → DueAt limit s (record-at i) k → UpTo k (recordCode s i)
+  pub record-given : (i k : ℕ) → FileDue limit s (record-at i) k → UpTo k (recordCode s i)
   record-given _ _ (kind-unknown i has a b) = record-first s i 6 (let e = kind-given s i a b in record { some = omega arith; most = omega arith })
   record-given _ _ (no-height i has k none) = record-first s i 7 (let e = height-given s i k none in record { some = omega arith; most = omega arith })
   record-given _ _ (not-finite i v has m f) = record-first s i 8 (finite-given s i v m f)
@@ -113,11 +113,11 @@ module _ (limit : ℕ) (s : List ℕ) where
   record-given _ _ (normal-out-of-range i c has m f) = normal-first s i (normal-given s i c m f)
 
   -- so where no number is given at a position, none is due on its link and none on its record
-  pub link-quiet : (i k : ℕ) → positionCode limit s i ≡ 0 → DueAt limit s (link-to i) k → ⊥
+  pub link-quiet : (i k : ℕ) → positionCode limit s i ≡ 0 → FileDue limit s (link-to i) k → ⊥
   unfolding positionCode
   link-quiet i k e d = omega (arith, link-given i k d .some, due-neither (linkCode limit s i) (recordCode s i) e .0)
 
-  pub record-quiet : (i k : ℕ) → positionCode limit s i ≡ 0 → DueAt limit s (record-at i) k → ⊥
+  pub record-quiet : (i k : ℕ) → positionCode limit s i ≡ 0 → FileDue limit s (record-at i) k → ⊥
   unfolding positionCode
   record-quiet i k e d = omega (arith, record-given i k d .some, due-neither (linkCode limit s i) (recordCode s i) e .1)
 
@@ -133,13 +133,13 @@ pub record-reached : {s : List ℕ} (i : ℕ) → HasRecords s (suc i) → Reach
 record-reached i has = record { has = shorter i (omega arith) has; goes-on = has .in-file i (omega arith) .numbered }
 
 module _ {limit : ℕ} (s : List ℕ) where
-  pub link-due-reached : (i k : ℕ) → DueAt limit s (link-to i) k → Reached s i
+  pub link-due-reached : (i k : ℕ) → FileDue limit s (link-to i) k → Reached s i
   link-due-reached _ _ (link-over i has h) = record { has = has; goes-on = omega arith }
   link-due-reached _ _ (met-again j i h has e) = record { has = has; goes-on = omega (arith, has .in-file j h .numbered) }
   link-due-reached _ _ (too-many has m) = record-reached limit has
   link-due-reached _ _ (over-limit has m) = record-reached limit has
 
-  pub record-due-reached : (i k : ℕ) → DueAt limit s (record-at i) k → Reached s i
+  pub record-due-reached : (i k : ℕ) → FileDue limit s (record-at i) k → Reached s i
   record-due-reached _ _ (kind-unknown i has a b) = record-reached i has
   record-due-reached _ _ (no-height i has k none) = record-reached i has
   record-due-reached _ _ (not-finite i v has m f) = record-reached i has
@@ -165,25 +165,25 @@ module _ (limit : ℕ) (s : List ℕ) (whole : Whole s) (i : ℕ) (r : Reached s
       here = record { numbered = r .goes-on; counted = l; bytes = record-within s (chain.link s i) (r .goes-on) l (whole .records) }
 
   -- the record is one too many: 5 or 20
-  many-due : limit ≤ maxVertices → i ≡ limit → HasRecords s (suc i) → DueAt limit s (link-to i) (overLimit limit)
+  many-due : limit ≤ maxVertices → i ≡ limit → HasRecords s (suc i) → FileDue limit s (link-to i) (overLimit limit)
   many-due small e has = by (eqb limit maxVertices) refl
     where
       all : HasRecords s (suc limit)
       all = subst (λ (m : ℕ). HasRecords s (suc m)) e has
 
-      by : (b : Bool) → eqb limit maxVertices ≡ b → DueAt limit s (link-to i) (cond b 5 20)
-      by true p = subst (λ (m : ℕ). DueAt limit s (link-to m) 5) (sym e) (too-many all (eqb-true limit maxVertices p))
-      by false p = subst (λ (m : ℕ). DueAt limit s (link-to m) 20) (sym e) (over-limit all (omega (arith, small, eqb-false limit maxVertices p)))
+      by : (b : Bool) → eqb limit maxVertices ≡ b → FileDue limit s (link-to i) (cond b 5 20)
+      by true p = subst (λ (m : ℕ). FileDue limit s (link-to m) 5) (sym e) (too-many all (eqb-true limit maxVertices p))
+      by false p = subst (λ (m : ℕ). FileDue limit s (link-to m) 20) (sym e) (over-limit all (omega (arith, small, eqb-false limit maxVertices p)))
 
   -- position i is at most the last that may be
-  pub given-link : (c : ℕ) → limit ≤ maxVertices → i ≤ limit → linkCode limit s i ≡ suc c → DueAt limit s (link-to i) (suc c)
+  pub given-link : (c : ℕ) → limit ≤ maxVertices → i ≤ limit → linkCode limit s i ≡ suc c → FileDue limit s (link-to i) (suc c)
   unfolding linkCode
   given-link c small within e = by (ltb (recordCount s) (chain.link s i)) (metBefore s i (chain.link s i)) (leb limit i) refl refl refl
     where
-      given : {k : ℕ} → linkCode limit s i ≡ k → DueAt limit s (link-to i) k → DueAt limit s (link-to i) (suc c)
-      given f d = subst (λ (k : ℕ). DueAt limit s (link-to i) k) (sym f ∙ e) d
+      given : {k : ℕ} → linkCode limit s i ≡ k → FileDue limit s (link-to i) k → FileDue limit s (link-to i) (suc c)
+      given f d = subst (λ (k : ℕ). FileDue limit s (link-to i) k) (sym f ∙ e) d
 
-      by : (x y z : Bool) → ltb (recordCount s) (chain.link s i) ≡ x → metBefore s i (chain.link s i) ≡ y → leb limit i ≡ z → DueAt limit s (link-to i) (suc c)
+      by : (x y z : Bool) → ltb (recordCount s) (chain.link s i) ≡ x → metBefore s i (chain.link s i) ≡ y → leb limit i ≡ z → FileDue limit s (link-to i) (suc c)
       by true y z p q t = given (yes 3 _ p) (link-over i (r .has) (ltb-true (recordCount s) (chain.link s i) p))
       by false true z p q t = let m = met-found s i (chain.link s i) q in given (no 3 _ p ∙ yes 4 _ q) (met-again (m .at) i (m .before) (r .has) (m .same))
       by false false true p q t =
@@ -207,19 +207,19 @@ module _ (limit : ℕ) (s : List ℕ) (whole : Whole s) (i : ℕ) (r : Reached s
       by false false false p q t = record { next = next-has (ltb-false (recordCount s) (chain.link s i) p) q; within = leb-false limit i t }
 
   -- the number of the record, or of its normal
-  pub given-record : (c : ℕ) → linkCode limit s i ≡ 0 → recordCode s i ≡ suc c → DueAt limit s (record-at i) (suc c)
+  pub given-record : (c : ℕ) → linkCode limit s i ≡ 0 → recordCode s i ≡ suc c → FileDue limit s (record-at i) (suc c)
   given-record c l e = number (numberOf (vertexAtPosition s i)) refl e
     where
       has : HasRecords s (suc i)
       has = linked l .next
 
-      number : (j : ℕ) → numberOf (vertexAtPosition s i) ≡ j → firstDue j (normalCode (normalAtPosition s i)) ≡ suc c → DueAt limit s (record-at i) (suc c)
+      number : (j : ℕ) → numberOf (vertexAtPosition s i) ≡ j → firstDue j (normalCode (normalAtPosition s i)) ≡ suc c → FileDue limit s (record-at i) (suc c)
       number (suc j) d e = record-due s i limit has c (d ∙ e)
       number zero d e = by (normalInRange (normalAtPosition s i)) refl
         where
-          by : (b : Bool) → normalInRange (normalAtPosition s i) ≡ b → DueAt limit s (record-at i) (suc c)
+          by : (b : Bool) → normalInRange (normalAtPosition s i) ≡ b → FileDue limit s (record-at i) (suc c)
           by true r = absurd (omega (arith, sym (yes 0 18 r) ∙ e))
-          by false r = subst (λ (k : ℕ). DueAt limit s (record-at i) k) (sym (no 0 18 r) ∙ e) (normal-due s i limit has r)
+          by false r = subst (λ (k : ℕ). FileDue limit s (record-at i) k) (sym (no 0 18 r) ∙ e) (normal-due s i limit has r)
 
   -- where no number is given at the position, the record has besides a vertex and a normal in range
   pub record Passing : Type 0 where

@@ -17,7 +17,7 @@ use Rattle.rim_file.proofs.Floats.{UpTo, every-fails, every-not, numbers-most, 
 use Rattle.reader.specs.Chain.{heightBefore, vertexAtPosition}
 use Rattle.reader.specs.Chain as chain
 use Rattle.reader.specs.Order.{record-at}
-use Rattle.reader.specs.Due.{HasRecords, kindAt, tailZeroAt, floatsAt, DueAt, kind-unknown, no-height, not-finite, tail-not-zero, out-of-range}
+use Rattle.reader.specs.Due.{HasRecords, kindAt, tailZeroAt, floatsAt, FileDue, kind-unknown, no-height, not-finite, tail-not-zero, out-of-range}
 use Rattle.reader.proofs.Heights.{height-unknown, no-height-known}
 
 module _ (s : List ℕ) (i : ℕ) where
@@ -86,26 +86,26 @@ module _ (s : List ℕ) (i : ℕ) where
 
   -- ---- the number that is given is due
   module _ (limit : ℕ) (has : HasRecords s (suc i)) where
-    floats-due : (vs : List Float) (c : ℕ) → floatsAt s i ≡ vs → numbersCode vs ≡ suc c → DueAt limit s (record-at i) (suc c)
+    floats-due : (vs : List Float) (c : ℕ) → floatsAt s i ≡ vs → numbersCode vs ≡ suc c → FileDue limit s (record-at i) (suc c)
     unfolding numbersCode
     floats-due vs c u e = by (allOf finite vs) (allOf inRange vs) refl refl e
       where
-        by : (f r : Bool) → allOf finite vs ≡ f → allOf inRange vs ≡ r → _≡_ {A = ℕ} (cond f (cond r 0 9) 8) (suc c) → DueAt limit s (record-at i) (suc c)
+        by : (f r : Bool) → allOf finite vs ≡ f → allOf inRange vs ≡ r → _≡_ {A = ℕ} (cond f (cond r 0 9) 8) (suc c) → FileDue limit s (record-at i) (suc c)
         by false r p q d =
             let w = every-fails finite vs p in
-            subst (λ (k : ℕ). DueAt limit s (record-at i) k) d (not-finite i (w .value) has (subst (λ (l : List Float). List·Memᴰ (w .value) l) (sym u) (w .member)) (w .fails))
+            subst (λ (k : ℕ). FileDue limit s (record-at i) k) d (not-finite i (w .value) has (subst (λ (l : List Float). List·Memᴰ (w .value) l) (sym u) (w .member)) (w .fails))
         by true false p q d =
             let w = every-fails inRange vs q in
-            subst (λ (k : ℕ). DueAt limit s (record-at i) k) d (out-of-range i (w .value) has (subst (λ (l : List Float). List·Memᴰ (w .value) l) (sym u) (w .member)) (w .fails))
+            subst (λ (k : ℕ). FileDue limit s (record-at i) k) d (out-of-range i (w .value) has (subst (λ (l : List Float). List·Memᴰ (w .value) l) (sym u) (w .member)) (w .fails))
         by true true p q d = absurd (omega (arith, d))
 
-    pub record-due : (c : ℕ) → numberOf (vertexAtPosition s i) ≡ suc c → DueAt limit s (record-at i) (suc c)
+    pub record-due : (c : ℕ) → numberOf (vertexAtPosition s i) ≡ suc c → FileDue limit s (record-at i) (suc c)
     record-due c e = by (eqb (kindAt s i) 1) (eqb (kindAt s i) 2) (known (heightBefore s i)) (tailZeroAt s i) refl refl refl refl (sym record-number ∙ e)
       where
         by : (one two kn tail : Bool) → eqb (kindAt s i) 1 ≡ one → eqb (kindAt s i) 2 ≡ two → known (heightBefore s i) ≡ kn → tailZeroAt s i ≡ tail →
-            tests one two kn tail pointFloats levelFloats ≡ suc c → DueAt limit s (record-at i) (suc c)
+            tests one two kn tail pointFloats levelFloats ≡ suc c → FileDue limit s (record-at i) (suc c)
         by true two kn tail a b k t d = floats-due pointFloats c (yes _ _ a) d
         by false true true true a b k t d = floats-due levelFloats c (no _ _ a ∙ yes _ _ b) d
-        by false true true false a b k t d = subst (λ (k : ℕ). DueAt limit s (record-at i) k) d (tail-not-zero i has (eqb-true (kindAt s i) 2 b) t)
-        by false true false tail a b k t d = subst (λ (k : ℕ). DueAt limit s (record-at i) k) d (no-height i has (eqb-true (kindAt s i) 2 b) (height-unknown s i k))
-        by false false kn tail a b k t d = subst (λ (k : ℕ). DueAt limit s (record-at i) k) d (kind-unknown i has (eqb-false (kindAt s i) 1 a) (eqb-false (kindAt s i) 2 b))
+        by false true true false a b k t d = subst (λ (k : ℕ). FileDue limit s (record-at i) k) d (tail-not-zero i has (eqb-true (kindAt s i) 2 b) t)
+        by false true false tail a b k t d = subst (λ (k : ℕ). FileDue limit s (record-at i) k) d (no-height i has (eqb-true (kindAt s i) 2 b) (height-unknown s i k))
+        by false false kn tail a b k t d = subst (λ (k : ℕ). FileDue limit s (record-at i) k) d (kind-unknown i has (eqb-false (kindAt s i) 1 a) (eqb-false (kindAt s i) 2 b))

@@ -16,7 +16,7 @@ use Rattle.terms.specs.Limits.{minVertices, maxVertices, maxAreaFactor, countFi
 use Rattle.rim_file.specs.File.{isEdition2, headerSize, headerStart, recordSize, areaFactor, recordCount, lengthWrong, offset, kind, firstNumber, secondNumber, thirdNumber, tailZero}
 use Rattle.rim_file.specs.Record.{floatsOf, heldNormal, normalNumbersOf}
 use Rattle.reader.specs.Chain.{link}
-use Rattle.reader.specs.Order.{Place, request, header, link-to, record-at, rim}
+use Rattle.reader.specs.Order.{FilePlace, request, header, link-to, record-at, rim}
 
 -- ---- what there is
 -- record k is one of the R records, and its bytes are there (rule 1.3)
@@ -85,19 +85,19 @@ pub data HasNormal (s : List ℕ) : ℕ → Normal → Type 0 where
 
 -- ---- the numbers
 -- constructor by constructor, rules 4.14, 4.1 to 4.5, 4.20, 4.6 to 4.9, 4.18, 4.10 and 4.11; 4.8 has two
-pub data DueAt (limit : ℕ) (s : List ℕ) : Place → ℕ → Type 0 where
-  limit-wrong : countFits limit ≡ false → DueAt limit s request 14
-  length-wrong : lengthWrong s ≡ true → DueAt limit s header 1
-  area-factor : headerStart s + headerSize ≤ length s → maxAreaFactor < areaFactor s → DueAt limit s header 2
-  link-over : (i : ℕ) → HasRecords s i → recordCount s < link s i → DueAt limit s (link-to i) 3
-  met-again : (i j : ℕ) → i < j → HasRecords s j → link s i ≡ link s j → DueAt limit s (link-to j) 4
-  too-many : HasRecords s (suc limit) → limit ≡ maxVertices → DueAt limit s (link-to limit) 5
-  over-limit : HasRecords s (suc limit) → limit < maxVertices → DueAt limit s (link-to limit) 20
-  kind-unknown : (i : ℕ) → HasRecords s (suc i) → (kindAt s i ≡ 1 → ⊥) → (kindAt s i ≡ 2 → ⊥) → DueAt limit s (record-at i) 6
-  no-height : (i : ℕ) → HasRecords s (suc i) → kindAt s i ≡ 2 → ((j : ℕ) → j < i → kindAt s j ≡ 1 → ⊥) → DueAt limit s (record-at i) 7
-  not-finite : (i : ℕ) (v : Float) → HasRecords s (suc i) → List·Memᴰ v (floatsAt s i) → finite v ≡ false → DueAt limit s (record-at i) 8
-  tail-not-zero : (i : ℕ) → HasRecords s (suc i) → kindAt s i ≡ 2 → tailZeroAt s i ≡ false → DueAt limit s (record-at i) 8
-  out-of-range : (i : ℕ) (v : Float) → HasRecords s (suc i) → List·Memᴰ v (floatsAt s i) → inRange v ≡ false → DueAt limit s (record-at i) 9
-  normal-out-of-range : (i : ℕ) (c : ℤ) → HasRecords s (suc i) → List·Memᴰ c (normalNumbersAt s i) → (OnGrid c → ⊥) → DueAt limit s (record-at i) 18
-  too-few : (i : ℕ) → HasRecords s i → link s i ≡ 0 → i < minVertices → DueAt limit s rim 10
-  vertex-repeated : (i j : ℕ) (p : GridPoint) → i < j → HasRecords s (suc j) → HasVertex s i p → HasVertex s j p → DueAt limit s rim 11
+pub data FileDue (limit : ℕ) (s : List ℕ) : FilePlace → ℕ → Type 0 where
+  limit-wrong : countFits limit ≡ false → FileDue limit s request 14
+  length-wrong : lengthWrong s ≡ true → FileDue limit s header 1
+  area-factor : headerStart s + headerSize ≤ length s → maxAreaFactor < areaFactor s → FileDue limit s header 2
+  link-over : (i : ℕ) → HasRecords s i → recordCount s < link s i → FileDue limit s (link-to i) 3
+  met-again : (i j : ℕ) → i < j → HasRecords s j → link s i ≡ link s j → FileDue limit s (link-to j) 4
+  too-many : HasRecords s (suc limit) → limit ≡ maxVertices → FileDue limit s (link-to limit) 5
+  over-limit : HasRecords s (suc limit) → limit < maxVertices → FileDue limit s (link-to limit) 20
+  kind-unknown : (i : ℕ) → HasRecords s (suc i) → (kindAt s i ≡ 1 → ⊥) → (kindAt s i ≡ 2 → ⊥) → FileDue limit s (record-at i) 6
+  no-height : (i : ℕ) → HasRecords s (suc i) → kindAt s i ≡ 2 → ((j : ℕ) → j < i → kindAt s j ≡ 1 → ⊥) → FileDue limit s (record-at i) 7
+  not-finite : (i : ℕ) (v : Float) → HasRecords s (suc i) → List·Memᴰ v (floatsAt s i) → finite v ≡ false → FileDue limit s (record-at i) 8
+  tail-not-zero : (i : ℕ) → HasRecords s (suc i) → kindAt s i ≡ 2 → tailZeroAt s i ≡ false → FileDue limit s (record-at i) 8
+  out-of-range : (i : ℕ) (v : Float) → HasRecords s (suc i) → List·Memᴰ v (floatsAt s i) → inRange v ≡ false → FileDue limit s (record-at i) 9
+  normal-out-of-range : (i : ℕ) (c : ℤ) → HasRecords s (suc i) → List·Memᴰ c (normalNumbersAt s i) → (OnGrid c → ⊥) → FileDue limit s (record-at i) 18
+  too-few : (i : ℕ) → HasRecords s i → link s i ≡ 0 → i < minVertices → FileDue limit s rim 10
+  vertex-repeated : (i j : ℕ) (p : GridPoint) → i < j → HasRecords s (suc j) → HasVertex s i p → HasVertex s j p → FileDue limit s rim 11

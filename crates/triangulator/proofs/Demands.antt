@@ -13,7 +13,8 @@ use Rattle.triangulation.specs.Problems.{problemOf}
 use Rattle.triangulation.specs.Demand3.{Optimal, Demand3, HandedBack}
 use Rattle.triangulation.proofs.Demand3.{demand3, handed-back}
 use Rattle.jobs.specs.Job.{Job, jobCode}
-use Rattle.jobs.specs.Due.{Due, FirstDue, Accepted}
+use Rattle.terms.proofs.Order.{none-first}
+use Rattle.jobs.specs.Due.{FirstDue, Accepted}
 use Rattle.jobs.proofs.Acceptance.{accepted-zero, zero-accepted, code-due, due-code}
 use Rattle.triangulator.specs.declared.Outcome.{Outcome}
 use Rattle.triangulator.specs.declared.Outcome.the-variants.{Patch, None, Refused}
@@ -87,11 +88,8 @@ module _ (job : Job) (triangles work : List ℕ) where
   pub job-refused : (k : ℕ) → FirstDue job (length triangles) (length work) k →
       triangulated job triangles work ≡ result (Refused (refusal k)) triangles work
   unfolding call number
-  job-refused k d = by k (due-code job (length triangles) (length work) k d) (d .due)
-    where
-      by : (k : ℕ) → number ≡ k → Due job (length triangles) (length work) k → call ≡ result (Refused (refusal k)) triangles work
-      by zero e d = absurd (zero-accepted job (length triangles) (length work) e 0 d)
-      by (suc k) e d = refused-call k e
+  job-refused zero f = absurd (none-first (zero-accepted job (length triangles) (length work) (due-code job (length triangles) (length work) 0 f)) f)
+  job-refused (suc k) f = refused-call k (due-code job (length triangles) (length work) (suc k) f)
 
   pub job-refused-only : (k : ℕ) → triangulated job triangles work .outcome ≡ Refused (refusal k) → FirstDue job (length triangles) (length work) k
   unfolding call number
