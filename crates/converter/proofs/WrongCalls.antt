@@ -1,6 +1,6 @@
 -- Files worked out, with what the call does and what a wrong converter would do instead, by computation over the definitions. Assumes nothing.
 use mathlib.Core.Path.{_≡_, refl, sym, _∙_}
-use mathlib.Core.Bool.{Bool, true, false, _&&_, false≢true}
+use mathlib.Core.Bool.{Bool, true, false, false≢true}
 use mathlib.Core.List.{List, [], _∷_, _++_, map, List·Memᴰ}
 use Prim.Native.Nat.{ℕ}
 use borrow.Author.Tests.{eq-eqb}
@@ -8,7 +8,7 @@ use lib.Dec.{eqb}
 use lib.Ieee.{ofBits}
 use lib.ListN.{replicate}
 use Rattle.codes.specs.Refusals.{refusal}
-use Rattle.lists.specs.Lists.{upFrom, someFrom}
+use Rattle.lists.specs.Lists.{upFrom, someFrom, both}
 use Rattle.lists.proofs.Comparing.{sameList, same-list, anyOf, any-of}
 use Rattle.grid.specs.Number.{finite, numerator, denominator, negative, inRange, roundEighths}
 use Rattle.polygon.specs.Polygon.{repeatedVertex}
@@ -81,7 +81,10 @@ right-calls = refl
 -- equal answers and tables are the same by their numbers
 sameConverting : Converting → Converting → Bool
 sameConverting c d =
-    eqb (numberOf (c .answer)) (numberOf (d .answer)) && (eqb (editionOf (c .answer)) (editionOf (d .answer)) && (eqb (convertedLength (c .answer)) (convertedLength (d .answer)) && sameList (c .left) (d .left)))
+    both (eqb (numberOf (c .answer)) (numberOf (d .answer)))
+    (both (eqb (editionOf (c .answer)) (editionOf (d .answer)))
+    (both (eqb (convertedLength (c .answer)) (convertedLength (d .answer)))
+    (sameList (c .left) (d .left))))
 
 same-converting : (c : Converting) → sameConverting c c ≡ true
 unfolding sameConverting

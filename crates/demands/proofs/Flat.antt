@@ -9,7 +9,7 @@ use lib.ListN.{length}
 use lib.Signed.{ltZ}
 use Rattle.integers.proofs.Laws.{sub-self}
 use Rattle.integers.proofs.Order.{less-by-difference}
-use Rattle.lists.specs.Lists.{upFrom, when}
+use Rattle.lists.specs.Lists.{upFrom, when, everyFrom}
 use Rattle.lists.proofs.Choice.{true-not-false}
 use Rattle.lists.proofs.Members.{no-members}
 use Rattle.terms.specs.Entries.{triple}
@@ -117,7 +117,7 @@ module _ (p : Polygon) (is3 : p .n ≡ 3) where
 
 -- its only tiling
 alone : (w : ℕ) (rows : List (List ℕ)) → best (problemFrom 3 (triple 0 1 2 ∷ []) (w ∷ []) rows) ≡ patch w (0 ∷ [])
-unfolding bestKey key isTriangulation totalWeight preorderFrom countBetween countOutside
+unfolding bestKey key isTriangulation everyFrom totalWeight preorderFrom countBetween countOutside
 alone w rows = ap (λ (x : ℕ). patch x (0 ∷ [])) (sum w)
   where
     sum : (w : ℕ) → w + 0 + 0 ≡ w

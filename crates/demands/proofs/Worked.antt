@@ -105,15 +105,15 @@ unfolding lengthOf rootDigits ratioOf bendOf sumBelow
 weights-N = refl
 
 best-P : best (job (80 ∷ 64 ∷ 80 ∷ 93 ∷ [])) ≡ patch 469 (1 ∷ 3 ∷ [])
-unfolding bestKey key isTriangulation totalWeight preorderFrom countBetween countOutside
+unfolding bestKey key isTriangulation everyFrom totalWeight preorderFrom countBetween countOutside
 best-P = refl
 
 best-N : best (job (80 ∷ 264 ∷ 800 ∷ 233 ∷ [])) ≡ patch 809 (1 ∷ 3 ∷ [])
-unfolding bestKey key isTriangulation totalWeight preorderFrom countBetween countOutside
+unfolding bestKey key isTriangulation everyFrom totalWeight preorderFrom countBetween countOutside
 best-N = refl
 
 tilings-P : withTotals (job (80 ∷ 64 ∷ 80 ∷ 93 ∷ [])) ≡ (520 ∷ 0 ∷ 2 ∷ []) ∷ (469 ∷ 1 ∷ 3 ∷ []) ∷ []
-unfolding isTriangulation totalWeight countBetween countOutside
+unfolding isTriangulation everyFrom totalWeight countBetween countOutside
 tilings-P = refl
 
 -- what does not depend on the normals: candidates, 12 and rows

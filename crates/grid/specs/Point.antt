@@ -1,8 +1,9 @@
 -- Grid points, in steps of the grid. Definitions only.
 use Prim.Native.Nat.{_≤_}
-use mathlib.Core.Bool.{Bool, _&&_}
+use mathlib.Core.Bool.{Bool}
 use lib.IntN.{ℤ, pos, negsuc, natAbs}
 use lib.Signed.{leZ}
+use Rattle.lists.specs.Lists.{both}
 use Rattle.grid.specs.declared.GridPoint.{GridPoint}
 
 -- rule 1.11: a grid point by its three coordinates
@@ -21,7 +22,7 @@ pub record OnGrid (c : ℤ) : Type 0 where
   pub size : natAbs c ≤ 1000
 
 abbrev pub coordinateOnGrid : ℤ → Bool
-coordinateOnGrid c = leZ lowest c && leZ c highest
+coordinateOnGrid c = both (leZ lowest c) (leZ c highest)
 
 -- rule 1.11: each coordinate of a point is, as a fact and as a test
 pub record PointOnGrid (p : GridPoint) : Type 0 where
@@ -30,4 +31,4 @@ pub record PointOnGrid (p : GridPoint) : Type 0 where
   pub z : OnGrid (p .z)
 
 abbrev pub pointOnGrid : GridPoint → Bool
-pointOnGrid p = coordinateOnGrid (p .x) && (coordinateOnGrid (p .y) && coordinateOnGrid (p .z))
+pointOnGrid p = both (coordinateOnGrid (p .x)) (both (coordinateOnGrid (p .y)) (coordinateOnGrid (p .z)))

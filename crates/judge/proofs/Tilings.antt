@@ -1,12 +1,13 @@
 -- The test of a list says that it is a tiling without repeats, and does not know the list's order. Assumes nothing.
 use Prim.Native.Nat.{ℕ, suc, _+_, _≤_, _<_}
 use mathlib.Core.Path.{_≡_, refl, sym, ap, ap₂, _∙_}
-use mathlib.Core.Bool.{Bool, true, cond, _&&_}
+use mathlib.Core.Bool.{Bool, true, cond}
 use mathlib.Core.List.{List, [], _∷_}
 use native.Mathlib.Omega.{arith}
 use lib.ListN.{length, getD}
 use lib.Dec.{eqb, ltb}
 use borrow.Author.Tests.{eqb-true, eq-eqb}
+use Rattle.lists.specs.Lists.{both}
 use Rattle.lists.proofs.Choice.{Truth, truth, holds, fails, true-not-false, not-true-false}
 use Rattle.lists.proofs.Members.{member-entry}
 use Rattle.jobs.specs.Job.{unless}
@@ -104,4 +105,4 @@ module _ (job : Problem) where
   pub same-code : (list list′ : List ℕ) (stated : ℕ) → SameNumbers list list′ → listCode job list stated ≡ listCode job list′ stated
   unfolding listCode listTotal isTiling
   same-code list list′ stated h =
-      ap₂ (λ b s. unless (b && isTriangulation job s) 21 (unless (eqb stated (totalWeight job s)) 22 0)) (names-same list list′ h) (same-named list list′ h)
+      ap₂ (λ b s. unless (both b (isTriangulation job s)) 21 (unless (eqb stated (totalWeight job s)) 22 0)) (names-same list list′ h) (same-named list list′ h)

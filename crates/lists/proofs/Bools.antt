@@ -1,6 +1,6 @@
--- Laws of `either` and `both`, and of a conjunction or a disjunction of which one test is known. Assumes nothing.
-use mathlib.Core.Path.{_≡_, refl, ap}
-use mathlib.Core.Bool.{Bool, true, false, _&&_, _||_}
+-- Laws of `either` and `both`; where the first test is known they are `yes` and `no` of Choice. Assumes nothing.
+use mathlib.Core.Path.{_≡_, refl}
+use mathlib.Core.Bool.{Bool, true, false}
 use Rattle.lists.specs.Lists.{both, either}
 
 pub either-assoc : (p q r : Bool) → either p (either q r) ≡ either (either p q) r
@@ -23,19 +23,3 @@ both-no false e = refl
 pub both-yes : (p : Bool) {q : Bool} → q ≡ true → both p q ≡ p
 both-yes true e = e
 both-yes false e = refl
-
-pub and-yes : {x : Bool} (y : Bool) → x ≡ true → (x && y) ≡ y
-and-yes y e = ap (λ b. b && y) e
-
-pub and-no : {x : Bool} (y : Bool) → x ≡ false → (x && y) ≡ false
-and-no y e = ap (λ b. b && y) e
-
-pub and-last : (x : Bool) {y : Bool} → y ≡ false → (x && y) ≡ false
-and-last true e = e
-and-last false e = refl
-
-pub or-yes : {x : Bool} (y : Bool) → x ≡ true → (x || y) ≡ true
-or-yes y e = ap (λ b. b || y) e
-
-pub or-no : {x : Bool} (y : Bool) → x ≡ false → (x || y) ≡ y
-or-no y e = ap (λ b. b || y) e

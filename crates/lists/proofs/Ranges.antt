@@ -1,5 +1,5 @@
 -- Lists and tests over a range of numbers, taken from the front, and what such a test says of each number. Assumes nothing.
-use mathlib.Core.Path.{_≡_, refl, sym, _∙_, ap}
+use mathlib.Core.Path.{_≡_, refl, sym, _∙_, ap, ap₂}
 use mathlib.Core.Bool.{Bool, true, false}
 use mathlib.Core.List.{List, [], _∷_, _++_, append-assoc, append-nil}
 use mathlib.Core.Logic.{⊎-elim}
@@ -107,6 +107,17 @@ every-at lo hi P e i l h = ap P (omega arith) ∙ every-from-at P lo (hi - lo) e
 
 pub every-all : (lo hi : ℕ) (P : ℕ → Bool) → ((i : ℕ) → lo ≤ i → i < hi → P i ≡ true) → every lo hi P ≡ true
 every-all lo hi P h = every-from-all P lo (hi - lo) (λ i l. h (lo + i) (omega arith) (omega arith))
+
+every-from-same : (P Q : ℕ → Bool) (lo k : ℕ) → ((i : ℕ) → i < k → P (lo + i) ≡ Q (lo + i)) → everyFrom P lo k ≡ everyFrom Q lo k
+unfolding everyFrom
+every-from-same P Q lo zero h = refl
+every-from-same P Q lo (suc k) h =
+    ap₂ both (ap P (omega arith) ∙ h 0 (omega arith) ∙ ap Q (omega arith))
+    (every-from-same P Q (suc lo) k (λ i l. ap P (omega arith) ∙ h (suc i) (omega arith) ∙ ap Q (omega arith)))
+
+-- two tests that agree on the range
+pub every-same : (lo hi : ℕ) (P Q : ℕ → Bool) → ((i : ℕ) → lo ≤ i → i < hi → P i ≡ Q i) → every lo hi P ≡ every lo hi Q
+every-same lo hi P Q h = every-from-same P Q lo (hi - lo) (λ i l. h (lo + i) (omega arith) (omega arith))
 
 -- ---- some
 some-up : (P : ℕ → Bool) (lo k m : ℕ) → k ≡ suc m → someFrom P lo k ≡ either (P lo) (someFrom P (lo + 1) m)

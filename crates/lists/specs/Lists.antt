@@ -26,9 +26,11 @@ over lo hi f = upFrom f lo (hi - lo)
 abbrev pub when : {A : Type 0} → Bool → A → List A
 when b x = cond b (x ∷ []) []
 
+-- one test and another
 abbrev pub both : Bool → Bool → Bool
 both a b = cond a b false
 
+-- one test or another
 abbrev pub either : Bool → Bool → Bool
 either a b = cond a true b
 
@@ -37,7 +39,7 @@ unfoldable pub everyFrom : (ℕ → Bool) → ℕ → ℕ → Bool
 everyFrom P lo zero = true
 everyFrom P lo (suc k) = both (P lo) (everyFrom P (suc lo) k)
 
--- P at each of lo, .. , hi - 1
+-- P at each of lo, .. , hi - 1; over the elements of a list it is `allOf`
 abbrev pub every : ℕ → ℕ → (ℕ → Bool) → Bool
 every lo hi P = everyFrom P lo (hi - lo)
 

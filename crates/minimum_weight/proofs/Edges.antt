@@ -1,7 +1,7 @@
 -- The best candidate on an edge, the first of equal ones, starts the least key beneath the edge.
 use Prim.Native.Nat.{ℕ, zero, suc, _+_, _≤_, _<_}
 use mathlib.Core.Path.{_≡_, refl, sym, ap, ap₂, _∙_}
-use mathlib.Core.Bool.{Bool, true, false, cond, _&&_, false≢true}
+use mathlib.Core.Bool.{Bool, true, false, cond, false≢true}
 use mathlib.Core.Logic.{_⊎_, inl, inr, ⊎-elim, _≢_}
 use mathlib.Core.List.{List, [], _∷_, map, List·Memᴰ, Memᴰ·map, cons≢nil, head-eq-of-cons-eq}
 use native.Mathlib.Omega.{arith}
@@ -9,6 +9,7 @@ use native.Mathlib.Nat.{eq-or-lt-of-le}
 use lib.ListN.{getD}
 use lib.Dec.{eqb, ltb}
 use borrow.Author.Tests.{eqb-true, eqb-false, ltb-true, ltb-false, lt-leb}
+use Rattle.lists.specs.Lists.{both}
 use Rattle.terms.specs.Limits.{maxWeight}
 use Rattle.lists.specs.Sums.{keep, numbersFrom}
 use Rattle.triangulation.specs.Triangulations.{Problem, ValidProblem, least, noLater, longEdge}
@@ -67,7 +68,7 @@ module _ (on : ℕ → Bool) (rk : ℕ → List ℕ) (r : ℕ → ℕ) where
     step k p q sh dk = go (on k) refl
       where
         test : (x y : Bool) → on k ≡ true → Shape k (rk k) → d k ≡ costOf (rk k) → ltb (d k) noTotal ≡ x → ltb (d k + r k) (p .cost) ≡ y
-            → Picked (suc k) (cond (x && y) (record { cost = d k + r k; at = k }) p)
+            → Picked (suc k) (cond (both x y) (record { cost = d k + r k; at = k }) p)
         test true y o (nil z) e f g = absurd (omega (arith, ltb-true (d k) noTotal f, ap costOf z))
         test false y o (nil z) e f g = skip k p q (λ t. z)
         test false y o (cons x l z b) e f g = absurd (omega (arith, ltb-false (d k) noTotal f, ap costOf z))

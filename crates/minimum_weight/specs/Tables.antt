@@ -2,12 +2,12 @@
 use Prim.Native.Nat.{ℕ, zero, suc, _+_, _-_, _≤_, _<_}
 use mathlib.Core.Path.{_≡_}
 use mathlib.Core.Logic.{_≢_, _⊎_}
-use mathlib.Core.Bool.{Bool, cond, _&&_}
+use mathlib.Core.Bool.{Bool, cond}
 use mathlib.Core.List.{List, [], _∷_}
 use lib.ListN.{getD, length, drop}
 use lib.Dec.{eqb, ltb, leb}
 use Rattle.minimum_weight.specs.declared.choice.Pick.{Pick}
-use Rattle.lists.specs.Lists.{over}
+use Rattle.lists.specs.Lists.{over, both}
 use Rattle.terms.specs.Limits.{maxTriples}
 use Rattle.terms.specs.Entries.{entryAt, vertexA, vertexB, vertexC}
 use Rattle.rows.specs.Search.{RowsAscend}
@@ -23,7 +23,7 @@ pub record Ascending (candidates : List (List ℕ)) : Type 0 where
 
 -- p, or candidate u where it is on the edge and its total with the row's weight is lower: d is its own total, w the row's weight
 unfoldable pub betterOf : Pick → ℕ → Bool → ℕ → ℕ → Pick
-betterOf p u on d w = cond (on && (ltb d noTotal && ltb (d + w) (p .cost))) (record { cost = d + w; at = u }) p
+betterOf p u on d w = cond (both on (both (ltb d noTotal) (ltb (d + w) (p .cost)))) (record { cost = d + w; at = u }) p
 
 -- the best of the first k candidates that are `on` the edge, the first of equal ones: d is a candidate's own total, w its row's weight
 abbrev pub pickBelow : (ℕ → Bool) → (ℕ → ℕ) → (ℕ → ℕ) → ℕ → Pick
@@ -32,7 +32,7 @@ pickBelow on d w (suc k) = betterOf (pickBelow on d w k) k (on k) (d k) (w k)
 
 -- (i, j) is candidate k's edge (a, c)
 abbrev pub onEdge : List (List ℕ) → ℕ → ℕ → ℕ → Bool
-onEdge candidates i j k = eqb (vertexA (entryAt candidates k)) i && eqb (vertexC (entryAt candidates k)) j
+onEdge candidates i j k = both (eqb (vertexA (entryAt candidates k)) i) (eqb (vertexC (entryAt candidates k)) j)
 
 -- the best candidate (i, x, j) under t
 unfoldable pub pickUnder : List (List ℕ) → List ℕ → List (List ℕ) → ℕ → ℕ → ℕ → Pick

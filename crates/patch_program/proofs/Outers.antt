@@ -1,21 +1,23 @@
 -- In a tiling a triangle hangs on one other at most, so the numbers on the lines add up to its total. Assumes nothing.
 use mathlib.Core.Path.{_≡_, refl, sym, ap, _∙_, subst}
-use mathlib.Core.Bool.{Bool, true, false, cond, _&&_, _||_}
+use mathlib.Core.Bool.{Bool, true, false, cond}
 use mathlib.Core.List.{List, [], _∷_, _++_, cons≢nil, head-eq-of-cons-eq, List·Memᴰ·head}
 use Prim.Native.Nat.{ℕ, zero, suc, _+_, _-_, _≤_, _<_}
 use native.Mathlib.Omega.{arith}
 use borrow.Author.Tests.{eqb-true, eq-eqb}
 use lib.Dec.{eqb}
 use lib.ListN.{getD}
-use Rattle.lists.proofs.Choice.{Truth, truth, holds, fails}
+use Rattle.lists.specs.Lists.{both, either}
+use Rattle.lists.proofs.Choice.{Truth, truth, holds, fails, both-right, both-true, either-right}
+use Rattle.lists.proofs.Ranges.{every-at}
 use Rattle.terms.specs.Entries.{entryAt, hangs}
 use Rattle.lists.specs.Sums.{only, sum, keep, joined}
 use Rattle.triangulation.specs.Triangulations.{Problem, ValidProblem, longEdge, shortEdge, countBetween, countOutside, isBoundary, edgeOk, isTriangulation, totalWeight, preorderFrom, preorder}
 use Rattle.triangulation.specs.Problems.{pairWeight, problemFrom}
 use Rattle.triangulation.specs.Demand3.{Triangulates}
 use Rattle.triangulation.proofs.Sums.{Mem, count, sum-ext, sum-add, sum-swap, sum-keep, keep-mem, keep-one, keep-none, mem-count}
-use Rattle.triangulation.proofs.SetParts.{and-right, and-true, both-eq, longEdge-is}
-use Rattle.triangulation.proofs.SetsToParts.{below-true, preorder-mem, preorder-sum}
+use Rattle.triangulation.proofs.SetParts.{both-eq, longEdge-is}
+use Rattle.triangulation.proofs.SetsToParts.{preorder-mem, preorder-sum}
 use Rattle.triangulation.proofs.Demand3.{members}
 use Rattle.validation.proofs.Hanging.{hangs-is}
 use Rattle.patch_program.specs.Lines.{rowUnder}
@@ -28,8 +30,8 @@ few-outside job false x y h e = by (truth (eqb (x + y) 0))
     by : Truth (eqb (x + y) 0) → y ≤ 1
     by (holds d) = omega (arith, eqb-true (x + y) 0 d)
     by (fails d) =
-        let both : (eqb x 1 && eqb y 1) ≡ true = sym (ap (λ (b : Bool). b || (eqb x 1 && eqb y 1)) d) ∙ e in
-        omega (arith, eqb-true y 1 (and-right (eqb x 1) (eqb y 1) both))
+        let one-each : both (eqb x 1) (eqb y 1) ≡ true = sym (ap (λ (b : Bool). either b (both (eqb x 1) (eqb y 1))) d) ∙ e in
+        omega (arith, eqb-true y 1 (both-right (eqb x 1) (eqb y 1) one-each))
 
 -- on a rim edge that has one none is
 none-outside : (job : Problem) (b : Bool) (x y : ℕ) → b ≡ true → 1 ≤ x → edgeOk job b x y ≡ true → y ≡ 0
@@ -100,7 +102,7 @@ module _ (n : ℕ) (candidates : List (List ℕ)) (weights : List ℕ) (rows : L
 
       edge : edgeOk job (isBoundary job (job .a t) (job .c t)) (countBetween job s (job .a t) (job .c t)) (countOutside job s (job .a t) (job .c t)) ≡ true
       unfolding isTriangulation
-      edge = below-true (job .c t) _ (below-true (job .n) _ (h .1) (job .c t) (good .cn t in-size)) (job .a t) (omega (arith, good .ab t in-size, good .bc t in-size))
+      edge = every-at 0 (job .c t) _ (every-at 0 (job .n) _ (h .1) (job .c t) (omega arith) (good .cn t in-size)) (job .a t) (omega arith) (omega (arith, good .ab t in-size, good .bc t in-size))
 
       few-in-set : countOutside job s (job .a t) (job .c t) ≤ 1
       few-in-set = few-outside job (isBoundary job (job .a t) (job .c t)) (countBetween job s (job .a t) (job .c t)) (countOutside job s (job .a t) (job .c t)) between edge
@@ -127,12 +129,8 @@ module _ (n : ℕ) (candidates : List (List ℕ)) (weights : List ℕ) (rows : L
     root-row t rest e =
         let m : Mem t s = in-set t (subst (Mem t) (sym e) (List·Memᴰ·head refl)) in
         let ends = both-eq (job .a t) 0 (job .c t) (job .n - 1) (root job s (job .n) 0 (job .n - 1) t rest e) in
-        let rim : isBoundary job (job .a t) (job .c t) ≡ true = or-right (eqb (job .c t) (job .a t + 1)) (and-true (eqb (job .a t) 0) (eqb (job .c t) (job .n - 1)) (eq-eqb (job .a t) 0 (ends .0)) (eq-eqb (job .c t) (job .n - 1) (ends .1))) in
+        let rim : isBoundary job (job .a t) (job .c t) ≡ true = either-right (eqb (job .c t) (job .a t + 1)) _ (both-true (eq-eqb (job .a t) 0 (ends .0)) (eq-eqb (job .c t) (job .n - 1) (ends .1))) in
         by-first t (preorder job s) ∙ ap (first t) (keep-none (on t) (preorder job s) (outers t m ∙ none-in-set t m rim))
-      where
-        or-right : (x : Bool) {y : Bool} → y ≡ true → (x || y) ≡ true
-        or-right true d = refl
-        or-right false d = d
 
     -- the weights of the triangles and their row weights add up to the total
     pub adds-up : sum (λ t. getD weights t 0 + rowUnder candidates rows (preorder job s) t) (preorder job s) ≡ totalWeight job s

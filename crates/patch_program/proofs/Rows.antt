@@ -1,6 +1,6 @@
 -- The rows that the one call leaves in a program's table are as many as are counted, and ascend. Assumes nothing.
 use mathlib.Core.Path.{_≡_, refl, sym, ap, _∙_, subst}
-use mathlib.Core.Bool.{Bool, true, false, cond, _&&_}
+use mathlib.Core.Bool.{Bool, true, false, cond}
 use mathlib.Core.List.{List, [], _∷_, _++_}
 use Prim.Native.Nat.{ℕ, zero, suc, _+_, _-_, _≤_, _<_}
 use native.Mathlib.Numerals.{add-one}
@@ -9,7 +9,7 @@ use borrow.Author.Tests.{eq-eqb, ne-eqb}
 use lib.Dec.{eqb}
 use lib.ListN.{length, take, drop, replicate, drop-of-length-le}
 use lib.Seq.{drop-cons, take-at}
-use Rattle.lists.specs.Lists.{filled}
+use Rattle.lists.specs.Lists.{filled, both}
 use Rattle.lists.proofs.Choice.{yes, no}
 use Rattle.terms.specs.Entries.{triple, entryAt, outer, inner, rowWeight}
 use Rattle.terms.specs.Numbers.{firstDue}
@@ -53,7 +53,7 @@ drop-zeros (suc k) (suc n) = let e : n - k ≡ suc n - suc k = omega arith in dr
 no-weight : (n o i : ℕ) → pairWeight (zeros n) o i ≡ 0
 unfolding zeros
 no-weight zero o i = refl
-no-weight (suc n) o i = same (eqb 0 o && eqb 0 i) (no-weight n o i)
+no-weight (suc n) o i = same (both (eqb 0 o) (eqb 0 i)) (no-weight n o i)
   where
     same : (b : Bool) {w : ℕ} → w ≡ 0 → cond b 0 w ≡ 0
     same true e = refl
@@ -61,7 +61,7 @@ no-weight (suc n) o i = same (eqb 0 o && eqb 0 i) (no-weight n o i)
 
 past-rows : (rows : List (List ℕ)) (n o i : ℕ) → pairWeight (rows ++ zeros n) o i ≡ pairWeight rows o i
 past-rows [] n o i = no-weight n o i
-past-rows (r ∷ rows) n o i = ap (λ (w : ℕ). cond (eqb (outer r) o && eqb (inner r) i) (rowWeight r) w) (past-rows rows n o i)
+past-rows (r ∷ rows) n o i = ap (λ (w : ℕ). cond (both (eqb (outer r) o) (eqb (inner r) i)) (rowWeight r) w) (past-rows rows n o i)
 
 -- rows in the first places of such a table weigh every pair alone
 pub alone : (rows table : List (List ℕ)) (n : ℕ) → table ≡ replicate n (triple 0 0 0) → (o i : ℕ) →

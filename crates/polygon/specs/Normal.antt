@@ -1,5 +1,5 @@
 -- Normals of the surface that adjoins the rim, edge by edge. Definitions only.
-use mathlib.Core.Bool.{Bool, _&&_, cond}
+use mathlib.Core.Bool.{Bool, cond}
 use mathlib.Core.List.{List}
 use Prim.Native.Nat.{ℕ}
 use lib.ListN.{getD}
@@ -32,7 +32,7 @@ pub record NormalInRange (n : Normal) : Type 0 where
   pub z : OnGrid (n .z)
 
 abbrev pub normalInRange : Normal → Bool
-normalInRange n = coordinateOnGrid (n .x) && (coordinateOnGrid (n .y) && coordinateOnGrid (n .z))
+normalInRange n = both (coordinateOnGrid (n .x)) (both (coordinateOnGrid (n .y)) (coordinateOnGrid (n .z)))
 
 -- the number due on a normal, 0 for none (rule 4.18)
 abbrev pub normalCode : Normal → ℕ

@@ -1,7 +1,7 @@
 -- Bisection over rows that ascend.
 use Prim.Native.Nat.{ℕ, zero, suc, _+_, _≤_, _<_}
 use mathlib.Core.Path.{_≡_, refl, sym, ap, _∙_}
-use mathlib.Core.Bool.{Bool, true, false, cond, _&&_, _||_}
+use mathlib.Core.Bool.{Bool, true, false, cond}
 use mathlib.Core.Logic.{_⊎_, inl, inr, ⊎-elim, _≢_}
 use mathlib.Core.List.{List, [], _∷_}
 use native.Mathlib.Omega.{arith}
@@ -10,41 +10,42 @@ use lib.ListN.{length, drop, getD, length-drop}
 use lib.Seq.{drop-cons, drop-length, getD-drop}
 use lib.Dec.{eqb, ltb}
 use borrow.Author.Tests.{eqb-true, eqb-false, eq-eqb, ltb-true, ltb-false, lt-ltb}
-use Rattle.terms.specs.Entries.{entryAt, outer, inner, rowWeight}
+use Rattle.lists.specs.Lists.{both, either}
+use Rattle.terms.specs.Entries.{entryAt, outer, inner, rowWeight, lexicographic}
 use Rattle.lists.proofs.Choice.{no, not-true-false, true-not-false}
 use Rattle.lists.proofs.Fronts.{front-count, front-of}
 use Rattle.triangulation.specs.Problems.{pairWeight}
 use Rattle.rows.specs.Search.{RowsAscend, rowIsBefore, rowOrZero, rowsBefore}
 
 -- (x, y) is before (o, i), or is not
-pub before-true : (x y o i : ℕ) → (ltb x o || eqb x o && ltb y i) ≡ true → (x < o) ⊎ ((x ≡ o) × (y < i))
+pub before-true : (x y o i : ℕ) → lexicographic x o (ltb y i) ≡ true → (x < o) ⊎ ((x ≡ o) × (y < i))
 before-true x y o i t = go (ltb x o) (eqb x o) refl refl t
   where
-    go : (p q : Bool) → ltb x o ≡ p → eqb x o ≡ q → (p || q && ltb y i) ≡ true → (x < o) ⊎ ((x ≡ o) × (y < i))
+    go : (p q : Bool) → ltb x o ≡ p → eqb x o ≡ q → either p (both q (ltb y i)) ≡ true → (x < o) ⊎ ((x ≡ o) × (y < i))
     go true q e f t = inl (ltb-true x o e)
     go false true e f t = inr (eqb-true x o f, ltb-true y i t)
     go false false e f t = absurd (true-not-false t refl)
 
-pub before-false : (x y o i : ℕ) → (ltb x o || eqb x o && ltb y i) ≡ false → (o < x) ⊎ ((x ≡ o) × (i ≤ y))
+pub before-false : (x y o i : ℕ) → lexicographic x o (ltb y i) ≡ false → (o < x) ⊎ ((x ≡ o) × (i ≤ y))
 before-false x y o i t = go (ltb x o) (eqb x o) refl refl t
   where
-    go : (p q : Bool) → ltb x o ≡ p → eqb x o ≡ q → (p || q && ltb y i) ≡ false → (o < x) ⊎ ((x ≡ o) × (i ≤ y))
+    go : (p q : Bool) → ltb x o ≡ p → eqb x o ≡ q → either p (both q (ltb y i)) ≡ false → (o < x) ⊎ ((x ≡ o) × (i ≤ y))
     go true q e f t = absurd (true-not-false refl t)
     go false true e f t = inr (eqb-true x o f, ltb-false y i t)
     go false false e f t = let h : o ≤ x = ltb-false x o e in let d : x ≢ o = eqb-false x o f in inl (omega arith)
 
-pub is-before : (x y o i : ℕ) → (x < o) ⊎ ((x ≡ o) × (y < i)) → (ltb x o || eqb x o && ltb y i) ≡ true
-is-before x y o i (inl h) = ap (λ b. b || eqb x o && ltb y i) (lt-ltb x o h)
+pub is-before : (x y o i : ℕ) → (x < o) ⊎ ((x ≡ o) × (y < i)) → lexicographic x o (ltb y i) ≡ true
+is-before x y o i (inl h) = ap (λ b. either b (both (eqb x o) (ltb y i))) (lt-ltb x o h)
 is-before x y o i (inr h) = go (ltb x o) (eq-eqb x o (h .0)) (lt-ltb y i (h .1))
   where
-    go : (p : Bool) {q r : Bool} → q ≡ true → r ≡ true → (p || q && r) ≡ true
+    go : (p : Bool) {q r : Bool} → q ≡ true → r ≡ true → either p (both q r) ≡ true
     go true e f = refl
     go false e f = rw (e, f)
 
-pub names-false : (x y o i : ℕ) → (x ≡ o → y ≡ i → ⊥) → (eqb x o && eqb y i) ≡ false
+pub names-false : (x y o i : ℕ) → (x ≡ o → y ≡ i → ⊥) → both (eqb x o) (eqb y i) ≡ false
 names-false x y o i h = go (eqb x o) (eqb y i) refl refl
   where
-    go : (p q : Bool) → eqb x o ≡ p → eqb y i ≡ q → (p && q) ≡ false
+    go : (p q : Bool) → eqb x o ≡ p → eqb y i ≡ q → both p q ≡ false
     go true true e f = absurd (h (eqb-true x o e) (eqb-true y i f))
     go true false e f = refl
     go false q e f = refl
@@ -58,13 +59,13 @@ pub record Cut (rows : List (List ℕ)) (o i low high : ℕ) : Type 0 where
 
 module _ (o i : ℕ) where
   -- rows that are not (o, i) are passed over
-  pub skip : (rows : List (List ℕ)) (low : ℕ) → ((k : ℕ) → k < low → (eqb (outer (entryAt rows k)) o && eqb (inner (entryAt rows k)) i) ≡ false)
+  pub skip : (rows : List (List ℕ)) (low : ℕ) → ((k : ℕ) → k < low → both (eqb (outer (entryAt rows k)) o) (eqb (inner (entryAt rows k)) i) ≡ false)
       → pairWeight rows o i ≡ pairWeight (drop low rows) o i
   skip rows zero h = refl
   skip [] (suc low) h = refl
   skip (r ∷ rows) (suc low) h = no _ _ (h 0 (omega arith)) ∙ skip rows low (λ k l. h (suc k) (omega arith))
 
-  pub none : (rows : List (List ℕ)) → ((k : ℕ) → k < length rows → (eqb (outer (entryAt rows k)) o && eqb (inner (entryAt rows k)) i) ≡ false) → pairWeight rows o i ≡ 0
+  pub none : (rows : List (List ℕ)) → ((k : ℕ) → k < length rows → both (eqb (outer (entryAt rows k)) o) (eqb (inner (entryAt rows k)) i) ≡ false) → pairWeight rows o i ≡ 0
   none rows h = skip rows (length rows) h ∙ ap (λ r. pairWeight r o i) (drop-length rows)
 
   module _ (rows : List (List ℕ)) where
@@ -105,7 +106,7 @@ module _ (o i : ℕ) where
         right = λ k m n. ⊎-elim (λ q. rw (← q) e) (λ q. not-true-false _ (λ t. true-not-false (before-trans middle k q n t) e)) (eq-or-lt-of-le m);
       }
 
-      before-names : (k : ℕ) → rowIsBefore (entryAt rows k) o i ≡ true → (eqb (outerAt k) o && eqb (innerAt k) i) ≡ false
+      before-names : (k : ℕ) → rowIsBefore (entryAt rows k) o i ≡ true → both (eqb (outerAt k) o) (eqb (innerAt k) i) ≡ false
       unfolding outerAt innerAt
       before-names k e = names-false (outerAt k) (innerAt k) o i (λ p q. ⊎-elim (λ h. omega arith) (λ h. omega arith) (before-true (outerAt k) (innerAt k) o i e))
 
@@ -114,9 +115,9 @@ module _ (o i : ℕ) where
       cut-end {low} {high} c h l = sym (
           skip rows low (λ k m. before-names k (c .left k m))
           ∙ ap (λ r. pairWeight r o i) (drop-cons rows low [] l)
-          ∙ ap (cond (eqb (outerAt low) o && eqb (innerAt low) i) (rowWeight (entryAt rows low))) (none (drop (suc low) rows) after))
+          ∙ ap (cond (both (eqb (outerAt low) o) (eqb (innerAt low) i)) (rowWeight (entryAt rows low))) (none (drop (suc low) rows) after))
         where
-          later : (k : ℕ) → low < k → k < length rows → (eqb (outerAt k) o && eqb (innerAt k) i) ≡ false
+          later : (k : ℕ) → low < k → k < length rows → both (eqb (outerAt k) o) (eqb (innerAt k) i) ≡ false
           later k a b = names-false (outerAt k) (innerAt k) o i (λ p q. go p q (before-true (outerAt low) (innerAt low) (outerAt k) (innerAt k) (sorted .up low k a b)) (before-false (outerAt low) (innerAt low) o i (c .right low h l)))
             where
               go : outerAt k ≡ o → innerAt k ≡ i → (outerAt low < outerAt k) ⊎ ((outerAt low ≡ outerAt k) × (innerAt low < innerAt k)) → (o < outerAt low) ⊎ ((outerAt low ≡ o) × (i ≤ innerAt low)) → ⊥
@@ -125,7 +126,7 @@ module _ (o i : ℕ) where
               go p q (inr u) (inl v) = omega arith
               go p q (inr u) (inr v) = omega arith
 
-          after : (k : ℕ) → k < length (drop (suc low) rows) → (eqb (getD (getD (drop (suc low) rows) k []) 0 0) o && eqb (getD (getD (drop (suc low) rows) k []) 1 0) i) ≡ false
+          after : (k : ℕ) → k < length (drop (suc low) rows) → both (eqb (getD (getD (drop (suc low) rows) k []) 0 0) o) (eqb (getD (getD (drop (suc low) rows) k []) 1 0) i) ≡ false
           after k m = rw (getD-drop (suc low) rows k []) (later (suc low + k) (omega arith) (omega (arith, length-drop (suc low) rows)))
 
       -- where the two ends meet, as many rows are before (o, i)

@@ -1,13 +1,14 @@
 -- The rows of one outer are a run of the rows.
 use Prim.Native.Nat.{ℕ, zero, suc, _+_, _-_, _≤_, _<_}
 use mathlib.Core.Path.{_≡_, refl, sym, ap, _∙_}
-use mathlib.Core.Bool.{true, false, cond, _&&_}
+use mathlib.Core.Bool.{true, false, cond}
 use mathlib.Core.Logic.{_⊎_, inl, ⊎-elim}
 use mathlib.Core.List.{List, [], _∷_}
 use native.Mathlib.Omega.{arith}
 use lib.ListN.{length, take, drop, getD, length-drop}
 use lib.Seq.{getD-take, getD-drop, length-take-le}
 use lib.Dec.{eqb}
+use Rattle.lists.specs.Lists.{both}
 use Rattle.lists.proofs.Choice.{true-not-false}
 use Rattle.terms.specs.Entries.{entryAt, outer, inner, rowWeight}
 use Rattle.triangulation.specs.Problems.{pairWeight}
@@ -15,11 +16,11 @@ use Rattle.rows.specs.Search.{RowsAscend, Run, rowIsBefore, rowsBefore}
 use Rattle.rows.proofs.Bisection.{Cut, cut-of, before-true, before-false, is-before, names-false, skip, none}
 
 -- the rows of later outers do not matter
-front : (o i m : ℕ) (rows : List (List ℕ)) → ((k : ℕ) → m ≤ k → k < length rows → (eqb (outer (entryAt rows k)) o && eqb (inner (entryAt rows k)) i) ≡ false)
+front : (o i m : ℕ) (rows : List (List ℕ)) → ((k : ℕ) → m ≤ k → k < length rows → both (eqb (outer (entryAt rows k)) o) (eqb (inner (entryAt rows k)) i) ≡ false)
     → pairWeight (take m rows) o i ≡ pairWeight rows o i
 front o i zero rows h = sym (none o i rows (λ k l. h k (omega arith) l))
 front o i (suc m) [] h = refl
-front o i (suc m) (r ∷ rows) h = ap (cond (eqb (outer r) o && eqb (inner r) i) (rowWeight r)) (front o i m rows (λ k a b. h (suc k) (omega arith) (omega arith)))
+front o i (suc m) (r ∷ rows) h = ap (cond (both (eqb (outer r) o) (eqb (inner r) i)) (rowWeight r)) (front o i m rows (λ k a b. h (suc k) (omega arith) (omega arith)))
 
 module _ (rows : List (List ℕ)) (t k : ℕ) where
   -- a row is before (t, 0) where its outer is below t
@@ -74,5 +75,5 @@ module _ {rows : List (List ℕ)} (t : ℕ) {first last : ℕ} (sorted : RowsAsc
     same = λ u. front t u (last - first) (drop first rows) (λ k h l. after u k h (omega (arith, length-drop first rows))) ∙ sym (skip t u rows first (λ k h. names-false _ _ t u (λ p q. let l = below rows t k (a .left k h) in omega arith)));
   }
     where
-      after : (u k : ℕ) → last - first ≤ k → k < length rows - first → (eqb (outer (entryAt (drop first rows) k)) t && eqb (inner (entryAt (drop first rows) k)) u) ≡ false
+      after : (u k : ℕ) → last - first ≤ k → k < length rows - first → both (eqb (outer (entryAt (drop first rows) k)) t) (eqb (inner (entryAt (drop first rows) k)) u) ≡ false
       after u k h l = rw (getD-drop first rows k []) (names-false _ _ t u (λ p q. let g = above rows (t + 1) (first + k) (b .right (first + k) (omega arith) (omega arith)) in omega arith))

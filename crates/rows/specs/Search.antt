@@ -1,21 +1,22 @@
 -- Rows that ascend by outer, then inner, and where a pair stands among them. What functions say to each other; nobody has to believe it.
 use Prim.Native.Nat.{ℕ, _<_}
 use mathlib.Core.Path.{_≡_}
-use mathlib.Core.Bool.{Bool, true, cond, _&&_, _||_}
+use mathlib.Core.Bool.{Bool, true, cond}
 use mathlib.Core.List.{List}
 use lib.ListN.{length}
 use lib.Dec.{eqb, ltb}
+use Rattle.lists.specs.Lists.{both}
 use Rattle.lists.specs.Counts.{howMany}
-use Rattle.terms.specs.Entries.{entryAt, outer, inner, rowWeight}
+use Rattle.terms.specs.Entries.{entryAt, outer, inner, rowWeight, lexicographic}
 use Rattle.triangulation.specs.Problems.{pairWeight}
 
--- a row is before (o, i)
+-- a row is before (o, i), as `rowBefore` has it of two rows
 abbrev pub rowIsBefore : List ℕ → ℕ → ℕ → Bool
-rowIsBefore r o i = ltb (outer r) o || eqb (outer r) o && ltb (inner r) i
+rowIsBefore r o i = lexicographic (outer r) o (ltb (inner r) i)
 
 -- a row's weight where it is the row (o, i), else 0
 abbrev pub rowOrZero : List ℕ → ℕ → ℕ → ℕ
-rowOrZero r o i = cond (eqb (outer r) o && eqb (inner r) i) (rowWeight r) 0
+rowOrZero r o i = cond (both (eqb (outer r) o) (eqb (inner r) i)) (rowWeight r) 0
 
 -- rows ascend by outer, then inner
 pub record RowsAscend (rows : List (List ℕ)) : Type 0 where

@@ -1,13 +1,14 @@
 -- The order on lists and the least of some lists.
 use Prim.Native.Nat.{ℕ, _+_, _≤_, _<_}
 use mathlib.Core.Path.{_≡_, refl, sym, ap, ap₂, _∙_}
-use mathlib.Core.Bool.{Bool, true, false, cond, _&&_, _||_, false≢true}
+use mathlib.Core.Bool.{Bool, true, false, cond, false≢true}
 use mathlib.Core.Logic.{_⊎_, inl, inr, _≢_}
 use mathlib.Core.List.{List, [], _∷_, _++_, List·Memᴰ, List·Memᴰ·head, List·Memᴰ·tail, List·Memᴰ·not-nil, List·Memᴰ·cases-cons}
 use native.Mathlib.Omega.{arith}
 use lib.ListN.{length}
 use lib.Dec.{eqb, ltb}
 use borrow.Author.Tests.{eqb-true, eqb-false, eq-eqb, ltb-true, ltb-false, lt-ltb}
+use Rattle.lists.specs.Lists.{both, either}
 use Rattle.triangulation.specs.Triangulations.{noLater, least}
 
 -- what the test says of two lists that are not empty
@@ -18,18 +19,18 @@ pub data NoLater (x y : ℕ) (xs ys : List ℕ) : Type 0 where
 pub noLater-cases : (x y : ℕ) (xs ys : List ℕ) → noLater (x ∷ xs) (y ∷ ys) ≡ true → NoLater x y xs ys
 noLater-cases x y xs ys t = go (ltb x y) (eqb x y) refl refl t
   where
-    go : (b d : Bool) → ltb x y ≡ b → eqb x y ≡ d → (b || d && noLater xs ys) ≡ true → NoLater x y xs ys
+    go : (b d : Bool) → ltb x y ≡ b → eqb x y ≡ d → either b (both d (noLater xs ys)) ≡ true → NoLater x y xs ys
     go true d e f t = less (ltb-true x y e)
     go false true e f t = same (eqb-true x y f) t
     go false false e f t = absurd (false≢true t)
 
 pub noLater-less : (x y : ℕ) (xs ys : List ℕ) → x < y → noLater (x ∷ xs) (y ∷ ys) ≡ true
-noLater-less x y xs ys h = ap (λ b. b || eqb x y && noLater xs ys) (lt-ltb x y h)
+noLater-less x y xs ys h = ap (λ b. either b (both (eqb x y) (noLater xs ys))) (lt-ltb x y h)
 
 pub noLater-same : (x y : ℕ) (xs ys : List ℕ) → x ≡ y → noLater xs ys ≡ true → noLater (x ∷ xs) (y ∷ ys) ≡ true
 noLater-same x y xs ys e h = go (ltb x y) (eqb x y) (noLater xs ys) (eq-eqb x y e) h
   where
-    go : (b d f : Bool) → d ≡ true → f ≡ true → (b || d && f) ≡ true
+    go : (b d f : Bool) → d ≡ true → f ≡ true → either b (both d f) ≡ true
     go true d f p q = refl
     go false d f p q = rw (p, q)
 
@@ -67,7 +68,7 @@ noLater-total xs [] p = absurd (false≢true (sym p))
 noLater-total [] (y ∷ ys) p = refl
 noLater-total (x ∷ xs) (y ∷ ys) p = go (ltb x y) (eqb x y) refl refl p (λ h. noLater-total xs ys h)
   where
-    go : (b d : Bool) → ltb x y ≡ b → eqb x y ≡ d → (b || d && noLater xs ys) ≡ false → (noLater xs ys ≡ false → noLater ys xs ≡ true) → noLater (y ∷ ys) (x ∷ xs) ≡ true
+    go : (b d : Bool) → ltb x y ≡ b → eqb x y ≡ d → either b (both d (noLater xs ys)) ≡ false → (noLater xs ys ≡ false → noLater ys xs ≡ true) → noLater (y ∷ ys) (x ∷ xs) ≡ true
     go true d e f t ih = absurd (false≢true (sym t))
     go false true e f t ih = noLater-same y x ys xs (sym (eqb-true x y f)) (ih t)
     go false false e f t ih = noLater-less y x ys xs (let h : y ≤ x = ltb-false x y e in let k : x ≢ y = eqb-false x y f in omega arith)

@@ -1,20 +1,21 @@
 -- Triangulations by recursion, in preorder, and their edge counts.
 use Prim.Native.Nat.{ℕ, _+_, _-_, _≤_, _<_, min}
 use mathlib.Core.Path.{_≡_, refl, ap, ap₂}
-use mathlib.Core.Bool.{Bool, true, false, _&&_, _||_}
+use mathlib.Core.Bool.{Bool, true, false}
 use mathlib.Core.Logic.{_⊎_, inl, inr, ⊎-elim, _≢_}
 use mathlib.Core.List.{List, [], _∷_, _++_}
 use native.Mathlib.Omega.{arith}
 use lib.ListN.{length, length-append}
 use lib.Dec.{eqb}
 use borrow.Author.Tests.{eqb-true, eqb-false}
+use Rattle.lists.specs.Lists.{both, either}
 use Rattle.lists.specs.Sums.{only}
 use Rattle.triangulation.specs.Triangulations.{Problem, ValidProblem, longEdge, shortEdge, countBetween, countOutside}
 use Rattle.triangulation.proofs.Sums.{sum-append}
 
 -- 1 where (i, j) is the edge (p, q)
 abbrev pub isEdge : ℕ → ℕ → ℕ → ℕ → ℕ
-isEdge i j p q = only (eqb i p && eqb j q) 1
+isEdge i j p q = only (both (eqb i p) (eqb j q)) 1
 
 pub data IsEdge (i j p q : ℕ) : Type 0 where
   hit : i ≡ p → j ≡ q → isEdge i j p q ≡ 1 → IsEdge i j p q
@@ -69,10 +70,10 @@ step-is i j p q e = go (isEdge-cases i j p q) (isStep-cases i j p q)
     go (miss₂ h t) (hit r s) = omega arith
     go (miss₂ h t) (miss r s) = omega arith
 
-shortEdge-split : (a b c p q : ℕ) → a < b → only (eqb a p && eqb b q || eqb b p && eqb c q) 1 ≡ isEdge a b p q + isEdge b c p q
+shortEdge-split : (a b c p q : ℕ) → a < b → only (either (both (eqb a p) (eqb b q)) (both (eqb b p) (eqb c q))) 1 ≡ isEdge a b p q + isEdge b c p q
 shortEdge-split a b c p q h = go (eqb a p) (eqb b p) (eqb b q) (eqb c q) refl refl
   where
-    go : (x y z w : Bool) → eqb a p ≡ x → eqb b p ≡ y → only (x && z || y && w) 1 ≡ only (x && z) 1 + only (y && w) 1
+    go : (x y z w : Bool) → eqb a p ≡ x → eqb b p ≡ y → only (either (both x z) (both y w)) 1 ≡ only (both x z) 1 + only (both y w) 1
     go true true z w e f = absurd (omega (arith, eqb-true a p e, eqb-true b p f))
     go true false true w e f = refl
     go true false false w e f = refl

@@ -1,22 +1,21 @@
 -- Every part from 0 to n − 1 is a triangulation, as a set.
 use Prim.Native.Nat.{ℕ, zero, suc, _+_, _-_, _≤_, _<_, min}
 use mathlib.Core.Path.{_≡_, refl, sym, ap, ap₂, _∙_}
-use mathlib.Core.Bool.{Bool, true, false, cond, _&&_, _||_, false≢true}
+use mathlib.Core.Bool.{Bool, true, false, cond, false≢true}
 use mathlib.Core.Logic.{_⊎_, inl, inr, ⊎-elim, _≢_}
 use mathlib.Core.List.{List, [], _∷_, List·Memᴰ·head, List·Memᴰ·tail, List·Memᴰ·not-nil, List·Memᴰ·cases-cons, List·Memᴰ·append-cases}
 use native.Mathlib.Omega.{arith}
 use native.Mathlib.Nat.{le-antisymm}
 use lib.Dec.{eqb, leb}
 use borrow.Author.Tests.{eqb-true, eqb-false, eq-eqb, ne-eqb, leb-true, le-leb}
-use Rattle.lists.specs.Sums.{only, sum, keep, numbersFrom, allBelow}
+use Rattle.lists.proofs.Bools.{both-no}
+use Rattle.lists.proofs.Choice.{no, both-true, either-left, either-right}
+use Rattle.lists.proofs.Ranges.{every-all}
+use Rattle.lists.specs.Sums.{only, sum, keep, numbersFrom}
 use Rattle.triangulation.specs.Triangulations.{Problem, ValidProblem, longEdge, shortEdge, countBetween, countOutside, totalWeight, preorderFrom, isBoundary, edgeOk, isTriangulation}
 use Rattle.triangulation.proofs.Sums.{Mem, count, sum-same, count-mono, mem-count, mem-keep, keep-mem}
 use Rattle.triangulation.proofs.Parts.{Part, edge, node, boundary, within, Within, between-le, isEdge, isStep, IsEdge, IsStep, isEdge-cases, isStep-cases}
-use Rattle.triangulation.proofs.SetParts.{Set, longEdge-is, share, part-total, part-list, and-true}
-
-pub true-below : (k : ℕ) (p : ℕ → Bool) → ((i : ℕ) → i < k → p i ≡ true) → allBelow k p ≡ true
-true-below zero p h = refl
-true-below (suc k) p h = and-true _ _ (true-below k p (λ i l. h i (omega arith))) (h k (omega arith))
+use Rattle.triangulation.proofs.SetParts.{Set, longEdge-is, share, part-total, part-list}
 
 pub mem-upFrom : (i c k : ℕ) → i ≤ k → k < i + c → Mem k (numbersFrom i c)
 mem-upFrom i zero k h l = absurd (omega arith)
@@ -108,31 +107,14 @@ module _ (job : Problem) (good : ValidProblem job) where
     edge-ok : (i j : ℕ) → i < j → j < job .n → edgeOk job (isBoundary job i j) (countBetween job l i j) (countOutside job l i j) ≡ true
     edge-ok i j h k = go (isStep-cases 0 (job .n - 1) i j) (isEdge-cases 0 (job .n - 1) i j) (within job good w i j) (boundary job good w i j)
       where
-        or-true : (x y : Bool) → y ≡ true → (x || y) ≡ true
-        or-true true y e = refl
-        or-true false y e = e
-
-        or-false : (x y : Bool) → x ≡ false → y ≡ false → (x || y) ≡ false
-        or-false x y e f = rw (e, f)
-
-        and-false₁ : (x y : Bool) → x ≡ false → (x && y) ≡ false
-        and-false₁ x y e = rw e
-
-        and-false₂ : (x y : Bool) → y ≡ false → (x && y) ≡ false
-        and-false₂ true y e = e
-        and-false₂ false y e = refl
-
         on-rim : isBoundary job i j ≡ true → countBetween job l i j + countOutside job l i j ≡ 1 → edgeOk job (isBoundary job i j) (countBetween job l i j) (countOutside job l i j) ≡ true
         on-rim r e = rw (r, e)
 
         none : isBoundary job i j ≡ false → countBetween job l i j ≡ 0 → countOutside job l i j ≡ 0 → edgeOk job (isBoundary job i j) (countBetween job l i j) (countOutside job l i j) ≡ true
         none r e f = rw (r, e, f)
 
-        both : isBoundary job i j ≡ false → countBetween job l i j ≡ 1 → countOutside job l i j ≡ 1 → edgeOk job (isBoundary job i j) (countBetween job l i j) (countOutside job l i j) ≡ true
-        both r e f = rw (r, e, f)
-
-        or-left : (x y : Bool) → x ≡ true → (x || y) ≡ true
-        or-left x y e = rw e
+        two-sided : isBoundary job i j ≡ false → countBetween job l i j ≡ 1 → countOutside job l i j ≡ 1 → edgeOk job (isBoundary job i j) (countBetween job l i j) (countOutside job l i j) ≡ true
+        two-sided r e f = rw (r, e, f)
 
         step : j ≡ i + 1 → isStep 0 (job .n - 1) i j ≡ min 1 (i + 1 - 0) - min 1 (i + 1 - (job .n - 1)) → isEdge 0 (job .n - 1) i j ≡ 0 → Within 0 (job .n - 1) i j (countBetween job l i j)
             → countOutside job l i j + isEdge 0 (job .n - 1) i j ≡ countBetween job l i j + isStep 0 (job .n - 1) i j → countBetween job l i j + countOutside job l i j ≡ 1
@@ -142,19 +124,19 @@ module _ (job : Problem) (good : ValidProblem job) where
         inner : isBoundary job i j ≡ false → isStep 0 (job .n - 1) i j ≡ 0 → isEdge 0 (job .n - 1) i j ≡ 0 → Within 0 (job .n - 1) i j (countBetween job l i j)
             → countOutside job l i j + isEdge 0 (job .n - 1) i j ≡ countBetween job l i j + isStep 0 (job .n - 1) i j → edgeOk job (isBoundary job i j) (countBetween job l i j) (countOutside job l i j) ≡ true
         inner f r t (inl z) b = none f z (omega arith)
-        inner f r t (inr z) b = both f (z .0) (omega arith)
+        inner f r t (inr z) b = two-sided f (z .0) (omega arith)
 
         go : IsStep 0 (job .n - 1) i j → IsEdge 0 (job .n - 1) i j → Within 0 (job .n - 1) i j (countBetween job l i j)
             → countOutside job l i j + isEdge 0 (job .n - 1) i j ≡ countBetween job l i j + isStep 0 (job .n - 1) i j → edgeOk job (isBoundary job i j) (countBetween job l i j) (countOutside job l i j) ≡ true
         go (IsStep.hit e r) (IsEdge.hit d c t) v b = absurd (omega (arith, good .n3))
-        go (IsStep.hit e r) (IsEdge.miss₁ d t) v b = on-rim (or-left (eqb j (i + 1)) (eqb i 0 && eqb j (job .n - 1)) (eq-eqb j (i + 1) e)) (step e r t v b)
-        go (IsStep.hit e r) (IsEdge.miss₂ d t) v b = on-rim (or-left (eqb j (i + 1)) (eqb i 0 && eqb j (job .n - 1)) (eq-eqb j (i + 1) e)) (step e r t v b)
+        go (IsStep.hit e r) (IsEdge.miss₁ d t) v b = on-rim (either-left _ _ (eq-eqb j (i + 1) e)) (step e r t v b)
+        go (IsStep.hit e r) (IsEdge.miss₂ d t) v b = on-rim (either-left _ _ (eq-eqb j (i + 1) e)) (step e r t v b)
         go (IsStep.miss e r) (IsEdge.hit d c t) (inl z) b = absurd (omega arith)
-        go (IsStep.miss e r) (IsEdge.hit d c t) (inr z) b = on-rim (or-true (eqb j (i + 1)) (eqb i 0 && eqb j (job .n - 1)) (and-true (eqb i 0) (eqb j (job .n - 1)) (eq-eqb i 0 (sym d)) (eq-eqb j (job .n - 1) (sym c)))) (omega arith)
-        go (IsStep.miss e r) (IsEdge.miss₁ d t) v b = inner (or-false (eqb j (i + 1)) (eqb i 0 && eqb j (job .n - 1)) (ne-eqb j (i + 1) e) (and-false₁ (eqb i 0) (eqb j (job .n - 1)) (ne-eqb i 0 (λ q. d (sym q))))) r t v b
-        go (IsStep.miss e r) (IsEdge.miss₂ d t) v b = inner (or-false (eqb j (i + 1)) (eqb i 0 && eqb j (job .n - 1)) (ne-eqb j (i + 1) e) (and-false₂ (eqb i 0) (eqb j (job .n - 1)) (ne-eqb j (job .n - 1) (λ q. d (sym q))))) r t v b
+        go (IsStep.miss e r) (IsEdge.hit d c t) (inr z) b = on-rim (either-right (eqb j (i + 1)) _ (both-true (eq-eqb i 0 (sym d)) (eq-eqb j (job .n - 1) (sym c)))) (omega arith)
+        go (IsStep.miss e r) (IsEdge.miss₁ d t) v b = inner (no _ _ (ne-eqb j (i + 1) e) ∙ no _ _ (ne-eqb i 0 (λ q. d (sym q)))) r t v b
+        go (IsStep.miss e r) (IsEdge.miss₂ d t) v b = inner (no _ _ (ne-eqb j (i + 1) e) ∙ both-no (eqb i 0) (ne-eqb j (job .n - 1) (λ q. d (sym q)))) r t v b
 
     pub chosen-triangulation : isTriangulation job chosen ≡ true
     unfolding isTriangulation countBetween countOutside
-    chosen-triangulation = true-below (job .n) _ (λ j k. true-below j _ (λ i h.
+    chosen-triangulation = every-all 0 (job .n) _ (λ j _ k. every-all 0 j _ (λ i _ h.
         ap₂ (λ x y. edgeOk job (isBoundary job i j) x y) (same-sum (λ k. only (longEdge job i j k) 1)) (same-sum (λ k. only (shortEdge job i j k) 1)) ∙ edge-ok i j h k))

@@ -1,69 +1,56 @@
 -- Every triangulation, as a set, is a part from 0 to n − 1.
 use Prim.Native.Nat.{ℕ, zero, suc, _+_, _-_, _≤_, _<_}
 use mathlib.Core.Path.{_≡_, refl, sym, ap, ap₂, _∙_}
-use mathlib.Core.Bool.{Bool, true, false, _&&_, _||_, false≢true}
-use mathlib.Core.Logic.{_⊎_, inl, inr, ⊎-elim, _≢_}
+use mathlib.Core.Bool.{Bool, true, false, false≢true}
+use mathlib.Core.Logic.{_⊎_, inl, inr, ⊎-elim}
 use mathlib.Core.List.{List, _∷_, _++_, append-nil, List·Memᴰ·not-nil, List·Memᴰ·cases-cons, List·Memᴰ·append-cases, head-eq-of-cons-eq}
 use native.Mathlib.Omega.{arith}
 use native.Mathlib.Nat.{le-antisymm}
 use lib.Dec.{eqb}
-use borrow.Author.Tests.{eqb-true, eqb-false, eq-eqb}
-use Rattle.lists.specs.Sums.{sum, keep, joined, allBelow}
+use borrow.Author.Tests.{eqb-true, eq-eqb}
+use Rattle.lists.specs.Lists.{both, either}
+use Rattle.lists.proofs.Choice.{both-true, either-right, either-cases}
+use Rattle.lists.proofs.Ranges.{every-at}
+use Rattle.lists.specs.Sums.{sum, keep, joined}
 use Rattle.triangulation.specs.Triangulations.{Problem, ValidProblem, longEdge, shortEdge, countBetween, countOutside, totalWeight, preorderFrom, preorder, isBoundary, edgeOk, isTriangulation}
 use Rattle.triangulation.proofs.Sums.{Mem, count, sum-same, count-mono, mem-count, Any, any, none, some, One, one, the-one}
 use Rattle.triangulation.proofs.Parts.{Part, edge, node, boundary, between-le, isStep, IsEdge, IsStep, isEdge-cases, isStep-cases}
 use Rattle.triangulation.proofs.Parts as W
-use Rattle.triangulation.proofs.SetParts.{and-left, and-right, and-true, both-eq, Set, longEdge-is, none-on-step, one-on-edge, share, part-total}
-
-pub below-true : (k : ℕ) (p : ℕ → Bool) → allBelow k p ≡ true → (i : ℕ) → i < k → p i ≡ true
-below-true zero p h i l = absurd (omega arith)
-below-true (suc k) p h i l = go (eqb i k) refl (λ d. below-true k p (and-left (allBelow k p) (p k) h) i d)
-  where
-    go : (b : Bool) → eqb i k ≡ b → (i < k → p i ≡ true) → p i ≡ true
-    go true e ih = ap p (eqb-true i k e) ∙ and-right (allBelow k p) (p k) h
-    go false e ih = ih (let d : i ≢ k = eqb-false i k e in omega arith)
-
-pub or-cases : (x y : Bool) → (x || y) ≡ true → (x ≡ true) ⊎ (y ≡ true)
-or-cases true y e = inl refl
-or-cases false y e = inr e
+use Rattle.triangulation.proofs.SetParts.{both-eq, Set, longEdge-is, none-on-step, one-on-edge, share, part-total}
 
 module _ (job : Problem) where
   pub shortEdge-cases : (i j u : ℕ) → shortEdge job i j u ≡ true → ((job .a u ≡ i) × (job .b u ≡ j)) ⊎ ((job .b u ≡ i) × (job .c u ≡ j))
-  shortEdge-cases i j u t = ⊎-elim (λ e. inl (both-eq (job .a u) i (job .b u) j e)) (λ e. inr (both-eq (job .b u) i (job .c u) j e)) (or-cases _ _ t)
+  shortEdge-cases i j u t = ⊎-elim (λ e. inl (both-eq (job .a u) i (job .b u) j e)) (λ e. inr (both-eq (job .b u) i (job .c u) j e)) (either-cases _ _ t)
 
   -- what the test of an edge says
   pub data Edge (i j x y : ℕ) : Type 0 where
     step : j ≡ i + 1 → x + y ≡ 1 → Edge i j x y
     top : i ≡ 0 → j ≡ job .n - 1 → x + y ≡ 1 → Edge i j x y
     unused : isBoundary job i j ≡ false → x ≡ 0 → y ≡ 0 → Edge i j x y
-    both : isBoundary job i j ≡ false → x ≡ 1 → y ≡ 1 → Edge i j x y
+    two-sided : isBoundary job i j ≡ false → x ≡ 1 → y ≡ 1 → Edge i j x y
 
   edge-of : (i j x y : ℕ) → edgeOk job (isBoundary job i j) x y ≡ true → Edge i j x y
   edge-of i j x y t = go (isBoundary job i j) refl t
     where
-      rim-case : x + y ≡ 1 → (eqb j (i + 1) ≡ true) ⊎ ((eqb i 0 && eqb j (job .n - 1)) ≡ true) → Edge i j x y
+      rim-case : x + y ≡ 1 → (eqb j (i + 1) ≡ true) ⊎ (both (eqb i 0) (eqb j (job .n - 1)) ≡ true) → Edge i j x y
       rim-case h (inl e) = step (eqb-true j (i + 1) e) h
       rim-case h (inr e) = let d = both-eq i 0 j (job .n - 1) e in top (d .0) (d .1) h
 
-      else-case : isBoundary job i j ≡ false → (eqb (x + y) 0 ≡ true) ⊎ ((eqb x 1 && eqb y 1) ≡ true) → Edge i j x y
+      else-case : isBoundary job i j ≡ false → (eqb (x + y) 0 ≡ true) ⊎ (both (eqb x 1) (eqb y 1) ≡ true) → Edge i j x y
       else-case r (inl e) = let z : x + y ≡ 0 = eqb-true (x + y) 0 e in unused r (omega arith) (omega arith)
-      else-case r (inr e) = let d = both-eq x 1 y 1 e in both r (d .0) (d .1)
+      else-case r (inr e) = let d = both-eq x 1 y 1 e in two-sided r (d .0) (d .1)
 
       go : (b : Bool) → isBoundary job i j ≡ b → edgeOk job b x y ≡ true → Edge i j x y
-      go true r t = rim-case (eqb-true (x + y) 1 t) (or-cases _ _ r)
-      go false r t = else-case r (or-cases _ _ t)
+      go true r t = rim-case (eqb-true (x + y) 1 t) (either-cases _ _ r)
+      go false r t = else-case r (either-cases _ _ t)
 
   rim-top : isBoundary job 0 (job .n - 1) ≡ true
-  rim-top = go (eqb (job .n - 1) (0 + 1)) (eqb (job .n - 1) (job .n - 1)) (eq-eqb (job .n - 1) (job .n - 1) refl)
-    where
-      go : (x y : Bool) → y ≡ true → (x || y) ≡ true
-      go true y e = refl
-      go false y e = e
+  rim-top = either-right (eqb (job .n - 1) (0 + 1)) (eqb (job .n - 1) (job .n - 1)) (eq-eqb (job .n - 1) (job .n - 1) refl)
 
   module _ (good : ValidProblem job) (s : List ℕ) (valid : (k : ℕ) → Mem k s → k < job .size) (isTriangulated : isTriangulation job s ≡ true) where
     pub at : (i j : ℕ) → i < j → j < job .n → Edge i j (countBetween job s i j) (countOutside job s i j)
     unfolding isTriangulation
-    at i j h k = edge-of i j _ _ (below-true j _ (below-true (job .n) _ isTriangulated j k) i h)
+    at i j h k = edge-of i j _ _ (every-at 0 j _ (every-at 0 (job .n) _ isTriangulated j (omega arith) k) i (omega arith) h)
 
     pub triangulation-set : Set job good s
     unfolding countBetween
@@ -73,7 +60,7 @@ module _ (job : Problem) where
         ok i j (step e h) = omega arith
         ok i j (top e f h) = omega arith
         ok i j (unused r x y) = omega arith
-        ok i j (both r x y) = omega arith
+        ok i j (two-sided r x y) = omega arith
 
         go : (i j : ℕ) → Any (longEdge job i j) s → countBetween job s i j ≤ 1
         go i j (none e) = omega arith
@@ -99,7 +86,7 @@ module _ (job : Problem) where
         next c f (step e z) = inl e
         next c f (top e d z) = absurd (f e d)
         next c f (unused r x y) = absurd (omega arith)
-        next c f (both r x y) = inr x
+        next c f (two-sided r x y) = inr x
 
         go : ((job .a p ≡ i) × (job .b p ≡ j)) ⊎ ((job .b p ≡ i) × (job .c p ≡ j)) → Short i j
         go (inl d) = let l : i < j = omega (arith, good .ab p h) in let n : j + 1 < job .n = omega (arith, good .bc p h, good .cn p h) in
@@ -116,7 +103,7 @@ module _ (job : Problem) where
         go (top e d z) (none c) = omega arith
         go (top e d z) (some u m t) = absurd (⊎-elim (λ d. omega (arith, good .bc u (valid u m), good .cn u (valid u m))) (λ d. omega (arith, good .ab u (valid u m))) (shortEdge-cases 0 (job .n - 1) u t))
         go (unused r x y) a = absurd (false≢true (sym r ∙ rim-top))
-        go (both r x y) a = x
+        go (two-sided r x y) a = x
 
     -- the part from i to j
     pub record Built (i j : ℕ) (l : List ℕ) : Type 0 where
@@ -138,8 +125,8 @@ module _ (job : Problem) where
             let ab = good .ab u h in
             let bc = good .bc u h in
             let x = job .b u in
-            let sl : Short i x = short u i x m (ap₂ (λ y z. y && z || eqb x i && eqb (job .c u) x) (eq-eqb (job .a u) i (d .0)) (eq-eqb x x refl)) in
-            let sr : Short x j = short u x j m (right (eqb (job .a u) x && eqb x j) _ (and-true _ _ (eq-eqb x x refl) (eq-eqb (job .c u) j (d .1)))) in
+            let sl : Short i x = short u i x m (ap₂ (λ y z. either (both y z) (both (eqb x i) (eqb (job .c u) x))) (eq-eqb (job .a u) i (d .0)) (eq-eqb x x refl)) in
+            let sr : Short x j = short u x j m (either-right (both (eqb (job .a u) x) (eqb x j)) _ (both-true (eq-eqb x x refl) (eq-eqb (job .c u) j (d .1)))) in
             let bl : Built i x (preorderFrom job f s i x) = ih i x (sl .lt) (omega arith) (sl .next) in
             let br : Built x j (preorderFrom job f s x j) = ih x j (sr .lt) (omega arith) (sr .next) in
             rw (q, append-nil (u ∷ (preorderFrom job f s i x ++ preorderFrom job f s x j)))
@@ -149,10 +136,6 @@ module _ (job : Problem) where
               sub = λ k r. ⊎-elim (λ e. subst⁻ e m) (λ r. ⊎-elim (bl .sub k) (br .sub k) (List·Memᴰ·append-cases (preorderFrom job f s i x) r)) (List·Memᴰ·cases-cons r);
             })
           where
-            right : (x y : Bool) → y ≡ true → (x || y) ≡ true
-            right true y e = refl
-            right false y e = e
-
             subst⁻ : {k u : ℕ} → k ≡ u → Mem u s → Mem k s
             subst⁻ e m = rw e m
 
@@ -181,7 +164,7 @@ module _ (job : Problem) where
         go (step e z) = absurd (omega (arith, good .ab k h, good .bc k h))
         go (top e f z) = inl (e, f)
         go (unused r x y) = absurd (omega (arith, i))
-        go (both r x y) = inr (omega arith)
+        go (two-sided r x y) = inr (omega arith)
 
     module _ (l : List ℕ) (x : ℕ) (w : Part job 0 (job .n - 1) l x) (sub : (k : ℕ) → Mem k l → Mem k s) where
       -- a triangle of the set whose long edge has a triangle of the list under it is in the list

@@ -1,7 +1,7 @@
 -- A set of candidates is a tiling as rule 3.3 says it exactly when it passes the test: for every valid job. Assumes nothing.
 use Prim.Native.Nat.{ℕ, zero, suc, _+_, _-_, _≤_, _<_}
 use mathlib.Core.Path.{_≡_, refl, sym, ap, _∙_}
-use mathlib.Core.Bool.{Bool, true, false, _&&_, _||_, false≢true}
+use mathlib.Core.Bool.{Bool, true, false, false≢true}
 use mathlib.Core.Logic.{_⊎_, inl, inr, ⊎-elim}
 use mathlib.Core.List.{List, [], _∷_, map, List·Memᴰ, List·Memᴰ·head, List·Memᴰ·tail, List·Memᴰ·not-nil, List·Memᴰ·cases-cons, List·Memᴰ·eq-of-singleton, Memᴰ·append-left, Memᴰ·append-right}
 use native.Mathlib.Nat.{zero-add}
@@ -9,16 +9,19 @@ use native.Mathlib.Omega.{arith}
 use lib.ListN.{length, getD}
 use lib.Dec.{eqb}
 use borrow.Author.Tests.{eqb-true, eqb-false, eq-eqb}
+use Rattle.lists.specs.Lists.{both}
+use Rattle.lists.proofs.Choice.{both-true, either-left, either-right, either-cases}
+use Rattle.lists.proofs.Ranges.{every-all}
 use Rattle.lists.proofs.Members.{Ascending, empty, more, ascending-at, member-entry}
 use Rattle.lists.specs.Sums.{numbersFrom}
 use Rattle.triangulation.specs.Triangulations.{Problem, ValidProblem, subsets, longEdge, shortEdge, countBetween, countOutside, isBoundary, edgeOk, isTriangulation}
 use Rattle.triangulation.specs.Demand3.{Triangulates}
 use Rattle.triangulation.specs.Tiling.{RimEdge, to-next, closing, ExactlyOne, of-ab, of-bc, of-ac, HasEdge, edge, Between, between, Outside, before, after, Inner, unused, in-two, Tiling}
 use Rattle.triangulation.proofs.Sums.{Mem, count, mem-keep, the-one, One, one, mem-count, Any, any, none, some}
-use Rattle.triangulation.proofs.SetParts.{and-true, both-eq}
-use Rattle.triangulation.proofs.SetsToParts.{or-cases, shortEdge-cases, Edge}
+use Rattle.triangulation.proofs.SetParts.{both-eq}
+use Rattle.triangulation.proofs.SetsToParts.{shortEdge-cases, Edge}
 use Rattle.triangulation.proofs.SetsToParts as sets
-use Rattle.triangulation.proofs.PartsToSets.{true-below, upFrom-mem}
+use Rattle.triangulation.proofs.PartsToSets.{upFrom-mem}
 use Rattle.triangulation.proofs.Least.{mem-map, subset-mem}
 use Rattle.triangulation.proofs.Demand3.{Split, with-it, without, split, members}
 
@@ -87,13 +90,6 @@ module _ (P : ℕ → Type 0) (p : ℕ → Bool) (s : List ℕ) (to : (k : ℕ) 
   one-counted : Ascends s → ExactlyOne P s → count p s ≡ 1
   one-counted a e = count-one p a (e .the) (e .member) (from (e .the) (e .member) (e .has)) (λ k m t. e .only k m (to k m t))
 
-or-left : (x y : Bool) → x ≡ true → (x || y) ≡ true
-or-left x y e = rw e
-
-or-right : (x y : Bool) → y ≡ true → (x || y) ≡ true
-or-right true y e = refl
-or-right false y e = e
-
 module _ (job : Problem) (good : ValidProblem job) where
   -- ---- an edge of a candidate as a test and as a fact
   module _ (i j k : ℕ) (below : k < job .size) where
@@ -109,13 +105,13 @@ module _ (job : Problem) (good : ValidProblem job) where
         (shortEdge-cases job i j k t)
 
     long : job .a k ≡ i → job .c k ≡ j → longEdge job i j k ≡ true
-    long e f = and-true _ _ (eq-eqb (job .a k) i e) (eq-eqb (job .c k) j f)
+    long e f = both-true (eq-eqb (job .a k) i e) (eq-eqb (job .c k) j f)
 
     short-ab : job .a k ≡ i → job .b k ≡ j → shortEdge job i j k ≡ true
-    short-ab e f = or-left _ _ (and-true _ _ (eq-eqb (job .a k) i e) (eq-eqb (job .b k) j f))
+    short-ab e f = either-left _ _ (both-true (eq-eqb (job .a k) i e) (eq-eqb (job .b k) j f))
 
     short-bc : job .b k ≡ i → job .c k ≡ j → shortEdge job i j k ≡ true
-    short-bc e f = or-right (eqb (job .a k) i && eqb (job .b k) j) _ (and-true _ _ (eq-eqb (job .b k) i e) (eq-eqb (job .c k) j f))
+    short-bc e f = either-right (both (eqb (job .a k) i) (eqb (job .b k) j)) _ (both-true (eq-eqb (job .b k) i e) (eq-eqb (job .c k) j f))
 
     from-between : Between job i j k → longEdge job i j k ≡ true
     from-between (between (of-ab e f g) l m) = absurd (omega (arith, good .bc k below))
@@ -195,19 +191,19 @@ module _ (job : Problem) (good : ValidProblem job) where
     inner-counted a (unused h) =
         let x = count-none (longEdge job i j) s (λ k m t. h k m (long-edge i j k (cs k m) t)) in
         let y = count-none (shortEdge job i j) s (λ k m t. h k m (short-edge i j k (cs k m) t)) in
-        or-left _ _ (eq-eqb (count (longEdge job i j) s + count (shortEdge job i j) s) 0 (omega arith))
+        either-left _ _ (eq-eqb (count (longEdge job i j) s + count (shortEdge job i j) s) 0 (omega arith))
     inner-counted a (in-two b o) =
         let x = one-counted (Between job i j) (longEdge job i j) s (λ k m. to-between i j k (cs k m)) (λ k m. from-between i j k (cs k m)) a b in
         let y = one-counted (Outside job i j) (shortEdge job i j) s (λ k m. to-outside i j k (cs k m)) (λ k m. from-outside i j k (cs k m)) a o in
-        or-right (eqb (count (longEdge job i j) s + count (shortEdge job i j) s) 0) _ (and-true _ _ (eq-eqb (count (longEdge job i j) s) 1 x) (eq-eqb (count (shortEdge job i j) s) 1 y))
+        either-right (eqb (count (longEdge job i j) s + count (shortEdge job i j) s) 0) _ (both-true (eq-eqb (count (longEdge job i j) s) 1 x) (eq-eqb (count (shortEdge job i j) s) 1 y))
 
   -- ---- a rim edge as a test and as a fact
   boundary-rim : (i j : ℕ) → isBoundary job i j ≡ true → RimEdge (job .n) i j
-  boundary-rim i j t = ⊎-elim (λ e. to-next (eqb-true j (i + 1) e)) (λ e. let d = both-eq i 0 j (job .n - 1) e in closing (d .0) (d .1)) (or-cases _ _ t)
+  boundary-rim i j t = ⊎-elim (λ e. to-next (eqb-true j (i + 1) e)) (λ e. let d = both-eq i 0 j (job .n - 1) e in closing (d .0) (d .1)) (either-cases _ _ t)
 
   rim-boundary : (i j : ℕ) → RimEdge (job .n) i j → isBoundary job i j ≡ true
-  rim-boundary i j (to-next e) = or-left _ _ (eq-eqb j (i + 1) e)
-  rim-boundary i j (closing e f) = or-right (eqb j (i + 1)) _ (and-true _ _ (eq-eqb i 0 e) (eq-eqb j (job .n - 1) f))
+  rim-boundary i j (to-next e) = either-left _ _ (eq-eqb j (i + 1) e)
+  rim-boundary i j (closing e f) = either-right (eqb j (i + 1)) _ (both-true (eq-eqb i 0 e) (eq-eqb j (job .n - 1) f))
 
   -- ---- a set that passes the test is a tiling
   pub true-tiling : (s : List ℕ) → Triangulates job s → Tiling job s
@@ -225,20 +221,20 @@ module _ (job : Problem) (good : ValidProblem job) where
       on-rim i j r (sets.step e c) = counted-rim s cs i j c
       on-rim i j r (sets.top e f c) = counted-rim s cs i j c
       on-rim i j r (sets.unused b x y) = absurd (false≢true (sym b ∙ rim-boundary i j r))
-      on-rim i j r (sets.both b x y) = absurd (false≢true (sym b ∙ rim-boundary i j r))
+      on-rim i j r (sets.two-sided b x y) = absurd (false≢true (sym b ∙ rim-boundary i j r))
 
       inside : (i j : ℕ) → (RimEdge (job .n) i j → ⊥) → Edge job i j (countBetween job s i j) (countOutside job s i j) → Inner job s i j
       inside i j r (sets.step e c) = absurd (r (to-next e))
       inside i j r (sets.top e f c) = absurd (r (closing e f))
       inside i j r (sets.unused b x y) = counted-unused s cs i j x y
-      inside i j r (sets.both b x y) = counted-two s cs i j x y
+      inside i j r (sets.two-sided b x y) = counted-two s cs i j x y
 
   -- ---- a tiling passes the test
   pub tiling-true : (s : List ℕ) → Tiling job s → Triangulates job s
   unfolding isTriangulation
   tiling-true s t = (
     ascends-subset 0 (job .size) s up (λ k m. (omega arith, omega (arith, t .candidates k m))),
-    true-below (job .n) _ (λ j m. true-below j _ (λ i l. by i j l m (isBoundary job i j) refl)),
+    every-all 0 (job .n) _ (λ j _ m. every-all 0 j _ (λ i _ l. by i j l m (isBoundary job i j) refl)),
   )
     where
       up : Ascends s

@@ -1,9 +1,10 @@
 -- The problem that a job states (rule 3.1), and the limits that an accepted one keeps. Definitions only.
 use Prim.Native.Nat.{ℕ, _≤_, _<_}
-use mathlib.Core.Bool.{cond, _&&_}
+use mathlib.Core.Bool.{cond}
 use mathlib.Core.List.{List, [], _∷_}
 use lib.ListN.{length, getD}
 use lib.Dec.{eqb}
+use Rattle.lists.specs.Lists.{both}
 use Rattle.terms.specs.Limits.{maxVertices, maxWeight}
 use Rattle.terms.specs.Entries.{entryAt, vertexA, vertexB, vertexC, outer, inner, rowWeight}
 use Rattle.jobs.specs.Job.{Job}
@@ -12,7 +13,7 @@ use Rattle.triangulation.specs.Triangulations.{Problem}
 -- the weight of the row with outer o and inner i, 0 where there is none (rule 3.4)
 abbrev pub pairWeight : List (List ℕ) → ℕ → ℕ → ℕ
 pairWeight [] o i = 0
-pairWeight (r ∷ rows) o i = cond (eqb (outer r) o && eqb (inner r) i) (rowWeight r) (pairWeight rows o i)
+pairWeight (r ∷ rows) o i = cond (both (eqb (outer r) o) (eqb (inner r) i)) (rowWeight r) (pairWeight rows o i)
 
 -- of candidates (a, b, c), their weights, and rows (outer, inner, weight) (rule 3.1)
 abbrev pub problemFrom : ℕ → List (List ℕ) → List ℕ → List (List ℕ) → Problem

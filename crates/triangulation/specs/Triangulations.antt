@@ -1,10 +1,12 @@
 -- What a tiling is, and which one is the answer (rules 3.1 to 3.7). Definitions only.
 -- A tiling is called a triangulation here, and walk order preorder.
 use Prim.Native.Nat.{ℕ, zero, suc, _+_, _-_, _≤_, _<_}
-use mathlib.Core.Bool.{Bool, true, false, cond, _&&_, _||_}
+use mathlib.Core.Bool.{Bool, true, false, cond}
 use mathlib.Core.List.{List, [], _∷_, _++_, map}
-use lib.Dec.{ltb, eqb}
-use Rattle.lists.specs.Sums.{only, sum, keep, joined, allBelow, numbersFrom}
+use lib.Dec.{eqb}
+use Rattle.lists.specs.Lists.{both, either, every}
+use Rattle.terms.specs.Entries.{lexicographic}
+use Rattle.lists.specs.Sums.{only, sum, keep, joined, numbersFrom}
 
 -- A job has n vertices and `size` candidates, numbered from 0 (rule 3.1). Candidate k is the triangle (a k, b k, c k) and weighs `weight k`.
 -- `row o i` is the weight of the row with outer o and inner i, and 0 where there is none (rule 3.4).
@@ -38,7 +40,7 @@ subsets (x ∷ xs) = map (λ s. x ∷ s) (subsets xs) ++ subsets xs
 abbrev pub noLater : List ℕ → List ℕ → Bool
 noLater xs [] = true
 noLater [] (y ∷ ys) = false
-noLater (x ∷ xs) (y ∷ ys) = ltb x y || eqb x y && noLater xs ys
+noLater (x ∷ xs) (y ∷ ys) = lexicographic x y (noLater xs ys)
 
 -- the first in that order, or [] of no list (rule 3.7)
 abbrev pub least : List (List ℕ) → List ℕ
@@ -53,11 +55,11 @@ answerOf (x ∷ l) = patch x l
 module _ (job : Problem) where
   -- (i, j) is an edge of candidate k, with the third vertex between i and j (rule 3.3)
   abbrev pub longEdge : ℕ → ℕ → ℕ → Bool
-  longEdge i j k = eqb (job .a k) i && eqb (job .c k) j
+  longEdge i j k = both (eqb (job .a k) i) (eqb (job .c k) j)
 
   -- (i, j) is an edge of candidate k, with the third vertex outside i to j (rule 3.3)
   abbrev pub shortEdge : ℕ → ℕ → ℕ → Bool
-  shortEdge i j k = eqb (job .a k) i && eqb (job .b k) j || eqb (job .b k) i && eqb (job .c k) j
+  shortEdge i j k = either (both (eqb (job .a k) i) (eqb (job .b k) j)) (both (eqb (job .b k) i) (eqb (job .c k) j))
 
   -- how many candidates of s have the edge (i, j), with the third vertex between (rule 3.3)
   unfoldable pub countBetween : List ℕ → ℕ → ℕ → ℕ
@@ -69,16 +71,16 @@ module _ (job : Problem) where
 
   -- a rim edge (rule 3.2)
   abbrev pub isBoundary : ℕ → ℕ → Bool
-  isBoundary i j = eqb j (i + 1) || eqb i 0 && eqb j (job .n - 1)
+  isBoundary i j = either (eqb j (i + 1)) (both (eqb i 0) (eqb j (job .n - 1)))
 
   -- an edge with x triangles on the one side and y on the other: a rim edge has one in all, any other has none, or one on each side (rule 3.3)
   abbrev pub edgeOk : Bool → ℕ → ℕ → Bool
   edgeOk true x y = eqb (x + y) 1
-  edgeOk false x y = eqb (x + y) 0 || eqb x 1 && eqb y 1
+  edgeOk false x y = either (eqb (x + y) 0) (both (eqb x 1) (eqb y 1))
 
   -- a set s of candidates is a triangulation: so it is for every edge (i, j), i < j < n (rule 3.3)
   unfoldable pub isTriangulation : List ℕ → Bool
-  isTriangulation s = allBelow (job .n) (λ j. allBelow j (λ i. edgeOk (isBoundary i j) (countBetween s i j) (countOutside s i j)))
+  isTriangulation s = every 0 (job .n) (λ j. every 0 j (λ i. edgeOk (isBoundary i j) (countBetween s i j) (countOutside s i j)))
 
   -- the total: for each triangle o its weight, and the row weight of each triangle i of s that hangs on it (rules 2.9, 3.4)
   unfoldable pub totalWeight : List ℕ → ℕ

@@ -1,29 +1,29 @@
 -- A job on which no number is due has all that the dynamic programme needs, and demand 3 holds of its answer.
 use Prim.Native.Nat.{ℕ, suc, _+_, _-_, _≤_, _<_}
 use mathlib.Core.Path.{_≡_}
-use mathlib.Core.Bool.{Bool, true, false, cond, _&&_}
-use mathlib.Core.Logic.{inl, inr}
+use mathlib.Core.Bool.{Bool, true, false, cond}
 use mathlib.Core.List.{List, [], _∷_}
 use native.Mathlib.Omega.{arith}
 use lib.ListN.{length}
 use lib.Dec.{eqb}
+use Rattle.lists.specs.Lists.{both}
 use Rattle.triangulation.specs.Triangulations.{best}
 use Rattle.triangulation.specs.Problems.{problemFrom, pairWeight}
 use Rattle.triangulation.specs.Demand3.{Demand3}
 use Rattle.triangulation.proofs.Demand3.{demand3}
 use Rattle.terms.specs.Limits.{maxVertices, maxWeight}
-use Rattle.terms.specs.Entries.{entryAt, vertexA, vertexB, outer, inner, rowWeight}
+use Rattle.terms.specs.Entries.{entryAt, vertexA, vertexB, outer, inner, rowWeight, rowBefore}
 use Rattle.jobs.specs.Job.{Job, jobCode}
-use Rattle.jobs.proofs.Order.{Before, by-a, by-b, by-c, RowBefore, by-outer, by-inner}
+use Rattle.jobs.proofs.Order.{Before, by-a, by-b, by-c, RowBefore, true-row-before}
 use Rattle.jobs.proofs.Count.{candidates-bounded}
 use Rattle.jobs.proofs.Acceptance.{ListsAccepted, fitting}
 use Rattle.rows.specs.Search.{rowIsBefore}
 use Rattle.minimum_weight.specs.Tables.{WellFormed}
-use Rattle.rows.proofs.Bisection.{is-before, names-false, none}
+use Rattle.rows.proofs.Bisection.{names-false, none}
 
 row-le : (rows : List (List ℕ)) (b o i : ℕ) → ((k : ℕ) → k < length rows → rowWeight (entryAt rows k) ≤ b) → pairWeight rows o i ≤ b
 row-le [] b o i h = omega arith
-row-le (r ∷ rows) b o i h = go (eqb (outer r) o && eqb (inner r) i) (row-le rows b o i (λ k l. h (suc k) (omega arith)))
+row-le (r ∷ rows) b o i h = go (both (eqb (outer r) o) (eqb (inner r) i)) (row-le rows b o i (λ k l. h (suc k) (omega arith)))
   where
     go : (t : Bool) → pairWeight rows o i ≤ b → cond t (rowWeight r) (pairWeight rows o i) ≤ b
     go true ih = h 0 (omega arith)
@@ -40,8 +40,8 @@ b-up (by-b _ h) e = omega arith
 b-up (by-c _ f h) e = omega arith
 
 row-up : {r s : List ℕ} → RowBefore r s → rowIsBefore r (outer s) (inner s) ≡ true
-row-up {r} {s} (by-outer h) = is-before (outer r) (inner r) (outer s) (inner s) (inl h)
-row-up {r} {s} (by-inner e h) = is-before (outer r) (inner r) (outer s) (inner s) (inr (e, h))
+unfolding rowBefore
+row-up {r} {s} b = true-row-before r s b
 
 module _ (job : Job) where
   abbrev n : ℕ

@@ -1,10 +1,10 @@
 -- What each wrong tiler would answer and leave is not what the call does, by computation over the definitions. Assumes nothing.
 use mathlib.Core.Path.{_≡_, refl, sym, _∙_}
-use mathlib.Core.Bool.{Bool, true, false, _&&_, false≢true}
+use mathlib.Core.Bool.{Bool, true, false, false≢true}
 use mathlib.Core.List.{List·Memᴰ}
 use lib.Dec.{eqb}
 use borrow.Author.Tests.{eq-eqb}
-use Rattle.lists.specs.Lists.{everyFrom}
+use Rattle.lists.specs.Lists.{everyFrom, both}
 use Rattle.lists.proofs.Comparing.{sameList, same-list, anyOf, any-of}
 use Rattle.terms.specs.Entries.{before, hangs, rowBefore}
 use Rattle.jobs.specs.Job.{ascends, candidateFits, namesPair, rowFits, listsCode, jobCode}
@@ -16,8 +16,10 @@ use Rattle.triangulator.specs.WrongCalls.{Call, wrongCalls}
 -- equal results are the same by their values and tables
 sameResult : Result → Result → Bool
 sameResult r s =
-    eqb (numberOf (r .outcome)) (numberOf (s .outcome)) && (eqb (trianglesOf (r .outcome)) (trianglesOf (s .outcome)) && (eqb (totalOf (r .outcome)) (totalOf (s .outcome))
-    && (sameList (r .triangles) (s .triangles) && sameList (r .work) (s .work))))
+    both (eqb (numberOf (r .outcome)) (numberOf (s .outcome)))
+    (both (eqb (trianglesOf (r .outcome)) (trianglesOf (s .outcome)))
+    (both (eqb (totalOf (r .outcome)) (totalOf (s .outcome)))
+    (both (sameList (r .triangles) (s .triangles)) (sameList (r .work) (s .work)))))
 
 same-result : (r : Result) → sameResult r r ≡ true
 unfolding sameResult

@@ -8,12 +8,12 @@ use native.Mathlib.Omega.{arith}
 use native.Mathlib.Nat.{le-antisymm}
 use lib.Dec.{eqb, ltb, leb}
 use borrow.Author.Tests.{eqb-true, eq-eqb, ltb-true, lt-ltb}
-use Rattle.lists.proofs.Choice.{Truth, truth, holds, fails}
+use Rattle.lists.proofs.Choice.{Truth, truth, holds, fails, both-left, both-right, both-true}
 use Rattle.lists.specs.Sums.{only, sum, numbersFrom}
 use Rattle.triangulation.specs.Triangulations.{Problem, subsets, isTriangulation}
 use Rattle.triangulation.specs.Demand3.{Triangulates}
 use Rattle.triangulation.proofs.Sums.{Mem, count, sum-ext, sum-same, mem-count, mem-keep, keep-mem, Any, any, none, some}
-use Rattle.triangulation.proofs.SetParts.{and-true, and-left, and-right, eqb-sym}
+use Rattle.triangulation.proofs.SetParts.{eqb-sym}
 use Rattle.triangulation.proofs.PartsToSets.{mem-upFrom, upFrom-mem, upFrom-once, only-le, count-keep}
 use Rattle.triangulation.proofs.Least.{keep-subset}
 use Rattle.validation.specs.Validation.{times, distinctCandidates, named, isTiling}
@@ -41,11 +41,11 @@ pub record Names (size : ℕ) (list : List ℕ) : Type 0 where
 pub test-names : (size : ℕ) (list : List ℕ) → distinctCandidates size list ≡ true → Names size list
 test-names size [] e = record { candidate = λ k m. absurd (List·Memᴰ·not-nil m); once = λ k. omega arith }
 test-names size (k ∷ list) e =
-    let r = and-right (ltb k size) _ e in
-    let z : times k list ≡ 0 = eqb-true (times k list) 0 (and-left (eqb (times k list) 0) _ r) in
-    let ih = test-names size list (and-right (eqb (times k list) 0) _ r) in
+    let r = both-right (ltb k size) _ e in
+    let z : times k list ≡ 0 = eqb-true (times k list) 0 (both-left (eqb (times k list) 0) _ r) in
+    let ih = test-names size list (both-right (eqb (times k list) 0) _ r) in
     record {
-      candidate = λ x m. ⊎-elim (λ q. rw q (ltb-true k size (and-left (ltb k size) _ e))) (λ n. ih .candidate x n) (List·Memᴰ·cases-cons m);
+      candidate = λ x m. ⊎-elim (λ q. rw q (ltb-true k size (both-left (ltb k size) _ e))) (λ n. ih .candidate x n) (List·Memᴰ·cases-cons m);
       once = λ x. go x (truth (eqb k x)) (ih .once x) z;
     }
   where
@@ -57,8 +57,8 @@ pub names-test : (size : ℕ) (list : List ℕ) → Names size list → distinct
 names-test size [] h = refl
 names-test size (k ∷ list) h =
     let z : only (eqb k k) 1 ≡ 1 = ap (λ b. only b 1) (eq-eqb k k refl) in
-    and-true _ _ (lt-ltb k size (h .candidate k (List·Memᴰ·head refl)))
-    (and-true _ _ (eq-eqb (times k list) 0 (omega (arith, h .once k)))
+    both-true (lt-ltb k size (h .candidate k (List·Memᴰ·head refl)))
+    (both-true (eq-eqb (times k list) 0 (omega (arith, h .once k)))
     (names-test size list (record { candidate = λ x m. h .candidate x (List·Memᴰ·tail m); once = λ x. omega (arith, h .once x) })))
 
 -- ---- the set of the candidates that stand there
@@ -90,12 +90,12 @@ module _ (job : Problem) (list : List ℕ) where
   -- the definition's test, as facts
   pub tiling-names : isTiling job list ≡ true → Names (job .size) list
   unfolding isTiling
-  tiling-names e = test-names (job .size) list (and-left (distinctCandidates (job .size) list) _ e)
+  tiling-names e = test-names (job .size) list (both-left (distinctCandidates (job .size) list) _ e)
 
   pub tiling-tiles : isTiling job list ≡ true → Triangulates job (named job list)
   unfolding isTiling
-  tiling-tiles e = (named-subset, and-right (distinctCandidates (job .size) list) (isTriangulation job (named job list)) e)
+  tiling-tiles e = (named-subset, both-right (distinctCandidates (job .size) list) (isTriangulation job (named job list)) e)
 
   pub names-tiling : Names (job .size) list → isTriangulation job (named job list) ≡ true → isTiling job list ≡ true
   unfolding isTiling
-  names-tiling h e = and-true _ _ (names-test (job .size) list h) e
+  names-tiling h e = both-true (names-test (job .size) list h) e

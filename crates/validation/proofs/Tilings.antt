@@ -8,6 +8,7 @@ use lib.ListN.{length}
 use lib.Dec.{eqb}
 use borrow.Author.Tests.{eqb-true}
 use Rattle.lists.proofs.Choice.{Truth, truth, holds, fails, true-not-false, not-true-false}
+use Rattle.lists.proofs.Ranges.{every-same}
 use Rattle.lists.specs.Sums.{only, sum}
 use Rattle.triangulation.specs.Triangulations.{Problem, ValidProblem, longEdge, shortEdge, countBetween, countOutside, isBoundary, edgeOk, isTriangulation, totalWeight}
 use Rattle.triangulation.proofs.Sums.{Mem, sum-ext, count-mono}
@@ -15,7 +16,6 @@ use Rattle.triangulation.proofs.SetParts.{longEdge-is}
 use Rattle.triangulation.proofs.SetsToParts.{triangulation-set}
 use Rattle.triangulation.proofs.Demand3.{sum-ones, triangle-count}
 use Rattle.validation.specs.Validation.{named, isTiling, listTotal}
-use Rattle.validation.proofs.Fronts.{below-same}
 use Rattle.validation.proofs.Naming.{Names, named-sum, tiling-names, tiling-tiles, names-tiling}
 
 -- what triangle o adds to the total of a list
@@ -26,7 +26,7 @@ module _ (job : Problem) (list : List ℕ) where
   -- ---- the set and the list have the same counts and the same total
   named-triangulation : Names (job .size) list → isTriangulation job (named job list) ≡ isTriangulation job list
   unfolding isTriangulation countBetween countOutside
-  named-triangulation h = below-same (job .n) _ _ (λ j _. below-same j _ _ (λ i _.
+  named-triangulation h = every-same 0 (job .n) _ _ (λ j _ _. every-same 0 j _ _ (λ i _ _.
       ap₂ (λ x y. edgeOk job (isBoundary job i j) x y) (named-sum job list h (λ k. only (longEdge job i j k) 1)) (named-sum job list h (λ k. only (shortEdge job i j k) 1))))
 
   pub total-is : isTiling job list ≡ true → listTotal job list ≡ totalWeight job list

@@ -8,7 +8,7 @@ use lib.Dec.{eqb, ltb}
 use Rattle.lists.specs.Lists.{every, both}
 use Rattle.terms.specs.Limits.{maxVertices}
 use Rattle.terms.specs.Entries.{entryAt, vertexA, vertexB, vertexC}
-use Rattle.lists.specs.Sums.{only, sum, allBelow}
+use Rattle.lists.specs.Sums.{only, sum}
 use Rattle.triangulation.specs.Triangulations.{Problem, longEdge, shortEdge, isBoundary, edgeOk}
 use Rattle.triangulation.specs.Problems.{problemFrom}
 
@@ -72,7 +72,7 @@ abbrev pub edgeFits : ℕ → List ℕ → List ℕ → ℕ → ℕ → Bool
 edgeFits n betweens outsides j i = edgeOk (verticesAlone n) (isBoundary (verticesAlone n) i j) (countAt betweens i j) (countAt outsides i j)
 
 abbrev pub edgesFit : ℕ → List ℕ → List ℕ → Bool
-edgesFit n betweens outsides = allBelow n (λ j. allBelow j (edgeFits n betweens outsides j))
+edgesFit n betweens outsides = every 0 n (λ j. every 0 j (edgeFits n betweens outsides j))
 
 -- each number of the list is below the bound
 abbrev pub allBelowBound : List ℕ → ℕ → Bool

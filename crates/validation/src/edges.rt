@@ -5,7 +5,7 @@ ghost use mathlib.Core.List.{[]};
 ghost use lib.ListN.{replicate};
 ghost use Rattle.terms.specs.Limits.{maxVertices};
 ghost use Rattle.terms.specs.Entries.{vertexA, vertexB, vertexC};
-ghost use Rattle.lists.specs.Sums.{allBelow};
+ghost use Rattle.lists.specs.Lists.{every};
 ghost use Rattle.triangulation.specs.Triangulations.{isBoundary, edgeOk, isTriangulation};
 ghost use Rattle.triangulation.specs.Problems.{problemFrom};
 ghost use Rattle.validation.specs.Edges.{edgeAt, edgePlaces, added, Room, Triangles, Counted, verticesAlone, edgeFits, edgesFit};
@@ -98,7 +98,7 @@ fn edge_fits(n: usize, i: usize, j: usize, between: u8, outside: u8) -> bool
 // The edges (i, j) for one j.
 fn edges_to_fit(n: usize, j: usize, between: &[u8; EDGES], outside: &[u8; EDGES]) -> bool
     requires { ⌜ (j < n) × (n ≤ maxVertices) ⌝ }
-    ensures { λ r. ⌜ r ≡ allBelow j (edgeFits n (now (between .entry)) (now (outside .entry)) j) ⌝ }
+    ensures { λ r. ⌜ r ≡ every 0 j (edgeFits n (now (between .entry)) (now (outside .entry)) j) ⌝ }
 {
     for i in 0..j {
         let at = edge_index(i, j);

@@ -1,6 +1,6 @@
 -- `rows::is_before` meets its contract. Assumes nothing.
 use mathlib.Core.Path.{sym, _∙_}
-use Rattle.lists.proofs.Bools.{and-yes, and-no, or-yes, or-no}
+use Rattle.lists.proofs.Choice.{yes, no}
 use borrow.Author.Needs.{needs}
 use borrow.Author.Tests.{le-ltb, lt-ltb, eq-eqb, ne-eqb}
 use Rattle.rows.proofs.is_before.Statement.{statement}
@@ -19,13 +19,13 @@ cast-i : tie.Need-cast-i
 cast-i c = search needs
 
 returns : tie.Need-returns
-returns c = sym (or-yes _ (lt-ltb _ _ (c .if1 .taken)))
+returns c = sym (yes _ _ (lt-ltb _ _ (c .if1 .taken)))
 
 returns-2 : tie.Need-returns-2
-returns-2 c = sym (or-no _ (le-ltb _ _ (c .before .if1 .left)) ∙ and-no _ (ne-eqb _ _ (c .if2 .taken)))
+returns-2 c = sym (no _ _ (le-ltb _ _ (c .before .if1 .left)) ∙ no _ _ (ne-eqb _ _ (c .if2 .taken)))
 
 returns-3 : tie.Need-returns-3
-returns-3 c = sym (or-no _ (le-ltb _ _ (c .before .if1 .left)) ∙ and-yes _ (eq-eqb _ _ (c .if2 .left)))
+returns-3 c = sym (no _ _ (le-ltb _ _ (c .before .if1 .left)) ∙ yes _ _ (eq-eqb _ _ (c .if2 .left)))
 
 pub is-before-spec : {M : Type 1} → statement M
 is-before-spec =

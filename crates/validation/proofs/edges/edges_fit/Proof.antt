@@ -1,17 +1,17 @@
 -- `validation::edges::edges_fit` meets its contract. Assumes nothing.
 use Prim.Native.Nat.{_≤_, _-_}
-use mathlib.Core.Path.{_≡_, refl, sym, ap, _∙_}
-use mathlib.Core.Bool.{true}
+use mathlib.Core.Path.{_≡_, refl, sym, _∙_}
 use native.Mathlib.Omega.{arith}
 use borrow.Author.Tests.{not-true, not-false}
-use Rattle.lists.specs.Sums.{allBelow}
-use Rattle.validation.specs.Edges.{edgeFits}
-use Rattle.validation.proofs.Fronts.{below-next, below-stop}
+use Rattle.lists.specs.Lists.{every}
+use Rattle.lists.proofs.Ranges.{every-on, every-stop, every-end}
+use Rattle.validation.specs.Edges.{edgeFits, edgesFit}
 use Rattle.validation.proofs.edges.edges_fit.Statement.{statement}
 use Rattle.validation.proofs.edges.edges_fit.Tie as tie
 
+-- what is left to test gives what the whole does
 abbrev Inv-loop : tie.InvT-loop
-Inv-loop n between outside j₀ j = (j ≤ n) × (allBelow j (λ k. allBelow k (edgeFits n between outside k)) ≡ true)
+Inv-loop n between outside j₀ j = (j ≤ n) × (every j n (λ k. every 0 k (edgeFits n between outside k)) ≡ edgesFit n between outside)
 
 abbrev μ-loop : tie.MeasureT-loop
 μ-loop n between outside j₀ j = n - j
@@ -24,8 +24,8 @@ edges-to-fit-requires c κs = (omega arith, omega arith)
 
 returns : tie.Need-returns Inv-loop μ-loop
 returns c =
-    let s = c .before .before .before .before .args in
-    sym (below-stop (s .n) (λ k. allBelow k (edgeFits (s .n) (s .between .now) (s .outside .now) k)) (c .before .before .before .loop .j) (c .before .before .loop-test .taken) (sym (c .before .edges-to-fit .ensures) ∙ not-true _ (c .if1 .taken)))
+    let l = c .before .before .before .loop in
+    sym (sym (l .inv .1) ∙ every-stop _ _ _ (c .before .before .loop-test .taken) (sym (c .before .edges-to-fit .ensures) ∙ not-true _ (c .if1 .taken)))
 
 add-j : tie.Need-add-j Inv-loop μ-loop
 add-j c = omega arith
@@ -35,15 +35,11 @@ loop-less c = omega arith
 
 loop-again : tie.Need-loop-again Inv-loop μ-loop
 loop-again c =
-    let s = c .before .before .before .before .args in
-    (omega arith, below-next (c .before .before .before .loop .j) (λ k. allBelow k (edgeFits (s .n) (s .between .now) (s .outside .now) k)) (c .before .before .before .loop .inv .1) (sym (c .before .edges-to-fit .ensures) ∙ not-false _ (c .if1 .left)))
+    let l = c .before .before .before .loop in
+    (omega arith, sym (every-on _ _ _ (c .before .before .loop-test .taken) (sym (c .before .edges-to-fit .ensures) ∙ not-false _ (c .if1 .left))) ∙ l .inv .1)
 
 returns-2 : tie.Need-returns-2 Inv-loop μ-loop
-returns-2 c =
-    let s = c .before .before .args in
-    let l = c .before .loop in
-    let e : l .j ≡ s .n = omega arith in
-    sym (ap (λ m. allBelow m (λ k. allBelow k (edgeFits (s .n) (s .between .now) (s .outside .now) k))) (sym e) ∙ l .inv .1)
+returns-2 c = let l = c .before .loop in sym (sym (l .inv .1) ∙ every-end _ _ _ (omega arith))
 
 pub edges-fit-spec : {M : Type 1} → statement M
 edges-fit-spec =

@@ -1,19 +1,19 @@
 -- `validation::edges::edges_to_fit` meets its contract. Assumes nothing.
 use Prim.Native.Nat.{ℕ, _≤_, _-_}
 use mathlib.Core.Path.{_≡_, refl, sym, ap, _∙_}
-use mathlib.Core.Bool.{true}
 use native.Mathlib.Omega.{arith}
 use lib.ListN.{getD}
 use borrow.Author.Tests.{not-true, not-false}
-use Rattle.lists.specs.Sums.{allBelow}
+use Rattle.lists.specs.Lists.{every}
+use Rattle.lists.proofs.Ranges.{every-on, every-stop, every-end}
 use Rattle.triangulation.specs.Triangulations.{isBoundary, edgeOk}
 use Rattle.validation.specs.Edges.{verticesAlone, edgeFits}
-use Rattle.validation.proofs.Fronts.{below-next, below-stop}
 use Rattle.validation.proofs.edges.edges_to_fit.Statement.{statement}
 use Rattle.validation.proofs.edges.edges_to_fit.Tie as tie
 
+-- what is left to test gives what the whole does
 abbrev Inv-loop : tie.InvT-loop
-Inv-loop n j between outside i₀ i = (i ≤ j) × (allBelow i (edgeFits n between outside j) ≡ true)
+Inv-loop n j between outside i₀ i = (i ≤ j) × (every i j (edgeFits n between outside j) ≡ every 0 j (edgeFits n between outside j))
 
 abbrev μ-loop : tie.MeasureT-loop
 μ-loop n j between outside i₀ i = j - i
@@ -50,8 +50,8 @@ module _ (g : tie.After-edge-fits Inv-loop μ-loop) where
 returns : tie.Need-returns Inv-loop μ-loop
 returns c =
     let g = c .before in
-    let a = call g .args in
-    sym (below-stop (a .j) (edgeFits (a .n) (a .between .now) (a .outside .now) (a .j)) (vertex g) (g .before .before .before .before .loop-test .taken) (sym (fits g) ∙ not-true _ (c .if1 .taken)))
+    let l = g .before .before .before .before .before .loop in
+    sym (sym (l .inv .1) ∙ every-stop _ _ _ (g .before .before .before .before .loop-test .taken) (sym (fits g) ∙ not-true _ (c .if1 .taken)))
 
 add-i : tie.Need-add-i Inv-loop μ-loop
 add-i c = omega arith
@@ -62,15 +62,11 @@ loop-less c = omega arith
 loop-again : tie.Need-loop-again Inv-loop μ-loop
 loop-again c =
     let g = c .before in
-    let a = call g .args in
-    (omega arith, below-next (vertex g) (edgeFits (a .n) (a .between .now) (a .outside .now) (a .j)) (g .before .before .before .before .before .loop .inv .1) (sym (fits g) ∙ not-false _ (c .if1 .left)))
+    let l = g .before .before .before .before .before .loop in
+    (omega arith, sym (every-on _ _ _ (g .before .before .before .before .loop-test .taken) (sym (fits g) ∙ not-false _ (c .if1 .left))) ∙ l .inv .1)
 
 returns-2 : tie.Need-returns-2 Inv-loop μ-loop
-returns-2 c =
-    let a = c .before .before .args in
-    let l = c .before .loop in
-    let e : l .i ≡ a .j = omega arith in
-    sym (ap (λ k. allBelow k (edgeFits (a .n) (a .between .now) (a .outside .now) (a .j))) (sym e) ∙ l .inv .1)
+returns-2 c = let l = c .before .loop in sym (sym (l .inv .1) ∙ every-end _ _ _ (omega arith))
 
 pub edges-to-fit-spec : {M : Type 1} → statement M
 edges-to-fit-spec =
