@@ -288,7 +288,6 @@ pub record Promises : Type 0 where
   pub judging : (job : Job) (list : List ℕ) (total : ℕ) (work : List ℕ) → Judging job list total work
   pub own-patches : OwnPatches
 
-<<<<<<< HEAD
 -- ---- what the page rests on, beside the calls' own definitions; `crate/File` is crates/CRATE/specs/FILE.antt, docs/ARCHITECTURE.md has the rest
 -- numbers that are due: reader/Due `FileDue`, demands/Demand1 `CallDue`, `TooShort`, demands/Polygons `FindDue`, `PatchDue`, jobs/Due `Accepted`, `FirstDue`,
 --   judge/Due `FirstDue`, converter/Due `ConvertDue`; the first of them: terms/Order `First`, `NoneDue`
@@ -299,20 +298,3 @@ pub record Promises : Type 0 where
 -- tilings and answers: jobs/Job `Job`, triangulation/Triangulations `Problem`, `totalWeight`, Problems `problemOf`, Tiling `Tiling`, Demand3 `Demand3`,
 --   `HandedBack`, triangulator/Demands `Taken`, `Handed`, preorder/Preorder `TurnByTurn`, judge/Demands `IsTiling`, `Acceptable`, `SameNumbers`, `Excess`
 -- answers alike: demands/Base `baseFile`, Conversion `SameAnswers`, OnePatch `SamePatch`, `LongEnough`, Limits `OneAnswer`
-=======
--- ---- what the page rests on, by name
--- numbers that are due: `FileDue` (reader/Due), `CallDue`, `TooShort` (demands/Demand1), `FindDue`, `PatchDue` (demands/Polygons), `Accepted`, `FirstDue`
---   (jobs/Due), `FirstDue` (judge/Due), `ConvertDue` (converter/Due); which of them is the first: `First`, `NoneDue` (terms/Order)
--- what a file says: `HasRecords`, `HasVertex`, `HasNormal`, `ChainAtMost` (reader/Due), `Rounded` (reader/Rounded), `HalfStep`, `EvenHalf` (grid/Number),
---   `Edition1`, `Edition2` (rim_file/Layouts), `SameRim` (rim_file/Editions)
--- candidates, weights and rows: `Candidate`, `Face`, `CountsInPlane`, `Flat`, `Cocircular` (demands/Candidates), `TablesHold` (demands/Demand2),
---   `ListsLeft`, `RightOfTables` (demands/Demand3), `OnOneLine` (planar/Planes), `collinear` (planar/Circles), `ownWeight` (weights/Weights)
--- tilings and answers: `Job` (jobs/Job), `Problem`, `totalWeight` (triangulation/Triangulations), `problemOf` (triangulation/Problems), `Tiling`
---   (triangulation/Tiling), `Triangulates`, `Demand3`, `HandedBack` (triangulation/Demand3), `Taken`, `Handed`, `stated` (triangulator/Demands), `TurnByTurn`
---   (preorder/Preorder)
--- lists to judge: `IsTiling`, `Acceptable`, `SameNumbers`, `Excess` (judge/Demands)
--- answers that are alike: `baseFile` (demands/Base), `SameAnswers` (demands/Conversion), `SamePatch`, `LongEnough` (demands/OnePatch), `OneAnswer`
---   (demands/Limits)
--- and the definitions of the calls: reader/Reading, finder/Finding, pipeline/Patching and Sizes, triangulator/Call, judge/Call, converter/Call. All of them are
--- in crates/NAME/specs/FILE.antt; docs/ARCHITECTURE.md lists what they in turn rest on.
->>>>>>> b8-first
