@@ -13,7 +13,7 @@ use Rattle.rim_file.specs.File.{offset, firstNumber, secondNumber, thirdNumber}
 use Rattle.lists.specs.Sums.{allOf}
 use Rattle.rim_file.specs.Record.{known, heightOf, numbersCode, numberOf}
 use Rattle.rim_file.proofs.Vertices.{tests, vertex-number}
-use Rattle.rim_file.proofs.Floats.{UpTo, every-fails, every-not, numbers-most, finite-code, range-code}
+use Rattle.rim_file.proofs.Floats.{UpTo, all-of-fails, all-of-not, numbers-most, finite-code, range-code}
 use Rattle.reader.specs.Chain.{heightBefore, vertexAtPosition}
 use Rattle.reader.specs.Chain as chain
 use Rattle.reader.specs.Order.{record-at}
@@ -79,10 +79,10 @@ module _ (s : List ℕ) (i : ℕ) where
   pub finite-given : (v : Float) → List·Memᴰ v (floatsAt s i) → finite v ≡ false → UpTo 8 (numberOf (vertexAtPosition s i))
   finite-given v m f =
       floats-given 8 v (omega arith) m
-      (λ vs n. let e : numbersCode vs ≡ 8 = finite-code vs (every-not finite vs v n f) in record { some = omega arith; most = omega arith })
+      (λ vs n. let e : numbersCode vs ≡ 8 = finite-code vs (all-of-not finite vs v n f) in record { some = omega arith; most = omega arith })
 
   pub range-given : (v : Float) → List·Memᴰ v (floatsAt s i) → inRange v ≡ false → UpTo 9 (numberOf (vertexAtPosition s i))
-  range-given v m f = floats-given 9 v (omega arith) m (λ vs n. range-code vs (every-not inRange vs v n f))
+  range-given v m f = floats-given 9 v (omega arith) m (λ vs n. range-code vs (all-of-not inRange vs v n f))
 
   -- ---- the number that is given is due
   module _ (limit : ℕ) (has : HasRecords s (suc i)) where
@@ -92,10 +92,10 @@ module _ (s : List ℕ) (i : ℕ) where
       where
         by : (f r : Bool) → allOf finite vs ≡ f → allOf inRange vs ≡ r → _≡_ {A = ℕ} (cond f (cond r 0 9) 8) (suc c) → FileDue limit s (record-at i) (suc c)
         by false r p q d =
-            let w = every-fails finite vs p in
+            let w = all-of-fails finite vs p in
             subst (λ (k : ℕ). FileDue limit s (record-at i) k) d (not-finite i (w .value) has (subst (λ (l : List Float). List·Memᴰ (w .value) l) (sym u) (w .member)) (w .fails))
         by true false p q d =
-            let w = every-fails inRange vs q in
+            let w = all-of-fails inRange vs q in
             subst (λ (k : ℕ). FileDue limit s (record-at i) k) d (out-of-range i (w .value) has (subst (λ (l : List Float). List·Memᴰ (w .value) l) (sym u) (w .member)) (w .fails))
         by true true p q d = absurd (omega (arith, d))
 

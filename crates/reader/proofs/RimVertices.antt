@@ -20,7 +20,7 @@ use Rattle.polygon.proofs.Validity.{repeated-none}
 use Rattle.rim_file.specs.File.{offset, firstNumber, secondNumber, thirdNumber}
 use Rattle.rim_file.specs.Record.{known, heightOf, numbersCode, vertexUnless, numberOf, pointOf}
 use Rattle.rim_file.proofs.Vertices.{shape, shape-is, numbers-fine, tests}
-use Rattle.rim_file.proofs.Floats.{every-at, every-all, fine-code}
+use Rattle.rim_file.proofs.Floats.{all-of-at, all-of-each, fine-code}
 use Rattle.reader.specs.Chain.{heightBefore, vertexAtPosition, verticesOf}
 use Rattle.reader.specs.Chain as chain
 use Rattle.reader.specs.Due.{kindAt, tailZeroAt, floatsAt, OnGridAt, xAt, yAt, heightAt, HasVertex, a-point, a-level-point}
@@ -36,8 +36,8 @@ module _ (s : List ℕ) where
 
   grid-code : (i : ℕ) (vs : List Float) → floatsAt s i ≡ vs → OnGridAt s i → numbersCode vs ≡ 0
   grid-code i vs e g =
-      fine-code vs (every-all finite vs (λ v m. g .all-finite v (subst (λ (l : List Float). List·Memᴰ v l) (sym e) m)))
-      (every-all inRange vs (λ v m. g .all-in-range v (subst (λ (l : List Float). List·Memᴰ v l) (sym e) m)))
+      fine-code vs (all-of-each finite vs (λ v m. g .all-finite v (subst (λ (l : List Float). List·Memᴰ v l) (sym e) m)))
+      (all-of-each inRange vs (λ v m. g .all-in-range v (subst (λ (l : List Float). List·Memᴰ v l) (sym e) m)))
 
   -- a vertex that a record gives is the one that the reader has for it
   pub vertex-is : (i : ℕ) (p : GridPoint) → HasVertex s i p → pointOf (vertexAtPosition s i) ≡ p
@@ -66,8 +66,8 @@ module _ (s : List ℕ) where
       on-grid vs u c =
           let f = numbers-fine vs c in
           record {
-            all-finite = λ v m. every-at finite vs v (f .0) (subst (λ (l : List Float). List·Memᴰ v l) u m);
-            all-in-range = λ v m. every-at inRange vs v (f .1) (subst (λ (l : List Float). List·Memᴰ v l) u m);
+            all-finite = λ v m. all-of-at finite vs v (f .0) (subst (λ (l : List Float). List·Memᴰ v l) u m);
+            all-in-range = λ v m. all-of-at inRange vs v (f .1) (subst (λ (l : List Float). List·Memᴰ v l) u m);
           }
 
       by : (one two kn tail : Bool) → eqb (kindAt s i) 1 ≡ one → eqb (kindAt s i) 2 ≡ two → known (heightBefore s i) ≡ kn → tailZeroAt s i ≡ tail →

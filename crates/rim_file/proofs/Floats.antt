@@ -18,9 +18,9 @@ pub record Failing (P : Float → Bool) (vs : List Float) : Type 0 where
   pub member : List·Memᴰ value vs
   pub fails : P value ≡ false
 
-pub every-fails : (P : Float → Bool) (vs : List Float) → allOf P vs ≡ false → Failing P vs
-every-fails P [] e = absurd (true-not-false refl e)
-every-fails P (v ∷ vs) e = by (P v) refl (λ h. every-fails P vs h)
+pub all-of-fails : (P : Float → Bool) (vs : List Float) → allOf P vs ≡ false → Failing P vs
+all-of-fails P [] e = absurd (true-not-false refl e)
+all-of-fails P (v ∷ vs) e = by (P v) refl (λ h. all-of-fails P vs h)
   where
     by : (b : Bool) → P v ≡ b → (allOf P vs ≡ false → Failing P vs) → Failing P (v ∷ vs)
     by false p go = record { value = v; member = List·Memᴰ·head refl; fails = p }
@@ -28,17 +28,17 @@ every-fails P (v ∷ vs) e = by (P v) refl (λ h. every-fails P vs h)
         let f = go (sym (ap (λ (b : Bool). both b (allOf P vs)) p) ∙ e) in
         record { value = f .value; member = List·Memᴰ·tail (f .member); fails = f .fails }
 
-pub every-at : (P : Float → Bool) (vs : List Float) (v : Float) → allOf P vs ≡ true → List·Memᴰ v vs → P v ≡ true
-every-at P [] v e m = absurd (List·Memᴰ·not-nil m)
-every-at P (w ∷ vs) v e m =
-    ⊎-elim (λ d. ap P d ∙ both-left (P w) (allOf P vs) e) (λ t. every-at P vs v (both-right (P w) (allOf P vs) e) t) (List·Memᴰ·cases-cons m)
+pub all-of-at : (P : Float → Bool) (vs : List Float) (v : Float) → allOf P vs ≡ true → List·Memᴰ v vs → P v ≡ true
+all-of-at P [] v e m = absurd (List·Memᴰ·not-nil m)
+all-of-at P (w ∷ vs) v e m =
+    ⊎-elim (λ d. ap P d ∙ both-left (P w) (allOf P vs) e) (λ t. all-of-at P vs v (both-right (P w) (allOf P vs) e) t) (List·Memᴰ·cases-cons m)
 
-pub every-all : (P : Float → Bool) (vs : List Float) → ((v : Float) → List·Memᴰ v vs → P v ≡ true) → allOf P vs ≡ true
-every-all P [] h = refl
-every-all P (v ∷ vs) h = both-true (h v (List·Memᴰ·head refl)) (every-all P vs (λ w m. h w (List·Memᴰ·tail m)))
+pub all-of-each : (P : Float → Bool) (vs : List Float) → ((v : Float) → List·Memᴰ v vs → P v ≡ true) → allOf P vs ≡ true
+all-of-each P [] h = refl
+all-of-each P (v ∷ vs) h = both-true (h v (List·Memᴰ·head refl)) (all-of-each P vs (λ w m. h w (List·Memᴰ·tail m)))
 
-pub every-not : (P : Float → Bool) (vs : List Float) (v : Float) → List·Memᴰ v vs → P v ≡ false → allOf P vs ≡ false
-every-not P vs v m f = not-true-false (allOf P vs) (λ e. true-not-false (every-at P vs v e m) f)
+pub all-of-not : (P : Float → Bool) (vs : List Float) (v : Float) → List·Memᴰ v vs → P v ≡ false → allOf P vs ≡ false
+all-of-not P vs v m f = not-true-false (allOf P vs) (λ e. true-not-false (all-of-at P vs v e m) f)
 
 -- c is a number, and at most k
 pub record UpTo (k c : ℕ) : Type 0 where
