@@ -46,7 +46,8 @@ pub fn judge(
     ensures { λ r. ⌜ result r (now (work .exit))
         ≡ judged (jobOf n (now (candidates .entry)) (now (weights .entry)) (now (rows .entry))) (now (list .entry)) stated (now (work .entry)) ⌝ }
     ensures { λ r. ⌜ valuesOf r
-        ≡ judgedValues (jobOf n (now (candidates .entry)) (now (weights .entry)) (now (rows .entry))) (now (list .entry)) stated (length (now (work .entry))) ⌝ }
+        ≡ judgedValues (jobOf n (now (candidates .entry)) (now (weights .entry)) (now (rows .entry))) (now (list .entry)) stated
+        (length (now (work .entry))) ⌝ }
 {
     let job_number = jobs::code_without_triangles(n, candidates, weights, rows, work.len());
     if job_number != 0 {

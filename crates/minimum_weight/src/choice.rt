@@ -30,7 +30,8 @@ fn better(
     u: usize,
 ) -> Pick
     requires { ⌜ (u < length (now candidates)) × (length (now candidates) ≤ length (now work)) × RowsAscend (now rows) × (p .cost ≤ noTotal) ⌝ }
-    ensures { λ r. ⌜ r ≡ betterOf p u (eqb (vertexC (entryAt (now (candidates .entry)) u)) j) (getD (now (work .entry)) u 0) (pairWeight (now (rows .entry)) t u) ⌝ }
+    ensures { λ r. ⌜ r
+        ≡ betterOf p u (eqb (vertexC (entryAt (now (candidates .entry)) u)) j) (getD (now (work .entry)) u 0) (pairWeight (now (rows .entry)) t u) ⌝ }
 {
     let triangle = candidates[u];
     if triangle[2] != j {

@@ -40,8 +40,10 @@ fn cost_of(
     work: &[u64],
     t: usize,
 ) -> u64
-    requires { ⌜ WellFormed n (now candidates) (now weights) (now rows) × Starts (now candidates) (now starts) × (length (now candidates) ≤ length (now work)) × (t < length (now candidates)) × Run (now rows) t (now run) ⌝ }
-    requires { ⌜ ReadyAt (problemFrom n (now candidates) (now weights) (now rows)) (now work) (vertexA (entryAt (now candidates) t)) (vertexB (entryAt (now candidates) t)) × ReadyAt (problemFrom n (now candidates) (now weights) (now rows)) (now work) (vertexB (entryAt (now candidates) t)) (vertexC (entryAt (now candidates) t)) ⌝ }
+    requires { ⌜ WellFormed n (now candidates) (now weights) (now rows) × Starts (now candidates) (now starts)
+        × (length (now candidates) ≤ length (now work)) × (t < length (now candidates)) × Run (now rows) t (now run) ⌝ }
+    requires { ⌜ ReadyAt (problemFrom n (now candidates) (now weights) (now rows)) (now work) (vertexA (entryAt (now candidates) t)) (vertexB (entryAt (now candidates) t))
+        × ReadyAt (problemFrom n (now candidates) (now weights) (now rows)) (now work) (vertexB (entryAt (now candidates) t)) (vertexC (entryAt (now candidates) t)) ⌝ }
     ensures { λ r. ⌜ r ≡ costOf (bestFrom (problemFrom n (now (candidates .entry)) (now (weights .entry)) (now (rows .entry))) n t) ⌝ }
 {
     let triangle = candidates[t];
@@ -63,9 +65,11 @@ fn fill_block(
     work: &mut [u64],
     v: usize,
 )
-    requires { ⌜ WellFormed n (now candidates) (now weights) (now rows) × Starts (now candidates) (now starts) × (length (now candidates) ≤ length (now work)) × (v < maxVertices) ⌝ }
+    requires { ⌜ WellFormed n (now candidates) (now weights) (now rows) × Starts (now candidates) (now starts)
+        × (length (now candidates) ≤ length (now work)) × (v < maxVertices) ⌝ }
     requires { ⌜ Filled (problemFrom n (now candidates) (now weights) (now rows)) (now work) (getD (now starts) (v + 1) 0) (now work) ⌝ }
-    ensures { λ _. ⌜ Filled (problemFrom n (now (candidates .entry)) (now (weights .entry)) (now (rows .entry))) (now (work .entry)) (getD (now (starts .entry)) v 0) (now (work .exit)) ⌝ }
+    ensures { λ _. ⌜ Filled (problemFrom n (now (candidates .entry)) (now (weights .entry)) (now (rows .entry)))
+        (now (work .entry)) (getD (now (starts .entry)) v 0) (now (work .exit)) ⌝ }
 {
     let end = starts[v + 1];
     let mut t = starts[v];
@@ -89,8 +93,10 @@ pub fn fill(
     rows: &[[u32; 3]],
     work: &mut [u64],
 )
-    requires { ⌜ WellFormed n (now candidates) (now weights) (now rows) × Starts (now candidates) (now starts) × (length (now candidates) ≤ length (now work)) ⌝ }
-    ensures { λ _. ⌜ now (work .exit) ≡ filled (partTotals (problemFrom n (now (candidates .entry)) (now (weights .entry)) (now (rows .entry)))) (now (work .entry)) ⌝ }
+    requires { ⌜ WellFormed n (now candidates) (now weights) (now rows) × Starts (now candidates) (now starts)
+        × (length (now candidates) ≤ length (now work)) ⌝ }
+    ensures { λ _. ⌜ now (work .exit)
+        ≡ filled (partTotals (problemFrom n (now (candidates .entry)) (now (weights .entry)) (now (rows .entry)))) (now (work .entry)) ⌝ }
 {
     let mut v = n;
     while 0 < v {

@@ -25,9 +25,11 @@ pub fn least_total(
     rows: &[[u32; 3]],
     work: &mut [u64],
 ) -> u64
-    requires { ⌜ WellFormed n (now candidates) (now weights) (now rows) × Starts (now candidates) (now starts) × (length (now candidates) ≤ length (now work)) ⌝ }
+    requires { ⌜ WellFormed n (now candidates) (now weights) (now rows) × Starts (now candidates) (now starts)
+        × (length (now candidates) ≤ length (now work)) ⌝ }
     ensures total { λ r. ⌜ r ≡ costOf (bestKey (problemFrom n (now (candidates .entry)) (now (weights .entry)) (now (rows .entry)))) ⌝ }
-    ensures work { λ _. ⌜ now (work .exit) ≡ filled (partTotals (problemFrom n (now (candidates .entry)) (now (weights .entry)) (now (rows .entry)))) (now (work .entry)) ⌝ }
+    ensures work { λ _. ⌜ now (work .exit)
+        ≡ filled (partTotals (problemFrom n (now (candidates .entry)) (now (weights .entry)) (now (rows .entry)))) (now (work .entry)) ⌝ }
 {
     costs::fill(n, starts, candidates, weights, rows, work);
     let last = (n - 1) as u8;

@@ -90,9 +90,11 @@ pub fn patch_file(
     work: &mut [u64],
 ) -> Outcome
     ensures { λ r. ⌜ patching r (tables (now (triangles .exit)) (now (candidates .exit)) (now (weights .exit)) (now (rows .exit)) (now (work .exit)))
-        ≡ patchFile limit (now (file .entry)) (tables (now (triangles .entry)) (now (candidates .entry)) (now (weights .entry)) (now (rows .entry)) (now (work .entry))) ⌝ }
+        ≡ patchFile limit (now (file .entry))
+        (tables (now (triangles .entry)) (now (candidates .entry)) (now (weights .entry)) (now (rows .entry)) (now (work .entry))) ⌝ }
     ensures { λ r. ⌜ valuesOf r
-        ≡ fileValues limit (now (file .entry)) (tables (now (triangles .entry)) (now (candidates .entry)) (now (weights .entry)) (now (rows .entry)) (now (work .entry))) ⌝ }
+        ≡ fileValues limit (now (file .entry))
+        (tables (now (triangles .entry)) (now (candidates .entry)) (now (weights .entry)) (now (rows .entry)) (now (work .entry))) ⌝ }
 {
     let reading = reader::read_polygon(limit, file);
     let status = reading.status;

@@ -40,9 +40,12 @@ pub fn write_preorder(
     work: &[u64],
     triangles: &mut [u16],
 )
-    requires { ⌜ WellFormed n (now candidates) (now weights) (now rows) × Starts (now candidates) (now starts) × (length (now candidates) ≤ length (now work)) × (n ≤ length (now triangles) + 2) ⌝ }
-    requires { ⌜ AllReady (problemFrom n (now candidates) (now weights) (now rows)) (now work) × (costOf (bestKey (problemFrom n (now candidates) (now weights) (now rows))) < noTotal) ⌝ }
-    ensures { λ _. ⌜ now (triangles .exit) ≡ filled (restOf (bestKey (problemFrom n (now (candidates .entry)) (now (weights .entry)) (now (rows .entry))))) (now (triangles .entry)) ⌝ }
+    requires { ⌜ WellFormed n (now candidates) (now weights) (now rows) × Starts (now candidates) (now starts)
+        × (length (now candidates) ≤ length (now work)) × (n ≤ length (now triangles) + 2) ⌝ }
+    requires { ⌜ AllReady (problemFrom n (now candidates) (now weights) (now rows)) (now work)
+        × (costOf (bestKey (problemFrom n (now candidates) (now weights) (now rows))) < noTotal) ⌝ }
+    ensures { λ _. ⌜ now (triangles .exit)
+        ≡ filled (restOf (bestKey (problemFrom n (now (candidates .entry)) (now (weights .entry)) (now (rows .entry))))) (now (triangles .entry)) ⌝ }
 {
     let last = (n - 1) as u8;
     let whole = Part::new(candidates.len(), 0, last);

@@ -39,7 +39,8 @@ fn add_between(table: &mut [u8; EDGES], t: [u8; 3])
 
 // One more at each of the two edges of t that have its third vertex outside.
 fn add_outside(table: &mut [u8; EDGES], t: [u8; 3])
-    requires { ⌜ (vertexA t < vertexB t) × (vertexB t < maxVertices) × (vertexC t < maxVertices) × Room (now table) (vertexA t) (vertexB t) × Room (now table) (vertexB t) (vertexC t) ⌝ }
+    requires { ⌜ (vertexA t < vertexB t) × (vertexB t < maxVertices) × (vertexC t < maxVertices) × Room (now table) (vertexA t) (vertexB t)
+        × Room (now table) (vertexB t) (vertexC t) ⌝ }
     ensures { λ _. ⌜ now (table .exit) ≡ added (added (now (table .entry)) (vertexA t) (vertexB t)) (vertexB t) (vertexC t) ⌝ }
 {
     add(table, t[0], t[1]);

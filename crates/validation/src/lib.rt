@@ -22,7 +22,8 @@ pub fn list_code(
     list: &[u16],
     stated: u64,
 ) -> u32
-    requires { ⌜ ValidProblem (problemFrom n (now candidates) (now weights) (now rows)) × (n ≤ maxVertices) × (length (now candidates) ≤ length (now weights)) × RowsAscend (now rows) ⌝ }
+    requires { ⌜ ValidProblem (problemFrom n (now candidates) (now weights) (now rows)) × (n ≤ maxVertices)
+        × (length (now candidates) ≤ length (now weights)) × RowsAscend (now rows) ⌝ }
     ensures { λ r. ⌜ r ≡ listCode (problemFrom n (now (candidates .entry)) (now (weights .entry)) (now (rows .entry))) (now (list .entry)) stated ⌝ }
 {
     if !names::names_triangles(n, candidates.len(), list) {
