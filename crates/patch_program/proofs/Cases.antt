@@ -3,8 +3,8 @@ use mathlib.Core.Path.{_≡_, refl}
 use mathlib.Core.List.{List, [], _∷_}
 use Prim.Native.Nat.{ℕ}
 use Rattle.terms.specs.Entries.{triple, hangs}
-use Rattle.patch_program.specs.declared.lines.Line.{Line}
-use Rattle.patch_program.specs.Lines.{linesOf}
+use Rattle.patch_lines.specs.declared.Line.{Line}
+use Rattle.patch_lines.specs.Lines.{linesOf}
 
 abbrev line : ℕ → ℕ → ℕ → ℕ → ℕ → Line
 line a b c weight row = record { a = a; b = b; c = c; weight = weight; row = row }

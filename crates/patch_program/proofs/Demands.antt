@@ -28,11 +28,11 @@ use Rattle.triangulator.proofs.Demands.{settled-handed}
 use Rattle.pipeline.specs.Patching.{Tables, tables, patching, weightsIn, rowsIn, problemIn, patched, patchBy, fileNumber, patchFile}
 use Rattle.pipeline.proofs.Accepted.{weight-count}
 use Rattle.pipeline.proofs.Values.{valid-job}
-use Rattle.patch_program.specs.declared.lines.Line.{Line}
+use Rattle.patch_lines.specs.declared.Line.{Line}
 use Rattle.patch_program.specs.Run.{emptyTables}
-use Rattle.patch_program.specs.Lines.{rowUnder, lineOf}
+use Rattle.patch_lines.specs.Lines.{rowUnder, lineOf}
 use Rattle.patch_program.specs.Demands.{weightsOn, LinesHold}
-use Rattle.patch_program.proofs.Hanging.{under-same, under-members}
+use Rattle.patch_lines.proofs.Hanging.{under-same, under-members}
 use Rattle.patch_program.proofs.Rows.{alone, file-valid}
 use Rattle.patch_program.proofs.Outers.{adds-up, few-outers, the-outer, outers-same, root-row}
 

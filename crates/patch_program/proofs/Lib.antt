@@ -1,4 +1,3 @@
-pub mod Hanging
 pub mod Rows
 pub mod Printing
 pub mod Outers

@@ -20,7 +20,7 @@ use Rattle.triangulation.proofs.SetParts.{both-eq, longEdge-is}
 use Rattle.triangulation.proofs.SetsToParts.{preorder-mem, preorder-sum}
 use Rattle.triangulation.proofs.Demand3.{members}
 use Rattle.validation.proofs.Hanging.{hangs-is}
-use Rattle.patch_program.specs.Lines.{rowUnder}
+use Rattle.patch_lines.specs.Lines.{rowUnder}
 
 -- on an edge that has a triangle between its ends no more than one is outside
 few-outside : (job : Problem) (b : Bool) (x y : ℕ) → 1 ≤ x → edgeOk job b x y ≡ true → y ≤ 1

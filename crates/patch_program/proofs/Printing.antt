@@ -18,11 +18,12 @@ use Rattle.triangulator.specs.declared.Outcome.{Outcome}
 use Rattle.triangulator.specs.Call.{Values, trianglesOf, dueValues, partOf}
 use Rattle.pipeline.specs.Patching.{Tables, tables, Patching, patching, problemIn, fileNumber, patchFile}
 use Rattle.pipeline.proofs.Values.{file-values}
-use Rattle.patch_program.specs.declared.lines.Line.{Line}
+use Rattle.patch_lines.specs.declared.Line.{Line}
 use Rattle.patch_program.specs.Run.{emptyTables}
-use Rattle.patch_program.specs.Lines.{linesOf, linePlaces, inPlaces, verticesOf, printoutAfter, printoutOf}
-use Rattle.patch_program.specs.Places.{rowCount}
-use Rattle.patch_program.proofs.Hanging.{line-same}
+use Rattle.patch_lines.specs.Lines.{linesOf, linePlaces, inPlaces, verticesOf}
+use Rattle.patch_program.specs.Printing.{printoutAfter, printoutOf}
+use Rattle.patch_lines.specs.Places.{rowCount}
+use Rattle.patch_lines.proofs.Hanging.{line-same}
 use Rattle.patch_program.proofs.Rows.{Counted, file-valid, rows-left}
 
 part-length : (n : ℕ) (t : List ℕ) → length (firstPlaces n t) ≤ n

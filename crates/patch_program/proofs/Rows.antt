@@ -27,18 +27,7 @@ use Rattle.rows.specs.Search.{RowsAscend}
 use Rattle.triangulator.proofs.Accepting.{well-formed}
 use Rattle.pipeline.specs.Patching.{Tables, weightsIn, rowsIn, jobIn, tablesShort, patchBy, polygonNumber, fileNumber, patchFile}
 use Rattle.pipeline.proofs.Accepted.{lists-accepted}
-use Rattle.patch_program.specs.Places.{rowCount}
-
--- ---- the count, from the front
-module _ (rows : List (List ℕ)) (i : ℕ) (h : i < length rows) where
-  pub count-stop : outer (entryAt rows i) ≡ inner (entryAt rows i) → rowCount (drop i rows) ≡ 0
-  count-stop e = ap rowCount (drop-cons rows i [] h) ∙ yes _ _ (eq-eqb _ _ e)
-
-  pub count-on : (outer (entryAt rows i) ≡ inner (entryAt rows i) → ⊥) → rowCount (drop i rows) ≡ suc (rowCount (drop (i + 1) rows))
-  count-on n = ap rowCount (drop-cons rows i [] h) ∙ no _ _ (ne-eqb _ _ n) ∙ ap (λ (k : ℕ). suc (rowCount (drop k rows))) (sym (add-one i))
-
-pub count-end : (rows : List (List ℕ)) (i : ℕ) → length rows ≤ i → rowCount (drop i rows) ≡ 0
-count-end rows i h = ap rowCount (drop-of-length-le rows h)
+use Rattle.patch_lines.specs.Places.{rowCount}
 
 -- ---- a table of zeros, and what is written into it
 zeros : ℕ → List (List ℕ)

@@ -9,8 +9,9 @@ use Rattle.reader.specs.Reading.{polygonOf}
 use Rattle.triangulator.specs.declared.Outcome.the-variants.{Patch}
 use Rattle.triangulator.specs.Call.{totalOf, partOf}
 use Rattle.pipeline.specs.Patching.{Patching}
-use Rattle.patch_program.specs.declared.lines.Line.{Line}
-use Rattle.patch_program.specs.Lines.{rowUnder, linesAfter, verticesOf}
+use Rattle.patch_lines.specs.declared.Line.{Line}
+use Rattle.patch_lines.specs.Lines.{rowUnder, verticesOf}
+use Rattle.patch_program.specs.Printing.{linesAfter}
 
 -- the fourth and fifth numbers of all lines, added up
 abbrev pub weightsOn : List Line → ℕ

@@ -1,4 +1,3 @@
 pub mod Run
-pub mod Lines
-pub mod Places
+pub mod Printing
 pub mod Demands

@@ -1,18 +1,16 @@
 // What the programs bench and trim do with the rim file that they read, of either edition: they close its gap and print the patch, and differ in their
 // limit (rules 5.3, 5.4, 5.9).
-mod lines;
 mod output;
 
-use lines::Line;
+use patch_lines::Line;
+use patch_lines::TRIANGLES;
 use triangulator::Outcome;
 ghost use mathlib.Core.Path.{_≡_};
 ghost use Rattle.pipeline.specs.Patching.{patchFile};
 ghost use Rattle.patch_program.specs.Run.{emptyTables};
-ghost use Rattle.patch_program.specs.Lines.{printoutOf};
+ghost use Rattle.patch_program.specs.Printing.{printoutOf};
 
-// Places of the tables. A rim of 64 points has at most 62 triangles; a few rims need more of the others than there is (rule 5.3).
-const TRIANGLES: usize = 62;
-
+// Places of the tables beside that for triangles; a few rims need more than there is (rule 5.3).
 const CANDIDATES: usize = 1024;
 
 const ROWS: usize = 4096;
@@ -42,10 +40,10 @@ pub fn printout_of(limit: usize, file: &[u8]) -> Printout
         &mut rows,
         &mut work,
     );
-    let vertices = lines::vertices_of(outcome);
-    let row_count = lines::row_count(&rows);
+    let vertices = patch_lines::vertices_of(outcome);
+    let row_count = patch_lines::row_count(&rows);
     let patch = triangulator::part(&triangles, outcome);
-    let lines = lines::lines_of(&candidates, &weights, &rows[..row_count], patch);
+    let lines = patch_lines::lines_of(&candidates, &weights, &rows[..row_count], patch);
     Printout {
         outcome,
         vertices,

@@ -1,7 +1,7 @@
 // The lines that are printed.
 use crate::Printout;
-use crate::TRIANGLES;
-use crate::lines::Line;
+use patch_lines::Line;
+use patch_lines::TRIANGLES;
 use triangulator::Outcome;
 
 fn print_number(number: u32) {

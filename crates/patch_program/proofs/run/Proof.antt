@@ -1,7 +1,7 @@
 -- `patch_program::run` meets its contract. Assumes nothing.
 use mathlib.Core.Path.{ap}
 use Rattle.patch_program.specs.declared.Printout.{Printout}
-use Rattle.patch_program.specs.Lines.{printoutOf}
+use Rattle.patch_program.specs.Printing.{printoutOf}
 use borrow.Author.Needs.{needs}
 use Rattle.patch_program.proofs.run.Statement.{statement}
 use Rattle.patch_program.proofs.run.Tie as tie

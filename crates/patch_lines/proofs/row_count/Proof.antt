@@ -1,14 +1,14 @@
--- `patch_program::lines::row_count` meets its contract: the rows before place i are counted. Assumes nothing.
+-- `patch_lines::row_count` meets its contract: the rows before place i are counted. Assumes nothing.
 use mathlib.Core.Path.{_≡_, refl}
 use Prim.Native.Nat.{_+_, _-_, _≤_}
 use native.Mathlib.Omega.{arith}
 use denote.Ref.{now}
 use lib.ListN.{length, drop}
-use Rattle.patch_program.specs.Places.{rowCount}
-use Rattle.patch_program.proofs.Rows.{count-stop, count-on, count-end}
+use Rattle.patch_lines.specs.Places.{rowCount}
+use Rattle.patch_lines.proofs.Counting.{count-stop, count-on, count-end}
 use borrow.Author.Needs.{needs}
-use Rattle.patch_program.proofs.lines.row_count.Statement.{statement}
-use Rattle.patch_program.proofs.lines.row_count.Tie as tie
+use Rattle.patch_lines.proofs.row_count.Statement.{statement}
+use Rattle.patch_lines.proofs.row_count.Tie as tie
 
 abbrev Inv-loop : tie.InvT-loop
 Inv-loop rows i₀ i-end i = (i-end ≡ length rows) × (i ≤ length rows) × (rowCount rows ≡ i + rowCount (drop i rows))

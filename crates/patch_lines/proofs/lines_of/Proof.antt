@@ -1,4 +1,4 @@
--- `patch_program::lines::lines_of` meets its contract: the lines of the first k triangles are written. Assumes nothing.
+-- `patch_lines::lines_of` meets its contract: the lines of the first k triangles are written. Assumes nothing.
 use mathlib.Core.Path.{_≡_, refl}
 use mathlib.Core.List.{map}
 use Prim.Native.Nat.{_-_}
@@ -6,11 +6,11 @@ use native.Mathlib.Omega.{arith}
 use denote.Ref.{now}
 use lib.ListN.{length, length-map, drop, replicate}
 use Rattle.lists.proofs.Writing.{Writing, start, turn, push, all, rest-end}
-use Rattle.patch_program.specs.Lines.{lineOf, noLine, linePlaces}
-use Rattle.patch_program.proofs.Hanging.{next-line}
+use Rattle.patch_lines.specs.Lines.{lineOf, noLine, linePlaces}
+use Rattle.patch_lines.proofs.Hanging.{next-line}
 use borrow.Author.Needs.{needs}
-use Rattle.patch_program.proofs.lines.lines_of.Statement.{statement}
-use Rattle.patch_program.proofs.lines.lines_of.Tie as tie
+use Rattle.patch_lines.proofs.lines_of.Statement.{statement}
+use Rattle.patch_lines.proofs.lines_of.Tie as tie
 
 abbrev Inv-loop : tie.InvT-loop
 Inv-loop candidates weights rows patch lines₀ k₀ k-end lines k = (k-end ≡ length patch) × Writing (map (lineOf candidates weights rows patch) patch) (map (lineOf candidates weights rows patch) (drop k patch)) (replicate linePlaces noLine) 0 lines k

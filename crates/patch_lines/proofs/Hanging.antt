@@ -11,8 +11,8 @@ use Rattle.lists.proofs.Choice.{yes, no}
 use Rattle.lists.proofs.Writing.{rest-step}
 use Rattle.terms.specs.Entries.{triple, entryAt, hangs}
 use Rattle.triangulation.specs.Problems.{pairWeight}
-use Rattle.patch_program.specs.declared.lines.Line.{Line}
-use Rattle.patch_program.specs.Lines.{rowUnder, lineOf}
+use Rattle.patch_lines.specs.declared.Line.{Line}
+use Rattle.patch_lines.specs.Lines.{rowUnder, lineOf}
 
 -- within a list what stands for a missing entry does not matter
 pub any-default : {A : Type 0} (l : List A) (i : ℕ) (d e : A) → i < length l → getD l i d ≡ getD l i e

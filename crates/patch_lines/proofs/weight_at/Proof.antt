@@ -1,10 +1,10 @@
--- `patch_program::lines::weight_at` meets its contract. Assumes nothing.
+-- `patch_lines::weight_at` meets its contract. Assumes nothing.
 use mathlib.Core.Path.{sym}
 use denote.Ref.{now}
 use lib.ListN.{List·getD-eq-default}
 use borrow.Author.Needs.{needs}
-use Rattle.patch_program.proofs.lines.weight_at.Statement.{statement}
-use Rattle.patch_program.proofs.lines.weight_at.Tie as tie
+use Rattle.patch_lines.proofs.weight_at.Statement.{statement}
+use Rattle.patch_lines.proofs.weight_at.Tie as tie
 
 returns : tie.Need-returns
 returns c = sym (List·getD-eq-default (now (c .before .args .weights)) 0 (c .if1 .taken))

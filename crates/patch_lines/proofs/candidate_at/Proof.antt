@@ -1,13 +1,13 @@
--- `patch_program::lines::candidate_at` meets its contract. Assumes nothing.
+-- `patch_lines::candidate_at` meets its contract. Assumes nothing.
 use mathlib.Core.Path.{sym}
 use mathlib.Core.List.{[]}
 use denote.Ref.{now}
 use lib.ListN.{List·getD-eq-default}
 use Rattle.terms.specs.Entries.{triple}
-use Rattle.patch_program.proofs.Hanging.{any-default}
+use Rattle.patch_lines.proofs.Hanging.{any-default}
 use borrow.Author.Needs.{needs}
-use Rattle.patch_program.proofs.lines.candidate_at.Statement.{statement}
-use Rattle.patch_program.proofs.lines.candidate_at.Tie as tie
+use Rattle.patch_lines.proofs.candidate_at.Statement.{statement}
+use Rattle.patch_lines.proofs.candidate_at.Tie as tie
 
 returns : tie.Need-returns
 returns c = sym (List·getD-eq-default (now (c .before .args .candidates)) (triple 0 0 0) (c .if1 .taken))

@@ -1,14 +1,14 @@
--- `patch_program::lines::row_under` meets its contract: the triangles before place k are not what t hangs on. Assumes nothing.
+-- `patch_lines::row_under` meets its contract: the triangles before place k are not what t hangs on. Assumes nothing.
 use mathlib.Core.Path.{_≡_, refl, sym, _∙_}
 use Prim.Native.Nat.{_-_}
 use native.Mathlib.Omega.{arith}
 use denote.Ref.{now}
 use lib.ListN.{length, drop}
-use Rattle.patch_program.specs.Lines.{rowUnder}
-use Rattle.patch_program.proofs.Hanging.{hangs-same, under-found, under-next, under-end}
+use Rattle.patch_lines.specs.Lines.{rowUnder}
+use Rattle.patch_lines.proofs.Hanging.{hangs-same, under-found, under-next, under-end}
 use borrow.Author.Needs.{needs}
-use Rattle.patch_program.proofs.lines.row_under.Statement.{statement}
-use Rattle.patch_program.proofs.lines.row_under.Tie as tie
+use Rattle.patch_lines.proofs.row_under.Statement.{statement}
+use Rattle.patch_lines.proofs.row_under.Tie as tie
 
 abbrev Inv-loop : tie.InvT-loop
 Inv-loop candidates rows patch t inner k₀ k-end k = (k-end ≡ length patch) × (rowUnder candidates rows (drop k patch) t ≡ rowUnder candidates rows patch t)

@@ -1,5 +1,4 @@
-// The numbers on the lines of a patch (rule 5.4).
-use crate::TRIANGLES;
+// The numbers on the lines of a patch (rule 5.4). The functions serve the programs that print them, and what one of them asks its callers meet.
 use jobs::pairs::hangs_on;
 use triangulator::Outcome;
 ghost use mathlib.Core.Path.{_≡_};
@@ -8,8 +7,11 @@ ghost use lib.ListN.{getD, length};
 ghost use Rattle.terms.specs.Entries.{triple};
 ghost use Rattle.triangulator.specs.Call.{trianglesOf};
 ghost use Rattle.rows.specs.Search.{RowsAscend};
-ghost use Rattle.patch_program.specs.Lines.{verticesOf, rowUnder, lineOf, linesOf, linePlaces, inPlaces};
-ghost use Rattle.patch_program.specs.Places.{rowCount};
+ghost use Rattle.patch_lines.specs.Lines.{verticesOf, rowUnder, lineOf, linesOf, linePlaces, inPlaces};
+ghost use Rattle.patch_lines.specs.Places.{rowCount};
+
+// A rim of 64 points has at most 62 triangles (rule 5.3).
+pub const TRIANGLES: usize = 62;
 
 // A triangle's vertices, its own weight, and the row weight of the pair that it is the inner of.
 pub struct Line {
@@ -21,7 +23,7 @@ pub struct Line {
 }
 
 // The vertices of a patch, two more than its triangles; 0 where there is none.
-pub(crate) fn vertices_of(outcome: Outcome) -> usize
+pub fn vertices_of(outcome: Outcome) -> usize
     requires { ⌜ trianglesOf outcome ≤ linePlaces ⌝ }
     ensures { λ r. ⌜ r ≡ verticesOf outcome ⌝ }
 {
@@ -102,7 +104,7 @@ fn line_of(
 }
 
 // The lines of a patch in walk order; the places after them hold zeros.
-pub(crate) fn lines_of(
+pub fn lines_of(
     candidates: &[[u8; 3]],
     weights: &[u32],
     rows: &[[u32; 3]],
@@ -126,7 +128,7 @@ pub(crate) fn lines_of(
 }
 
 // How many rows a table begins with. The places after them name candidate 0 twice, as the program made them; no candidate hangs on itself, so no row does.
-pub(crate) fn row_count(rows: &[[u32; 3]]) -> usize
+pub fn row_count(rows: &[[u32; 3]]) -> usize
     ensures { λ r. ⌜ (r ≡ rowCount (now (rows .entry))) × (r ≤ length (now (rows .entry))) ⌝ }
 {
     for i in 0..rows.len() {

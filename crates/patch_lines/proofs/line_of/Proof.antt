@@ -1,10 +1,10 @@
--- `patch_program::lines::line_of` meets its contract. Assumes nothing.
+-- `patch_lines::line_of` meets its contract. Assumes nothing.
 use mathlib.Core.Path.{refl}
 use denote.Ref.{now}
-use Rattle.patch_program.proofs.Hanging.{corner}
+use Rattle.patch_lines.proofs.Hanging.{corner}
 use borrow.Author.Needs.{needs}
-use Rattle.patch_program.proofs.lines.line_of.Statement.{statement}
-use Rattle.patch_program.proofs.lines.line_of.Tie as tie
+use Rattle.patch_lines.proofs.line_of.Statement.{statement}
+use Rattle.patch_lines.proofs.line_of.Tie as tie
 
 candidate-at-requires : tie.Need-candidate-at-requires
 candidate-at-requires c κs = search needs

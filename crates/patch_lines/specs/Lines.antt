@@ -1,4 +1,4 @@
--- The lines that a program prints for a patch (rule 5.4). Definitions only.
+-- The lines of a patch (rule 5.4), from its triangles and a job's lists. Definitions only.
 use mathlib.Core.Bool.{cond}
 use mathlib.Core.List.{List, [], _∷_, map}
 use Prim.Native.Nat.{ℕ, _+_}
@@ -8,11 +8,7 @@ use Rattle.terms.specs.Entries.{entryAt, vertexA, vertexB, vertexC, hangs}
 use Rattle.triangulation.specs.Problems.{pairWeight}
 use Rattle.triangulator.specs.declared.Outcome.{Outcome}
 use Rattle.triangulator.specs.declared.Outcome.the-variants.{Patch, None, Refused}
-use Rattle.triangulator.specs.Call.{partOf}
-use Rattle.pipeline.specs.Patching.{Patching, patchFile}
-use Rattle.patch_program.specs.declared.lines.Line.{Line}
-use Rattle.patch_program.specs.declared.Printout.{Printout}
-use Rattle.patch_program.specs.Run.{emptyTables}
+use Rattle.patch_lines.specs.declared.Line.{Line}
 
 -- the row weight of the pair that candidate t is the inner of: its outer is the triangle of the patch that t hangs on; 0 where t hangs on none of them,
 -- as the first (rule 5.4)
@@ -35,10 +31,6 @@ lineOf candidates weights rows patch t = record {
 abbrev pub linesOf : List (List ℕ) → List ℕ → List (List ℕ) → List ℕ → List Line
 linesOf candidates weights rows patch = map (lineOf candidates weights rows patch) patch
 
--- the lines after a call, of the part handed back and by the tables that it left: so none after 'none' and in a refusal (rules 3.8, 3.9, 5.4)
-abbrev pub linesAfter : Patching → List Line
-linesAfter r = linesOf (r .left .candidates) (r .left .weights) (r .left .rows) (partOf (r .outcome) (r .left .triangles))
-
 -- a place that no line needs
 abbrev pub noLine : Line
 noLine = record { a = 0; b = 0; c = 0; weight = 0; row = 0 }
@@ -56,11 +48,3 @@ abbrev pub verticesOf : Outcome → ℕ
 verticesOf (Patch count total) = count + 2
 verticesOf None = 0
 verticesOf (Refused r) = 0
-
--- what is printed after a call: its outcome, the number of vertices, and the lines in the first places (rule 5.4)
-abbrev pub printoutAfter : Patching → Printout
-printoutAfter r = record { outcome = r .outcome; vertices = verticesOf (r .outcome); lines = inPlaces (linesAfter r) }
-
--- what is printed for a file under a limit (rules 5.3, 5.4, 5.9)
-unfoldable pub printoutOf : ℕ → List ℕ → Printout
-printoutOf limit file = printoutAfter (patchFile limit file emptyTables)

@@ -1,11 +1,11 @@
--- `patch_program::lines::vertices_of` meets its contract. Assumes nothing.
+-- `patch_lines::vertices_of` meets its contract. Assumes nothing.
 use mathlib.Core.Path.{sym, ap}
 use native.Mathlib.Omega.{arith}
 use Rattle.triangulator.specs.Call.{trianglesOf}
-use Rattle.patch_program.specs.Lines.{verticesOf}
+use Rattle.patch_lines.specs.Lines.{verticesOf}
 use borrow.Author.Needs.{needs}
-use Rattle.patch_program.proofs.lines.vertices_of.Statement.{statement}
-use Rattle.patch_program.proofs.lines.vertices_of.Tie as tie
+use Rattle.patch_lines.proofs.vertices_of.Statement.{statement}
+use Rattle.patch_lines.proofs.vertices_of.Tie as tie
 
 enum-known-outcome : tie.Need-enum-known-outcome
 enum-known-outcome c = search needs
