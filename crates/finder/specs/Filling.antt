@@ -37,7 +37,8 @@ pub record Room (p : Polygon) (found candidates : List (List ℕ)) (weights : Li
   pub for-rows : length (rowsOf p found) ≤ length rows
 
 -- what the tables hold then: the lists in their first places
-pub record Written (p : Polygon) (found candidates : List (List ℕ)) (weights : List ℕ) (rows candidates′ : List (List ℕ)) (weights′ : List ℕ) (rows′ : List (List ℕ)) : Type 0 where
+pub record Written (p : Polygon) (found candidates : List (List ℕ)) (weights : List ℕ) (rows : List (List ℕ))
+    (candidates′ : List (List ℕ)) (weights′ : List ℕ) (rows′ : List (List ℕ)) : Type 0 where
   pub the-candidates : candidates′ ≡ filled found candidates
   pub the-weights : weights′ ≡ filled (weightsOf p found) weights
   pub the-rows : rows′ ≡ filled (rowsOf p found) rows

@@ -8,7 +8,8 @@ ghost use mathlib.Core.Path.{_≡_};
 ghost use Rattle.grid.specs.Point.{PointOnGrid};
 ghost use Rattle.integers.specs.Bounds.{AtMost};
 ghost use Rattle.geometry.specs.Vectors.{scaledBy, plus, minus};
-ghost use Rattle.geometry.specs.Bounds.{maxDifference, maxSquare, maxNormal, maxOrient, maxCrossed, maxCentre, Within, LiftedBounds, PencilBounds, SphereBounds};
+ghost use Rattle.geometry.specs.Bounds.{maxDifference, maxSquare, maxNormal, maxOrient, maxCrossed};
+ghost use Rattle.geometry.specs.Bounds.{maxCentre, Within, LiftedBounds, PencilBounds, SphereBounds};
 ghost use Rattle.geometry.specs.Lifting.{liftOf, pencilOf, turned, sphereOf, positionBy};
 
 // A point as seen from the base, with its squared distance: the lifting map of Delaunay triangulation.

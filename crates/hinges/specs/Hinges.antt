@@ -5,7 +5,7 @@ use Prim.Native.Nat.{ℕ, _+_, _*_, _≤_, _<_}
 use lib.Dec.{eqb}
 use lib.ListN.{length, getD}
 use Rattle.terms.specs.Limits.{maxVertices, maxTriples}
-use Rattle.terms.specs.Entries.{entryAt, vertexA, vertexB, vertexC, sameEdge, hangs}
+use Rattle.terms.specs.Entries.{entryAt, vertexA, vertexB, vertexC, longEdgeIs, hangs}
 use Rattle.lists.specs.Lists.{over, when}
 use Rattle.blocks.specs.Blocks.{ByFirst}
 
@@ -23,7 +23,8 @@ innersOf candidates = over 0 (length candidates) (innersOn candidates)
 
 -- those whose edge (a, c) is candidate o's edge (a, b), for e = 0, or (b, c), for e = 1
 abbrev pub innersAt : List (List ℕ) → ℕ → ℕ → List ℕ
-innersAt candidates o e = over 0 (length candidates) (λ i. when (sameEdge (vertexA (entryAt candidates i)) (vertexC (entryAt candidates i)) (getD (entryAt candidates o) e 0) (getD (entryAt candidates o) (e + 1) 0)) i)
+innersAt candidates o e = over 0 (length candidates) (λ i.
+    when (longEdgeIs (entryAt candidates i) (getD (entryAt candidates o) e 0) (getD (entryAt candidates o) (e + 1) 0)) i)
 
 -- the candidates from lo to hi - 1 that end in vertex c
 abbrev pub endingIn : List (List ℕ) → ℕ → ℕ → ℕ → List ℕ

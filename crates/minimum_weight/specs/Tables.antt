@@ -9,7 +9,7 @@ use lib.Dec.{eqb, ltb, leb}
 use Rattle.minimum_weight.specs.declared.choice.Pick.{Pick}
 use Rattle.lists.specs.Lists.{over, both}
 use Rattle.terms.specs.Limits.{maxTriples}
-use Rattle.terms.specs.Entries.{entryAt, vertexA, vertexB, vertexC}
+use Rattle.terms.specs.Entries.{entryAt, vertexA, vertexB, longEdgeIs}
 use Rattle.rows.specs.Search.{RowsAscend}
 use Rattle.blocks.specs.Blocks.{ByFirst}
 use Rattle.triangulation.specs.Triangulations.{Problem, ValidProblem}
@@ -19,7 +19,8 @@ use Rattle.triangulation.specs.Recursion.{addRow, bestUnder, bestFrom, costOf, 
 -- candidates ascend by a, then b
 pub record Ascending (candidates : List (List ℕ)) : Type 0 where
   pub by-first : ByFirst candidates
-  pub b-up : (k l : ℕ) → k < l → l < length candidates → vertexA (entryAt candidates k) ≡ vertexA (entryAt candidates l) → vertexB (entryAt candidates k) ≤ vertexB (entryAt candidates l)
+  pub b-up : (k l : ℕ) → k < l → l < length candidates
+      → vertexA (entryAt candidates k) ≡ vertexA (entryAt candidates l) → vertexB (entryAt candidates k) ≤ vertexB (entryAt candidates l)
 
 -- p, or candidate u where it is on the edge and its total with the row's weight is lower: d is its own total, w the row's weight
 unfoldable pub betterOf : Pick → ℕ → Bool → ℕ → ℕ → Pick
@@ -32,7 +33,7 @@ pickBelow on d w (suc k) = betterOf (pickBelow on d w k) k (on k) (d k) (w k)
 
 -- (i, j) is candidate k's edge (a, c)
 abbrev pub onEdge : List (List ℕ) → ℕ → ℕ → ℕ → Bool
-onEdge candidates i j k = both (eqb (vertexA (entryAt candidates k)) i) (eqb (vertexC (entryAt candidates k)) j)
+onEdge candidates i j k = longEdgeIs (entryAt candidates k) i j
 
 -- the best candidate (i, x, j) under t
 unfoldable pub pickUnder : List (List ℕ) → List ℕ → List (List ℕ) → ℕ → ℕ → ℕ → Pick
@@ -77,13 +78,22 @@ AllReady job work = (u : ℕ) → u < job .size → Ready job work u
 abbrev pub ReadyAt : Problem → List ℕ → ℕ → ℕ → Type 0
 ReadyAt job work i j = (u : ℕ) → u < job .size → job .a u ≡ i → job .c u ≡ j → Ready job work u
 
+-- so it is for the candidates beneath candidate t
+abbrev pub ReadyBeneath : Problem → List ℕ → ℕ → Type 0
+ReadyBeneath job work t = ReadyAt job work (job .a t) (job .b t) × ReadyAt job work (job .b t) (job .c t)
+
 -- so it is for all candidates from `low` on; the places that are no candidate's are as in `before`
 pub record Filled (job : Problem) (before : List ℕ) (low : ℕ) (work : List ℕ) : Type 0 where
   pub long : length work ≡ length before
   pub kept : drop (job .size) work ≡ drop (job .size) before
   pub ready : (u : ℕ) → u < job .size → low ≤ u → Ready job work u
 
+-- triangle u is on the edge (i, j), and the best part beneath that edge of t starts with it
+abbrev pub StartsBest : Problem → ℕ → ℕ → ℕ → ℕ → Type 0
+StartsBest job t i j u = (u < job .size) × (job .a u ≡ i) × (job .c u ≡ j)
+    × (bestUnder job (job .n) t i j ≡ addRow (job .row t u) (bestFrom job (job .n) u))
+
 -- what is found for the edge (i, j) of t: the best total beneath it with the row to t, and the triangle that starts it
 pub record Found (job : Problem) (t i j : ℕ) (p : Pick) : Type 0 where
   pub cost : p .cost ≡ costOf (bestUnder job (job .n) t i j)
-  pub at : j ≢ i + 1 → p .cost < noTotal → (p .at < job .size) × (job .a (p .at) ≡ i) × (job .c (p .at) ≡ j) × (bestUnder job (job .n) t i j ≡ addRow (job .row t (p .at)) (bestFrom job (job .n) (p .at)))
+  pub at : j ≢ i + 1 → p .cost < noTotal → StartsBest job t i j (p .at)

@@ -11,9 +11,8 @@ ghost use Rattle.triangulation.specs.Problems.{problemFrom};
 ghost use Rattle.triangulation.specs.Recursion.{costOf, bestFrom};
 ghost use Rattle.blocks.specs.Blocks.{Starts};
 ghost use Rattle.terms.specs.Limits.{maxVertices};
-ghost use Rattle.terms.specs.Entries.{entryAt, vertexA, vertexB, vertexC};
 ghost use Rattle.rows.specs.Search.{Run};
-ghost use Rattle.minimum_weight.specs.Tables.{WellFormed, Cost, joinCost, ReadyAt, Filled, partTotals};
+ghost use Rattle.minimum_weight.specs.Tables.{WellFormed, Cost, joinCost, ReadyBeneath, Filled, partTotals};
 
 // The total of a triangle of weight w over parts of totals left and right.
 fn join_cost(w: u32, left: u64, right: u64) -> u64
@@ -42,8 +41,7 @@ fn cost_of(
 ) -> u64
     requires { ⌜ WellFormed n (now candidates) (now weights) (now rows) × Starts (now candidates) (now starts)
         × (length (now candidates) ≤ length (now work)) × (t < length (now candidates)) × Run (now rows) t (now run) ⌝ }
-    requires { ⌜ ReadyAt (problemFrom n (now candidates) (now weights) (now rows)) (now work) (vertexA (entryAt (now candidates) t)) (vertexB (entryAt (now candidates) t))
-        × ReadyAt (problemFrom n (now candidates) (now weights) (now rows)) (now work) (vertexB (entryAt (now candidates) t)) (vertexC (entryAt (now candidates) t)) ⌝ }
+    requires { ⌜ ReadyBeneath (problemFrom n (now candidates) (now weights) (now rows)) (now work) t ⌝ }
     ensures { λ r. ⌜ r ≡ costOf (bestFrom (problemFrom n (now (candidates .entry)) (now (weights .entry)) (now (rows .entry))) n t) ⌝ }
 {
     let triangle = candidates[t];

@@ -13,7 +13,8 @@ use Rattle.grid.specs.declared.GridPoint.{GridPoint}
 use Rattle.polygon.specs.Normal.{noNormal, NormalInRange}
 use Rattle.polygon.specs.declared.normal.Normal.{Normal}
 use Rattle.terms.specs.Limits.{minVertices, maxVertices, maxAreaFactor, countFits}
-use Rattle.rim_file.specs.File.{isEdition2, headerSize, headerStart, recordSize, areaFactor, recordCount, lengthWrong, offset, kind, firstNumber, secondNumber, thirdNumber, tailZero}
+use Rattle.rim_file.specs.File.{isEdition2, headerSize, headerStart, recordSize, areaFactor, recordCount, lengthWrong}
+use Rattle.rim_file.specs.File.{offset, kind, firstNumber, secondNumber, thirdNumber, tailZero}
 use Rattle.rim_file.specs.Record.{floatsOf, heldNormal, normalNumbersOf}
 use Rattle.reader.specs.Chain.{link}
 use Rattle.reader.specs.Order.{FilePlace, request, header, link-to, record-at, rim}

@@ -11,7 +11,8 @@ use Rattle.polygon.specs.Polygon.{origin}
 use Rattle.rim_file.specs.File.{recordNumbers}
 use Rattle.rim_file.specs.Record.{heightOf}
 use Rattle.rim_file.specs.declared.Vertex.the-variants.{At}
-use Rattle.reader.specs.Chain.{link, metBefore, heightBefore, vertexAtPosition, normalAtPosition, positionCode, chainCode, vertexCount, verticesOf, normalsOf}
+use Rattle.reader.specs.Chain.{link, metBefore, heightBefore, vertexAtPosition, normalAtPosition}
+use Rattle.reader.specs.Chain.{positionCode, chainCode, vertexCount, verticesOf, normalsOf}
 use Rattle.reader.specs.declared.Chain.{Chain}
 use Rattle.reader.specs.declared.Progress.{Progress}
 

@@ -2,7 +2,8 @@
 ghost use mathlib.Core.Path.{_≡_};
 ghost use Prim.Native.Nat.{_+_, _-_, _*_, _≤_, _<_};
 ghost use lib.ListN.{length};
-ghost use Rattle.rim_file.specs.File.{isEdition2, markerSize, headerSize, recordSize2, layout1, layout2, layoutOf, headerStart, recordCount, recordNumbers, lengthWrong};
+ghost use Rattle.rim_file.specs.File.{isEdition2, markerSize, headerSize, recordSize2, layout1, layout2};
+ghost use Rattle.rim_file.specs.File.{layoutOf, headerStart, recordCount, recordNumbers, lengthWrong};
 use crate::Layout;
 use crate::bytes;
 

@@ -54,8 +54,10 @@ rowBefore r s = lexicographic (outer r) (outer s) (ltb (inner r) (inner s))
 abbrev pub sameEdge : ℕ → ℕ → ℕ → ℕ → Bool
 sameEdge i j k l = both (eqb i k) (eqb j l)
 
+-- candidate t's edge (a, c) is the edge (i, j) (rule 2.9)
+abbrev pub longEdgeIs : List ℕ → ℕ → ℕ → Bool
+longEdgeIs t i j = sameEdge (vertexA t) (vertexC t) i j
+
 -- candidate t hangs on candidate u: its edge (a, c) is the edge (a, b) or (b, c) of u (rule 2.9)
 unfoldable pub hangs : List ℕ → List ℕ → Bool
-hangs t u =
-    either (sameEdge (vertexA t) (vertexC t) (vertexA u) (vertexB u))
-    (sameEdge (vertexA t) (vertexC t) (vertexB u) (vertexC u))
+hangs t u = either (longEdgeIs t (vertexA u) (vertexB u)) (longEdgeIs t (vertexB u) (vertexC u))

@@ -37,13 +37,17 @@ restOf [] = []
 restOf (x ∷ l) = l
 
 module _ (job : Problem) where
+  -- the key of triangle u over the best keys beneath its two edges, which the first argument gives
+  abbrev pub keyOver : (ℕ → ℕ → ℕ → List ℕ) → ℕ → List ℕ
+  keyOver under u = join (job .weight u) u (under u (job .a u) (job .b u)) (under u (job .b u) (job .c u))
+
   -- the best key beneath the edge (i, j) of triangle t, with the row to t; the first argument bounds the depth
   unfoldable pub bestUnder : ℕ → ℕ → ℕ → ℕ → List ℕ
   bestUnder zero t i j = []
   bestUnder (suc f) t i j = cond (eqb j (i + 1)) (0 ∷ [])
-      (least (map (λ u. addRow (job .row t u) (join (job .weight u) u (bestUnder f u (job .a u) (job .b u)) (bestUnder f u (job .b u) (job .c u)))) (keep (longEdge job i j) (numbersFrom 0 (job .size)))))
+      (least (map (λ u. addRow (job .row t u) (keyOver (bestUnder f) u)) (keep (longEdge job i j) (numbersFrom 0 (job .size)))))
 
   -- the best key that starts with triangle u
   unfoldable pub bestFrom : ℕ → ℕ → List ℕ
   unfolding bestUnder
-  bestFrom f u = join (job .weight u) u (bestUnder f u (job .a u) (job .b u)) (bestUnder f u (job .b u) (job .c u))
+  bestFrom f u = keyOver (bestUnder f) u

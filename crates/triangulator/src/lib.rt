@@ -9,7 +9,8 @@ ghost use Rattle.triangulation.specs.Triangulations.{best};
 ghost use Rattle.triangulation.specs.Problems.{problemFrom};
 ghost use Rattle.minimum_weight.specs.Tables.{WellFormed};
 ghost use Rattle.jobs.specs.Job.{jobOf};
-ghost use Rattle.triangulator.specs.Call.{numberOf, trianglesOf, totalOf, valuesOf, answerValues, triangulatedValues, partOf, result, settled, triangulated};
+ghost use Rattle.triangulator.specs.Call.{numberOf, trianglesOf, totalOf, valuesOf, answerValues};
+ghost use Rattle.triangulator.specs.Call.{triangulatedValues, partOf, result, settled, triangulated};
 
 // A patch with the number of its triangles and its total, 'none', or a refusal.
 pub enum Outcome {
