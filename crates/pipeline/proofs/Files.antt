@@ -7,12 +7,14 @@ use native.Mathlib.Omega.{arith}
 use Rattle.codes.specs.declared.Refusal.{Refusal}
 use Rattle.codes.specs.Refusals.{refusal}
 use Rattle.polygon.specs.declared.Polygon.{Polygon}
+use Rattle.reader.specs.declared.Status.{Status}
 use Rattle.reader.specs.declared.Status.the-variants as status
 use Rattle.reader.specs.declared.Reading.{Reading}
 use Rattle.terms.specs.Numbers.{firstDue}
 use Rattle.reader.specs.Reading.{polygonOf, answer, readingOf}
 use Rattle.reader.specs.Reading as reader
-use Rattle.finder.specs.Finding.{numberDue}
+use Rattle.finder.specs.declared.Found.the-variants as found
+use Rattle.finder.specs.Finding.{Finding, finding, numberDue, findCall}
 use Rattle.finder.specs.declared.Sizes.{Sizes}
 use Rattle.finder.specs.declared.Sizes.the-variants as sizes
 use Rattle.finder.specs.Sizes.{noPlaces, numberOf, placesIn, duePlaces, sizesBy, sizesOf}
@@ -76,6 +78,23 @@ module _ (limit : ℕ) (s : List ℕ) {r : Reading} where
       (x ≡ sizesFile limit s) × ((numberOf x ≡ sizesNumber limit s) × (placesIn x ≡ duePlaces (sizesNumber limit s) (polygonOf s)))
   unfolding sizesFile
   sizes-read d e f = values limit s (f ∙ by-polygon limit s e sizesBy (λ (k : Refusal). sizes.Refused k) (λ k. refl) (λ (p : Polygon). numberDue false p) d)
+
+-- the finder's call on a refusal, and on a file that is read
+module _ (limit : ℕ) (s : List ℕ) (candidates : List (List ℕ)) (weights : List ℕ) (rows : List (List ℕ)) {r : Reading} where
+  lists-after : {x : Status} → r .status ≡ x → r ≡ readingOf limit s → findAfter x (r .polygon) candidates weights rows ≡ findFile limit s candidates weights rows
+  unfolding findFile
+  lists-after d e =
+      ap (λ (x : Status). findAfter x (r .polygon) candidates weights rows) (sym d)
+      ∙ ap (λ (x : Reading). findAfter (x .status) (x .polygon) candidates weights rows) e
+
+  pub lists-refused :
+      {k : Refusal} → r .status ≡ status.Refused k → r ≡ readingOf limit s → finding (found.Refused k) candidates weights rows ≡ findFile limit s candidates weights rows
+  lists-refused d e = lists-after d e
+
+  pub lists-read :
+      {x : Finding} → r .status ≡ status.Complete → r ≡ readingOf limit s → x ≡ findCall (r .polygon) candidates weights rows →
+      x ≡ findFile limit s candidates weights rows
+  lists-read d e f = f ∙ lists-after d e
 
 -- the finder's call goes by the reading alone: two files, each under a limit, that are read alike are answered alike (rules 1.16, 3.11)
 pub lists-alike : (small large : ℕ) (s t : List ℕ) → readingOf small s ≡ readingOf large t →

@@ -8,12 +8,14 @@ ghost use mathlib.Core.Path.{_≡_};
 ghost use Prim.Native.Nat.{_+_, _≤_};
 ghost use lib.ListN.{length, take};
 ghost use Rattle.reader.specs.Reading.{polygonOf};
+ghost use Rattle.finder.specs.Finding.{finding};
 ghost use Rattle.finder.specs.Sizes.{placesIn, duePlaces};
 ghost use Rattle.finder.specs.Sizes as sizes;
 ghost use Rattle.triangulation.specs.Triangulations.{best};
 ghost use Rattle.triangulation.specs.Problems.{problemFrom};
 ghost use Rattle.minimum_weight.specs.Tables.{WellFormed};
 ghost use Rattle.triangulator.specs.Call.{valuesOf, result, settled};
+ghost use Rattle.pipeline.specs.Finding.{findFile};
 ghost use Rattle.pipeline.specs.Patching.{tables, patching, polygonValues, patchPolygon, fileValues, patchFile};
 ghost use Rattle.pipeline.specs.Sizes.{sizesNumber, sizesFile};
 
@@ -102,6 +104,26 @@ pub fn patch_file(
     match status {
         Status::Refused(refusal) => Outcome::Refused(refusal),
         Status::Complete => patch_polygon(p, triangles, candidates, weights, rows, work),
+    }
+}
+
+// The candidates, weights and rows of a rim file of at most so many vertices: the reader, then the finder.
+pub fn find_file(
+    limit: usize,
+    file: &[u8],
+    candidates: &mut [[u8; 3]],
+    weights: &mut [u32],
+    rows: &mut [[u32; 3]],
+) -> Found
+    ensures { λ r. ⌜ finding r (now (candidates .exit)) (now (weights .exit)) (now (rows .exit))
+        ≡ findFile limit (now (file .entry)) (now (candidates .entry)) (now (weights .entry)) (now (rows .entry)) ⌝ }
+{
+    let reading = reader::read_polygon(limit, file);
+    let status = reading.status;
+    let p = reading.polygon;
+    match status {
+        Status::Refused(refusal) => Found::Refused(refusal),
+        Status::Complete => finder::find(p, candidates, weights, rows),
     }
 }
 

@@ -1,5 +1,5 @@
 -- `exports::patch_box_convert` meets its contract. Assumes nothing.
-use Rattle.exports.proofs.Answers.{file-converted}
+use Rattle.exports.proofs.Calls.{file-converted}
 use borrow.Author.Needs.{needs}
 use Rattle.exports.proofs.patch_box_convert.Statement.{statement}
 use Rattle.exports.proofs.patch_box_convert.Tie as tie

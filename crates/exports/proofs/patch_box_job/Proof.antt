@@ -1,5 +1,5 @@
 -- `exports::patch_box_job` meets its contract. Assumes nothing.
-use Rattle.exports.proofs.Answers.{job-patched}
+use Rattle.exports.proofs.Calls.{job-patched}
 use borrow.Author.Needs.{needs}
 use Rattle.exports.proofs.patch_box_job.Statement.{statement}
 use Rattle.exports.proofs.patch_box_job.Tie as tie

@@ -1,5 +1,5 @@
 -- `exports::patch_box_judge` meets its contract. Assumes nothing.
-use Rattle.exports.proofs.Answers.{job-judged}
+use Rattle.exports.proofs.Calls.{job-judged}
 use borrow.Author.Needs.{needs}
 use Rattle.exports.proofs.patch_box_judge.Statement.{statement}
 use Rattle.exports.proofs.patch_box_judge.Tie as tie

@@ -1,5 +1,7 @@
 -- `exports::patch_box_read_within` meets its contract. Assumes nothing.
-use Rattle.exports.proofs.Answers.{rim-read}
+use mathlib.Core.Path.{_∙_, ap}
+use Rattle.reader.specs.declared.Reading.{Reading}
+use Rattle.answers.specs.Answers.{readAnswerOf}
 use borrow.Author.Needs.{needs}
 use Rattle.exports.proofs.patch_box_read_within.Statement.{statement}
 use Rattle.exports.proofs.patch_box_read_within.Tie as tie
@@ -7,11 +9,11 @@ use Rattle.exports.proofs.patch_box_read_within.Tie as tie
 read-polygon-requires : tie.Need-read-polygon-requires
 read-polygon-requires c κs = search needs
 
-number-requires : tie.Need-number-requires
-number-requires c κs = search needs
+read-answer-requires : tie.Need-read-answer-requires
+read-answer-requires c κs = search needs
 
 returns : tie.Need-returns
-returns c = rim-read (c .number .ensures) (c .before .before .read-polygon .ensures .0)
+returns c = c .read-answer .ensures ∙ ap (λ (r : Reading). readAnswerOf r) (c .before .read-polygon .ensures .0)
 
 pub patch-box-read-within-spec : {M : Type 1} → statement M
-patch-box-read-within-spec = tie.close (tie.spec read-polygon-requires number-requires returns)
+patch-box-read-within-spec = tie.close (tie.spec read-polygon-requires read-answer-requires returns)

@@ -1,5 +1,5 @@
 -- `exports::patch_box_rim_within` meets its contract. Assumes nothing.
-use Rattle.exports.proofs.Answers.{rim-patched}
+use Rattle.exports.proofs.Calls.{rim-patched}
 use borrow.Author.Needs.{needs}
 use Rattle.exports.proofs.patch_box_rim_within.Statement.{statement}
 use Rattle.exports.proofs.patch_box_rim_within.Tie as tie

@@ -1,6 +1,6 @@
 -- `exports::patch_box_sizes_within` meets its contract. Assumes nothing.
 use mathlib.Core.Path.{_∙_, ap}
-use Rattle.exports.specs.Answers.{sizesAnswerOf}
+use Rattle.answers.specs.Answers.{sizesAnswerOf}
 use borrow.Author.Needs.{needs}
 use Rattle.exports.proofs.patch_box_sizes_within.Statement.{statement}
 use Rattle.exports.proofs.patch_box_sizes_within.Tie as tie

@@ -1,7 +1,7 @@
--- `exports::convert_answer` meets its contract. Assumes nothing.
+-- `answers::convert_answer` meets its contract. Assumes nothing.
 use borrow.Author.Needs.{needs}
-use Rattle.exports.proofs.convert_answer.Statement.{statement}
-use Rattle.exports.proofs.convert_answer.Tie as tie
+use Rattle.answers.proofs.convert_answer.Statement.{statement}
+use Rattle.answers.proofs.convert_answer.Tie as tie
 
 number-requires : tie.Need-number-requires
 number-requires c κs = search needs

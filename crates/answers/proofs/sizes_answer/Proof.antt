@@ -1,9 +1,9 @@
--- `exports::sizes_answer` meets its contract. Assumes nothing.
+-- `answers::sizes_answer` meets its contract. Assumes nothing.
 use mathlib.Core.Path.{sym, ap}
-use Rattle.exports.specs.Answers.{sizesAnswerOf}
+use Rattle.answers.specs.Answers.{sizesAnswerOf}
 use borrow.Author.Needs.{needs}
-use Rattle.exports.proofs.sizes_answer.Statement.{statement}
-use Rattle.exports.proofs.sizes_answer.Tie as tie
+use Rattle.answers.proofs.sizes_answer.Statement.{statement}
+use Rattle.answers.proofs.sizes_answer.Tie as tie
 
 enum-known-sizes : tie.Need-enum-known-sizes
 enum-known-sizes c = search needs
