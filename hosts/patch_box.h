@@ -33,7 +33,7 @@
 extern "C" {
 #endif
 
-/* Places that suffice for every rim. patch_box_sizes says what one rim needs, which is far less. */
+/* The largest limit, and places that suffice for every rim. patch_box_sizes says what one rim needs, which is far less. */
 enum {
     PATCH_BOX_MAX_FILE = 5642,        /* bytes of the longest rim file, which is of edition 2: 10 + 22 * 256 */
     PATCH_BOX_MAX_VERTICES = 64,      /* the largest limit */

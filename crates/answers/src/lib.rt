@@ -1,5 +1,5 @@
-// What hosts are given. An enum cannot cross the boundary to C, so an answer is a struct of numbers: the number due, 0 where none is, and the counts and the
-// total, which are 0 in a refusal.
+// What hosts are given. An enum cannot cross the boundary to C, so an answer is a struct of numbers: the number due, 0 where none is, and counts, total,
+// excess, edition or length, which are 0 in a refusal.
 use converter::Conversion;
 use finder::Found;
 use finder::Sizes;

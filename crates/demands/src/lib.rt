@@ -1,1 +1,2 @@
-// The demands on the one call, stated and proved over the definitions that its contract cites; and the worked cases. No function.
+// What is asked of the calls on files, polygons and jobs, stated and proved over the definitions that their contracts cite; the worked cases; wrong programs.
+// No function.

@@ -1,4 +1,4 @@
--- The sphere does not depend on the order in which they are named. Assumes nothing.
+-- The sphere does not depend on the order in which its corners are named. Assumes nothing.
 use mathlib.Core.Path.{_≡_, _∙_}
 use mathlib.Core.List.{[], _∷_}
 use mathlib.Core.Bool.{cond}

@@ -1,4 +1,4 @@
--- Direct jobs at the edges of rules 4.13 to 4.17: the number of each by what the definitions compute, 0 where it is accepted.
+-- Direct jobs at the edges of rules 4.13 to 4.17: the number of each by what the definitions compute, 0 where it is accepted. Assumes nothing.
 use mathlib.Core.Path.{_≡_, refl}
 use mathlib.Core.List.{List, [], _∷_}
 use Prim.Native.Nat.{ℕ, _+_, _-_}

@@ -1,4 +1,4 @@
-// 17: no weight of a candidate or of a row is over the limit.
+// 17: no weight of a candidate or of a row is over 2,000,000,000.
 ghost use mathlib.Core.Path.{_≡_};
 ghost use Prim.Native.Nat.{_≤_};
 ghost use lib.ListN.{length};

@@ -1,4 +1,4 @@
--- The answer is what the recursion has beneath the edge (0, n − 1), under a number that no row names.
+-- The answer is what the recursion has beneath the edge (0, n − 1), under a number that no row names. Assumes nothing.
 use Prim.Native.Nat.{ℕ, _-_, _≤_, _<_}
 use mathlib.Core.Path.{_≡_, ap, _∙_}
 use mathlib.Core.Logic.{_⊎_, inl, inr, ⊎-elim}

@@ -1,4 +1,4 @@
--- The best candidate on an edge, the first of equal ones, starts the least key beneath the edge.
+-- The best candidate on an edge, the first of equal ones, starts the least key beneath the edge. Assumes nothing.
 use Prim.Native.Nat.{ℕ, zero, suc, _+_, _≤_, _<_}
 use mathlib.Core.Path.{_≡_, refl, sym, ap, ap₂, _∙_}
 use mathlib.Core.Bool.{Bool, true, false, cond, false≢true}

@@ -1,4 +1,4 @@
--- Choosing the best of some candidates one by one.
+-- Choosing the best of some candidates one by one. Assumes nothing.
 use Prim.Native.Nat.{ℕ, zero, suc, _+_, _≤_, _<_}
 use mathlib.Core.Path.{_≡_, refl, sym, ap, _∙_}
 use mathlib.Core.Bool.{Bool, true, false, cond}

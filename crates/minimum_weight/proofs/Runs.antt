@@ -1,4 +1,4 @@
--- What is picked beneath an edge of a triangle depends on the run of its rows alone.
+-- What is picked beneath an edge of a triangle depends on the run of its rows alone. Assumes nothing.
 use Prim.Native.Nat.{ℕ, zero, suc, _+_}
 use mathlib.Core.Path.{_≡_, refl, ap, _∙_}
 use mathlib.Core.Bool.{cond}

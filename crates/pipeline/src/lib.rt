@@ -1,4 +1,4 @@
-// The one call over the three stages: reader, candidate finder, tiler.
+// The one call over the three stages, reader, candidate finder and tiler; and the calls on a rim file that stop before the tiler.
 use finder::Found;
 use finder::Sizes;
 use polygon::Polygon;

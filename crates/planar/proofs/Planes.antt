@@ -1,4 +1,4 @@
--- Points are in one plane exactly where every four of them is. Assumes nothing.
+-- Points are in one plane exactly where every four of them are. Assumes nothing.
 use mathlib.Core.Path.{_≡_, refl, sym, _∙_, ap, subst}
 use mathlib.Core.List.{[], _∷_}
 use mathlib.Core.Bool.{Bool, true, false, not}

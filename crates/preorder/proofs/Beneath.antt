@@ -1,4 +1,4 @@
--- The part beneath an edge, and none beneath a rim edge (i, i + 1).
+-- The part beneath an edge, and none beneath a rim edge (i, i + 1). Assumes nothing.
 use Prim.Native.Nat.{ℕ, _+_, _≤_, _<_}
 use mathlib.Core.Path.{_≡_}
 use mathlib.Core.List.{[], _∷_}

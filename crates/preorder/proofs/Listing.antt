@@ -1,4 +1,4 @@
--- The loop that lists a patch: its stack is the list of the parts that wait, and each turn is a turn of the definition.
+-- The loop that lists a patch: its stack is the list of the parts that wait, and each turn is a turn of the definition. Assumes nothing.
 use Prim.Native.Nat.{ℕ, zero, suc, _+_, _-_, _≤_, _<_}
 use mathlib.Core.Path.{_≡_, refl, sym, ap, ap₂, _∙_, subst}
 use mathlib.Core.List.{List, [], _∷_, _++_, append-assoc}

@@ -1,4 +1,4 @@
--- What is promised of the loop that lists a patch holds of every job that has one (rule 3.12).
+-- What is promised of the loop that lists a patch holds of every job that has one (rule 3.12). Assumes nothing.
 use Prim.Native.Nat.{ℕ, _<_}
 use mathlib.Core.Path.{_≡_, refl, sym, ap, _∙_, subst}
 use mathlib.Core.Bool.{false≢true}

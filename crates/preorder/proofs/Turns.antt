@@ -1,4 +1,4 @@
--- The turns of the loop that lists a patch (rule 3.12): the triangles that are not listed yet are those of the parts that wait.
+-- The turns of the loop that lists a patch (rule 3.12): the triangles that are not listed yet are those of the parts that wait. Assumes nothing.
 use Prim.Native.Nat.{ℕ, zero, suc, _+_, _-_, _≤_, _<_}
 use mathlib.Core.Path.{_≡_, refl, sym, ap, ap₂, _∙_, subst}
 use mathlib.Core.Logic.{⊎-elim, _≢_}

@@ -1,4 +1,4 @@
--- How many parts wait after each turn of the loop that lists a patch (rule 3.12).
+-- How many parts wait after each turn of the loop that lists a patch (rule 3.12). Assumes nothing.
 use Prim.Native.Nat.{ℕ, zero, suc, _+_, _-_, _≤_}
 use mathlib.Core.Path.{ap}
 use mathlib.Core.List.{List, [], _∷_}

@@ -1,4 +1,4 @@
--- The page of promises, proved: each promise by the theorem of its name. Assumes nothing.
+-- The page of promises, proved: each promise by the theorem named beside it. Assumes nothing.
 use mathlib.Core.Path.{_≡_, sym, ap, _∙_}
 use mathlib.Core.List.{List}
 use Prim.Native.Nat.{ℕ}

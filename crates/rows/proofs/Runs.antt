@@ -1,4 +1,4 @@
--- The rows of one outer are a run of the rows.
+-- The rows of one outer are a run of the rows. Assumes nothing.
 use Prim.Native.Nat.{ℕ, zero, suc, _+_, _-_, _≤_, _<_}
 use mathlib.Core.Path.{_≡_, refl, sym, ap, _∙_}
 use mathlib.Core.Bool.{true, false, cond}

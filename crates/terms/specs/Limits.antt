@@ -20,7 +20,7 @@ trimVertices = 24
 abbrev pub countFits : ℕ → Bool
 countFits n = both (leb minVertices n) (leb n maxVertices)
 
--- the triples of that many vertices, 64 * 63 * 62 / 6: there are no more candidates (rule 2.4)
+-- the triples of 64 vertices, 64 * 63 * 62 / 6: there are no more candidates (rule 2.4)
 abbrev pub maxTriples : ℕ
 maxTriples = 41664
 

@@ -1,4 +1,4 @@
--- Totals are far below the number that stands for 'none', so no sum of an accepted job wraps.
+-- Totals are far below the number that stands for 'none', so no sum of an accepted job wraps. Assumes nothing.
 use Prim.Native.Nat.{ℕ, _+_, _-_, _*_, _≤_, _<_}
 use mathlib.Core.Path.{_≡_, ap}
 use mathlib.Core.Logic.{_⊎_, inl, inr}

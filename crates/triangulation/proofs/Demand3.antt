@@ -1,4 +1,4 @@
--- Demand 3 holds of the answer, and of no other; a tiling has n − 2 triangles, and its walk order names each once.
+-- Demand 3 holds of the answer, and of no other; a tiling has n − 2 triangles, and its walk order names each once. Assumes nothing.
 use Prim.Native.Nat.{ℕ, zero, suc, _-_, _≤_, _<_}
 use mathlib.Core.Path.{_≡_, refl, sym, ap, ap₂, _∙_}
 use mathlib.Core.Bool.{Bool, true, false, false≢true}

@@ -1,4 +1,4 @@
--- Triangulations by recursion, in preorder, and their edge counts.
+-- Triangulations by recursion, in preorder, and their edge counts. Assumes nothing.
 use Prim.Native.Nat.{ℕ, _+_, _-_, _≤_, _<_, min}
 use mathlib.Core.Path.{_≡_, refl, ap, ap₂}
 use mathlib.Core.Bool.{Bool, true, false}

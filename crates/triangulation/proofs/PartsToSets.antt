@@ -1,4 +1,4 @@
--- Every part from 0 to n − 1 is a triangulation, as a set.
+-- Every part from 0 to n − 1 is a triangulation, as a set. Assumes nothing.
 use Prim.Native.Nat.{ℕ, zero, suc, _+_, _-_, _≤_, _<_, min}
 use mathlib.Core.Path.{_≡_, refl, sym, ap, ap₂, _∙_}
 use mathlib.Core.Bool.{Bool, true, false, cond, false≢true}

@@ -1,4 +1,4 @@
--- The recursion that the dynamic programme computes gives the least part, and so the answer.
+-- The recursion that the dynamic programme computes gives the least part, and so the answer. Assumes nothing.
 use Prim.Native.Nat.{ℕ, zero, suc, _+_, _-_, _≤_, _<_}
 use mathlib.Core.Path.{_≡_, refl, sym, ap, ap₂, _∙_}
 use mathlib.Core.Bool.{Bool, true, false, cond, false≢true}

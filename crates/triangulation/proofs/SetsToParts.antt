@@ -1,4 +1,4 @@
--- Every triangulation, as a set, is a part from 0 to n − 1.
+-- Every triangulation, as a set, is a part from 0 to n − 1. Assumes nothing.
 use Prim.Native.Nat.{ℕ, zero, suc, _+_, _-_, _≤_, _<_}
 use mathlib.Core.Path.{_≡_, refl, sym, ap, ap₂, _∙_}
 use mathlib.Core.Bool.{Bool, true, false, false≢true}

@@ -1,4 +1,4 @@
--- A set of candidates is a tiling as rule 3.3 says it exactly when it passes the test: for every valid job. Assumes nothing.
+-- A set of candidates is a tiling as rule 3.3 says it exactly when it passes the test: for every valid problem. Assumes nothing.
 use Prim.Native.Nat.{ℕ, zero, suc, _+_, _-_, _≤_, _<_}
 use mathlib.Core.Path.{_≡_, refl, sym, ap, _∙_}
 use mathlib.Core.Bool.{Bool, true, false, false≢true}

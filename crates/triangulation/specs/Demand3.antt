@@ -1,4 +1,4 @@
--- Demand 3 as a statement about any answer to a job, and what a caller is handed after a patch. Definitions only.
+-- Demand 3 as a statement about any answer to a problem, and what a caller is handed after a patch. Definitions only.
 use Prim.Native.Nat.{ℕ, _-_, _≤_, _<_}
 use mathlib.Core.Path.{_≡_}
 use mathlib.Core.Logic.{_≢_}

@@ -8,7 +8,7 @@ use Rattle.lists.specs.Lists.{both, either, every}
 use Rattle.terms.specs.Entries.{lexicographic}
 use Rattle.lists.specs.Sums.{only, sum, keep, joined, numbersFrom}
 
--- A job has n vertices and `size` candidates, numbered from 0 (rule 3.1). Candidate k is the triangle (a k, b k, c k) and weighs `weight k`.
+-- A problem has n vertices and `size` candidates, numbered from 0 (rule 3.1). Candidate k is the triangle (a k, b k, c k) and weighs `weight k`.
 -- `row o i` is the weight of the row with outer o and inner i, and 0 where there is none (rule 3.4).
 pub record Problem : Type 0 where
   pub n : ℕ
@@ -19,7 +19,7 @@ pub record Problem : Type 0 where
   pub weight : ℕ → ℕ
   pub row : ℕ → ℕ → ℕ
 
--- what the theorems ask of a job: at least three vertices, and a < b < c < n for each candidate; an accepted job and a rim's have it (rules 4.14, 4.15)
+-- what the theorems ask of a problem: at least three vertices, and a < b < c < n for each candidate; an accepted job and a rim's have it (rules 4.14, 4.15)
 pub record ValidProblem (job : Problem) : Type 0 where
   pub n3 : 3 ≤ job .n
   pub ab : (k : ℕ) → k < job .size → job .a k < job .b k

@@ -1,4 +1,4 @@
--- A job on which no number is due has all that the dynamic programme needs, and demand 3 holds of its answer.
+-- A job on which no number is due has all that the dynamic programme needs, and demand 3 holds of its answer. Assumes nothing.
 use Prim.Native.Nat.{ℕ, suc, _+_, _-_, _≤_, _<_}
 use mathlib.Core.Path.{_≡_}
 use mathlib.Core.Bool.{Bool, true, false, cond}

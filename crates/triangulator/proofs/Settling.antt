@@ -1,4 +1,4 @@
--- What a call answers and leaves, from what the dynamic programme returns and leaves.
+-- What a call answers and leaves, from what the dynamic programme returns and leaves. Assumes nothing.
 use Prim.Native.Nat.{ℕ, zero, suc, _-_, _≤_, _<_}
 use mathlib.Core.Path.{_≡_, refl, sym, ap, ap₂, _∙_}
 use mathlib.Core.Bool.{cond}
