@@ -14,13 +14,13 @@ use Rattle.terms.specs.Numbers.{firstDue}
 use Rattle.reader.specs.Reading.{polygonOf, answer, readingOf}
 use Rattle.reader.specs.Reading as reader
 use Rattle.finder.specs.declared.Found.the-variants as found
-use Rattle.finder.specs.Finding.{Finding, finding, numberDue, findCall}
+use Rattle.finder.specs.Finding.{values, valuesOf, dueValues, Finding, finding, numberDue, findBy, findNumber, findCall}
 use Rattle.finder.specs.declared.Sizes.{Sizes}
 use Rattle.finder.specs.declared.Sizes.the-variants as sizes
 use Rattle.finder.specs.Sizes.{noPlaces, numberOf, placesIn, duePlaces, sizesBy, sizesOf}
 use Rattle.finder.proofs.Answers.{sizes-values}
 use Rattle.triangulator.specs.declared.Outcome.the-variants.{Refused}
-use Rattle.pipeline.specs.Finding.{findAfter, findFile}
+use Rattle.pipeline.specs.Finding.{findFileNumber, findFileValues, findFile}
 use Rattle.pipeline.specs.Patching.{Tables, Patching, patching, patchBy, polygonNumber, patchPolygon, patchFile}
 use Rattle.pipeline.specs.Sizes.{sizesNumber, sizesFile}
 
@@ -64,40 +64,66 @@ module _ (limit : ℕ) (s : List ℕ) (t : Tables) {r : Reading} where
   file-read d e f = f ∙ by-polygon limit s e (λ (k : ℕ) (p : Polygon). patchBy k p t) (λ (k : Refusal). patching (Refused k) t) (λ k. refl) (λ (p : Polygon). polygonNumber p t) d
 
 -- the equation of the sizing call gives its number and places
-values : (limit : ℕ) (s : List ℕ) {x : Sizes} → x ≡ sizesFile limit s → (x ≡ sizesFile limit s) × ((numberOf x ≡ sizesNumber limit s) × (placesIn x ≡ duePlaces (sizesNumber limit s) (polygonOf s)))
+sized-values : (limit : ℕ) (s : List ℕ) {x : Sizes} → x ≡ sizesFile limit s → (x ≡ sizesFile limit s) × ((numberOf x ≡ sizesNumber limit s) × (placesIn x ≡ duePlaces (sizesNumber limit s) (polygonOf s)))
 unfolding sizesFile
-values limit s e = sizes-values (polygonOf s) (sizesNumber limit s) e
+sized-values limit s e = sizes-values (polygonOf s) (sizesNumber limit s) e
 
 module _ (limit : ℕ) (s : List ℕ) {r : Reading} where
   pub sizes-refused : {k : Refusal} → r .status ≡ status.Refused k → r ≡ readingOf limit s →
       (sizes.Refused k ≡ sizesFile limit s) × ((k .number ≡ sizesNumber limit s) × (noPlaces ≡ duePlaces (sizesNumber limit s) (polygonOf s)))
   unfolding sizesFile
-  sizes-refused d e = values limit s (by-refusal limit s e sizesBy (λ (k : Refusal). sizes.Refused k) (λ k. refl) (λ (p : Polygon). numberDue false p) d)
+  sizes-refused d e = sized-values limit s (by-refusal limit s e sizesBy (λ (k : Refusal). sizes.Refused k) (λ k. refl) (λ (p : Polygon). numberDue false p) d)
 
   pub sizes-read : {x : Sizes} → r .status ≡ status.Complete → r ≡ readingOf limit s → x ≡ sizesOf (r .polygon) →
       (x ≡ sizesFile limit s) × ((numberOf x ≡ sizesNumber limit s) × (placesIn x ≡ duePlaces (sizesNumber limit s) (polygonOf s)))
   unfolding sizesFile
-  sizes-read d e f = values limit s (f ∙ by-polygon limit s e sizesBy (λ (k : Refusal). sizes.Refused k) (λ k. refl) (λ (p : Polygon). numberDue false p) d)
+  sizes-read d e f = sized-values limit s (f ∙ by-polygon limit s e sizesBy (λ (k : Refusal). sizes.Refused k) (λ k. refl) (λ (p : Polygon). numberDue false p) d)
 
--- the finder's call on a refusal, and on a file that is read
-module _ (limit : ℕ) (s : List ℕ) (candidates : List (List ℕ)) (weights : List ℕ) (rows : List (List ℕ)) {r : Reading} where
-  lists-after : {x : Status} → r .status ≡ x → r ≡ readingOf limit s → findAfter x (r .polygon) candidates weights rows ≡ findFile limit s candidates weights rows
+-- ---- the finder's call, by the answer of the reader
+abbrev findAfter : Status → Polygon → List (List ℕ) → List ℕ → List (List ℕ) → Finding
+findAfter (status.Refused k) p candidates weights rows = finding (found.Refused k) candidates weights rows
+findAfter status.Complete p candidates weights rows = findCall p candidates weights rows
+
+module _ (limit : ℕ) (s : List ℕ) (candidates : List (List ℕ)) (weights : List ℕ) (rows : List (List ℕ)) where
+  after-reading : findFile limit s candidates weights rows ≡ findAfter (readingOf limit s .status) (readingOf limit s .polygon) candidates weights rows
   unfolding findFile
-  lists-after d e =
-      ap (λ (x : Status). findAfter x (r .polygon) candidates weights rows) (sym d)
-      ∙ ap (λ (x : Reading). findAfter (x .status) (x .polygon) candidates weights rows) e
+  after-reading = by (reader.numberDue limit s)
+    where
+      by : (k : ℕ) → findBy (firstDue k (findNumber (polygonOf s) candidates weights rows)) (polygonOf s) candidates weights rows
+          ≡ findAfter (answer k (polygonOf s) .status) (answer k (polygonOf s) .polygon) candidates weights rows
+      by zero = refl
+      by (suc k) = refl
 
-  pub lists-refused :
-      {k : Refusal} → r .status ≡ status.Refused k → r ≡ readingOf limit s → finding (found.Refused k) candidates weights rows ≡ findFile limit s candidates weights rows
-  lists-refused d e = lists-after d e
+  -- the equation of the call gives its number and counts
+  found-values : {x : Finding} → x ≡ findFile limit s candidates weights rows →
+      (x ≡ findFile limit s candidates weights rows) × (valuesOf (x .answer) ≡ findFileValues limit s candidates weights rows)
+  unfolding findFile
+  found-values e = (e, ap (λ (x : Finding). valuesOf (x .answer)) e ∙ by (findFileNumber limit s candidates weights rows))
+    where
+      by : (k : ℕ) → valuesOf (findBy k (polygonOf s) candidates weights rows .answer) ≡ dueValues k (polygonOf s)
+      by zero = refl
+      by (suc k) = refl
 
-  pub lists-read :
-      {x : Finding} → r .status ≡ status.Complete → r ≡ readingOf limit s → x ≡ findCall (r .polygon) candidates weights rows →
-      x ≡ findFile limit s candidates weights rows
-  lists-read d e f = f ∙ lists-after d e
+  module _ {r : Reading} (e : r ≡ readingOf limit s) where
+    after : {x : Status} → r .status ≡ x → findAfter x (r .polygon) candidates weights rows ≡ findFile limit s candidates weights rows
+    after d =
+        ap (λ (x : Status). findAfter x (r .polygon) candidates weights rows) (sym d)
+        ∙ ap (λ (x : Reading). findAfter (x .status) (x .polygon) candidates weights rows) e
+        ∙ sym after-reading
+
+    pub lists-refused : {k : Refusal} → r .status ≡ status.Refused k →
+        (finding (found.Refused k) candidates weights rows ≡ findFile limit s candidates weights rows)
+        × (values (k .number) 0 0 ≡ findFileValues limit s candidates weights rows)
+    lists-refused d = found-values (after d)
+
+    pub lists-read : {x : Finding} → r .status ≡ status.Complete → x ≡ findCall (r .polygon) candidates weights rows →
+        (x ≡ findFile limit s candidates weights rows) × (valuesOf (x .answer) ≡ findFileValues limit s candidates weights rows)
+    lists-read d f = found-values (f ∙ after d)
 
 -- the finder's call goes by the reading alone: two files, each under a limit, that are read alike are answered alike (rules 1.16, 3.11)
 pub lists-alike : (small large : ℕ) (s t : List ℕ) → readingOf small s ≡ readingOf large t →
     (candidates : List (List ℕ)) (weights : List ℕ) (rows : List (List ℕ)) → findFile small s candidates weights rows ≡ findFile large t candidates weights rows
-unfolding findFile
-lists-alike small large s t e candidates weights rows = ap (λ (x : Reading). findAfter (x .status) (x .polygon) candidates weights rows) e
+lists-alike small large s t e candidates weights rows =
+    after-reading small s candidates weights rows
+    ∙ ap (λ (x : Reading). findAfter (x .status) (x .polygon) candidates weights rows) e
+    ∙ sym (after-reading large t candidates weights rows)

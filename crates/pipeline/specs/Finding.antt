@@ -1,18 +1,19 @@
 -- The finder's call on a rim file: what it answers and what it leaves in every place of its three tables. Definitions only.
 use mathlib.Core.List.{List}
 use Prim.Native.Nat.{ℕ}
-use Rattle.polygon.specs.declared.Polygon.{Polygon}
-use Rattle.reader.specs.declared.Status.{Status}
-use Rattle.reader.specs.declared.Status.the-variants as status
-use Rattle.reader.specs.Reading.{readingOf}
-use Rattle.finder.specs.declared.Found.the-variants as found
-use Rattle.finder.specs.Finding.{Finding, finding, findCall}
+use Rattle.terms.specs.Numbers.{firstDue}
+use Rattle.reader.specs.Reading.{polygonOf}
+use Rattle.reader.specs.Reading as reader
+use Rattle.finder.specs.Finding.{Values, dueValues, Finding, findBy, findNumber}
 
--- the reader, then the finder (rule 5.1): a number of the reader changes no table (rule 4.30)
-abbrev pub findAfter : Status → Polygon → List (List ℕ) → List ℕ → List (List ℕ) → Finding
-findAfter (status.Refused r) p candidates weights rows = finding (found.Refused r) candidates weights rows
-findAfter status.Complete p candidates weights rows = findCall p candidates weights rows
+-- the first number due on a rim file read with a limit and on the three tables (rule 4.31): the reader's in their order, then those of its polygon
+abbrev pub findFileNumber : ℕ → List ℕ → List (List ℕ) → List ℕ → List (List ℕ) → ℕ
+findFileNumber limit file candidates weights rows = firstDue (reader.numberDue limit file) (findNumber (polygonOf file) candidates weights rows)
 
--- the lists of a rim file read with a limit (rule 5.1)
+-- the number and the two counts that are answered (rule 5.2)
+abbrev pub findFileValues : ℕ → List ℕ → List (List ℕ) → List ℕ → List (List ℕ) → Values
+findFileValues limit file candidates weights rows = dueValues (findFileNumber limit file candidates weights rows) (polygonOf file)
+
+-- that number, or the lists of the file's polygon (rule 5.1): a number changes no table (rule 4.30)
 unfoldable pub findFile : ℕ → List ℕ → List (List ℕ) → List ℕ → List (List ℕ) → Finding
-findFile limit file candidates weights rows = findAfter (readingOf limit file .status) (readingOf limit file .polygon) candidates weights rows
+findFile limit file candidates weights rows = findBy (findFileNumber limit file candidates weights rows) (polygonOf file) candidates weights rows

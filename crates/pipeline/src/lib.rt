@@ -9,13 +9,14 @@ ghost use Prim.Native.Nat.{_+_, _≤_};
 ghost use lib.ListN.{length, take};
 ghost use Rattle.reader.specs.Reading.{polygonOf};
 ghost use Rattle.finder.specs.Finding.{finding};
+ghost use Rattle.finder.specs.Finding as found;
 ghost use Rattle.finder.specs.Sizes.{placesIn, duePlaces};
 ghost use Rattle.finder.specs.Sizes as sizes;
 ghost use Rattle.triangulation.specs.Triangulations.{best};
 ghost use Rattle.triangulation.specs.Problems.{problemFrom};
 ghost use Rattle.minimum_weight.specs.Tables.{WellFormed};
 ghost use Rattle.triangulator.specs.Call.{valuesOf, result, settled};
-ghost use Rattle.pipeline.specs.Finding.{findFile};
+ghost use Rattle.pipeline.specs.Finding.{findFileValues, findFile};
 ghost use Rattle.pipeline.specs.Patching.{tables, patching, polygonValues, patchPolygon, fileValues, patchFile};
 ghost use Rattle.pipeline.specs.Sizes.{sizesNumber, sizesFile};
 
@@ -117,6 +118,7 @@ pub fn find_file(
 ) -> Found
     ensures { λ r. ⌜ finding r (now (candidates .exit)) (now (weights .exit)) (now (rows .exit))
         ≡ findFile limit (now (file .entry)) (now (candidates .entry)) (now (weights .entry)) (now (rows .entry)) ⌝ }
+    ensures { λ r. ⌜ found.valuesOf r ≡ findFileValues limit (now (file .entry)) (now (candidates .entry)) (now (weights .entry)) (now (rows .entry)) ⌝ }
 {
     let reading = reader::read_polygon(limit, file);
     let status = reading.status;

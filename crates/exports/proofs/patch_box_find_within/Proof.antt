@@ -20,7 +20,7 @@ same-length-3 : tie.Need-same-length-3
 same-length-3 c = search needs
 
 returns : tie.Need-returns
-returns c = rim-found (c .find-answer .ensures) (c .before .before .before .before .before .find-file .ensures)
+returns c = rim-found (c .find-answer .ensures) (c .before .before .before .before .before .find-file .ensures .0)
 
 pub patch-box-find-within-spec : {M : Type 1} → statement M
 patch-box-find-within-spec =

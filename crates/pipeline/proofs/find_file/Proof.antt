@@ -20,8 +20,8 @@ find-requires c κs = search needs
 returns : tie.Need-returns
 returns c =
     let s = c .before .before .before .before .before .before .before .args in
-    lists-refused _ (now (s .file)) (now (s .candidates)) (now (s .weights)) (now (s .rows)) (c .before .status .given .1)
-    (c .before .before .before .before .read-polygon .ensures .0)
+    lists-refused _ (now (s .file)) (now (s .candidates)) (now (s .weights)) (now (s .rows)) (c .before .before .before .before .read-polygon .ensures .0)
+    (c .before .status .given .1)
 
 same-length : tie.Need-same-length
 same-length c = search needs
@@ -37,7 +37,7 @@ returns-2 c =
     let told = c .before .before .before .before .before .before .before .before in
     let read = told .before .before .before in
     let s = read .before .before .before .args in
-    lists-read _ (now (s .file)) (now (s .candidates)) (now (s .weights)) (now (s .rows)) (told .enum-told .given .1) (read .read-polygon .ensures .0)
+    lists-read _ (now (s .file)) (now (s .candidates)) (now (s .weights)) (now (s .rows)) (read .read-polygon .ensures .0) (told .enum-told .given .1)
     (c .before .before .before .before .find .ensures .0)
 
 pub find-file-spec : {M : Type 1} → statement M
