@@ -16,7 +16,7 @@ use Rattle.reader.specs.Reading as reader
 use Rattle.reader.specs.declared.Status.the-variants as status
 use Rattle.reader.proofs.Demand1.{number-is}
 use Rattle.reader.proofs.FirstNumber.{no-number-read}
-use Rattle.converter.specs.Converted.{converted, otherEdition}
+use Rattle.conversion.specs.Converted.{converted, otherEdition}
 use Rattle.converter.specs.Call.{valuesOf, conversionCode, conversionNumber, numberDue, dueValues, Converting, converting, convertBy, convertCall}
 use Rattle.converter.specs.declared.Conversion.{Conversion}
 use Rattle.converter.specs.declared.Conversion.the-variants.{Converted, Refused}

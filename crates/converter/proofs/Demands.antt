@@ -18,11 +18,11 @@ use Rattle.reader.specs.Reading.{readingOf}
 use Rattle.reader.specs.Reading as reader
 use Rattle.reader.proofs.Editions.{number-same, reading-same}
 use Rattle.reader.proofs.FirstNumber.{Read, no-number-read}
-use Rattle.converter.specs.Converted.{converted, normalLost}
+use Rattle.conversion.specs.Converted.{converted, normalLost}
+use Rattle.conversion.proofs.Rims.{none-lost, nothing-lost, converted-edition, converted-rim}
+use Rattle.conversion.proofs.RoundTrip.{there-and-back}
 use Rattle.converter.specs.Call.{numberOf, conversionCode, conversionNumber, numberDue, convertCall, handedOver}
 use Rattle.converter.proofs.Answers.{not-lost}
-use Rattle.converter.proofs.Rims.{none-lost, nothing-lost, converted-edition, converted-rim}
-use Rattle.converter.proofs.RoundTrip.{there-and-back}
 use Rattle.converter.proofs.Numbers.{call-by, number-given}
 
 -- ---- a call that takes its file

@@ -1,10 +1,4 @@
-pub mod Storing
-pub mod Records
-pub mod Targets
 pub mod Answers
-pub mod Places
-pub mod Rims
-pub mod RoundTrip
 pub mod Numbers
 pub mod Demands
 pub mod WrongCalls

@@ -28,7 +28,7 @@ use Rattle.reader.specs.Due.{InFile, FileDue, too-few, vertex-repeated}
 use Rattle.reader.specs.Reading as reader
 use Rattle.reader.proofs.Order.{none-first, Verdict, first-due, none-due, verdict-either, verdict-first, verdict-given, verdict-zero, verdict-none}
 use Rattle.reader.proofs.FirstNumber.{number-first, no-number-read, read-none}
-use Rattle.converter.specs.Converted.{converted, otherEdition, normalLost}
+use Rattle.conversion.specs.Converted.{converted, otherEdition, normalLost}
 use Rattle.converter.specs.Call.{numberOf, conversionNumber, numberDue, Converting, converting, convertBy, convertCall}
 use Rattle.converter.specs.Due.{ConvertDue, by-reader, thirteen, nineteen}
 use Rattle.converter.specs.declared.Conversion.the-variants.{Converted, Refused}

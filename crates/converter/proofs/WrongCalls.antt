@@ -17,7 +17,7 @@ use Rattle.rim_file.specs.Record.{recordAt, numbersCode, vertexOf, normalIn}
 use Rattle.reader.specs.Chain.{link, metBefore, heightBefore, linkCode, positionCode, codeFrom, endFrom}
 use Rattle.reader.specs.Reading as reader
 use Rattle.reader.proofs.Cases.{point-then, zero-mm, one-mm, no-surface}
-use Rattle.converter.specs.Converted.{converted, normalLost}
+use Rattle.conversion.specs.Converted.{converted, normalLost}
 use Rattle.converter.specs.Call.{numberOf, editionOf, convertedLength, Converting, converting, convertCall}
 use Rattle.converter.specs.declared.Conversion.the-variants.{Converted, Refused}
 

@@ -9,7 +9,7 @@ use Rattle.lists.specs.Lists.{filled, firstPlaces}
 use Rattle.terms.specs.Limits.{maxVertices}
 use Rattle.terms.specs.Numbers.{firstDue}
 use Rattle.reader.specs.Reading as reader
-use Rattle.converter.specs.Converted.{converted, otherEdition, normalLost}
+use Rattle.conversion.specs.Converted.{converted, otherEdition, normalLost}
 use Rattle.converter.specs.declared.Conversion.{Conversion}
 use Rattle.converter.specs.declared.Conversion.the-variants.{Converted, Refused}
 

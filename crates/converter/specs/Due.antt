@@ -10,7 +10,7 @@ use Rattle.rim_file.specs.File.{isEdition2, offset, lengthWrong}
 use Rattle.rim_file.specs.Record.{heldNormal}
 use Rattle.reader.specs.Order.{FilePlace, rim}
 use Rattle.reader.specs.Due.{InFile, FileDue}
-use Rattle.converter.specs.Converted.{converted}
+use Rattle.conversion.specs.Converted.{converted}
 
 -- number k is due at a place of the file (rules 4.1 to 4.11, 4.13, 4.18, 4.19): the reader's with the largest limit, 13 and 19 on the file as a whole
 pub data ConvertDue (file out : List ℕ) : FilePlace → ℕ → Type 0 where

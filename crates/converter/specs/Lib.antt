@@ -1,4 +1,2 @@
-pub mod Converted
 pub mod Call
 pub mod Due
-pub mod Steps

@@ -1,16 +1,13 @@
-// The converter: a rim file carried to the other edition, byte for byte.
-mod normals;
-mod writing;
-
+// The converter's open call: a rim file that the reader takes, carried to the other edition where the table has room and no normal is lost.
 ghost use mathlib.Core.Path.{_≡_};
 ghost use mathlib.Core.Bool.{false};
 ghost use Rattle.rim_file.specs.File.{lengthWrong};
 ghost use Rattle.converter.specs.Call.{numberOf, editionOf, convertedLength, valuesOf, conversionCode, conversionNumber};
 ghost use Rattle.converter.specs.Call.{numberDue, dueValues, converting, convertBy, convertCall, partOf};
-ghost use Rattle.converter.specs.Steps.{targetOf};
 use codes::Refusal;
+use conversion::normals;
+use conversion::writing;
 use reader::Status;
-use rim_file::Layout;
 use rim_file::edition;
 
 // The converted file's edition and length, or a refusal.
@@ -54,23 +51,6 @@ impl Conversion {
     }
 }
 
-// The edition that a file is carried to, and where that has its numbers.
-struct Target {
-    pub edition: u32,
-    pub layout: Layout,
-}
-
-fn target_of(source: Layout) -> Target
-    ensures { λ r. ⌜ r ≡ targetOf source ⌝ }
-{
-    if source.record_size == edition::RECORD_SIZE_1 {
-        let layout = edition::layout_2();
-        return Target { edition: 2, layout };
-    }
-    let layout = edition::layout_1();
-    Target { edition: 1, layout }
-}
-
 // The first number due of 13 and 19.
 fn conversion_code(short: bool, lost: bool) -> u32
     ensures { λ r. ⌜ r ≡ conversionCode short lost ⌝ }
@@ -91,7 +71,7 @@ fn carry(file: &[u8], out: &mut [u8]) -> Conversion
         ≡ convertBy (conversionNumber (now (file .entry)) (now (out .entry))) (now (file .entry)) (now (out .entry)) ⌝ }
 {
     let source = edition::layout(file);
-    let target = target_of(source);
+    let target = conversion::target_of(source);
     let layout = target.layout;
     let count = edition::record_count(file, source);
     let length = edition::record_start(layout, count + 1);

@@ -56,8 +56,8 @@ use Rattle.judge.specs.Call.{judged}
 use Rattle.judge.specs.Call as judge
 use Rattle.judge.specs.Demands.{JobAccepted, IsTiling, Acceptable, SameNumbers, Excess}
 use Rattle.judge.specs.Due as judge-due
+use Rattle.conversion.specs.Converted.{converted, otherEdition}
 use Rattle.converter.specs.declared.Conversion.the-variants as conversion
-use Rattle.converter.specs.Converted.{converted, otherEdition}
 use Rattle.converter.specs.Call.{converting, convertCall, handedOver}
 use Rattle.converter.specs.Call as converter
 use Rattle.converter.specs.Due.{ConvertDue}

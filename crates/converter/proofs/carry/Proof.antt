@@ -10,12 +10,12 @@ use borrow.Author.Tests.{ltb-false}
 use denote.Ref.{now}
 use Rattle.rim_file.specs.File.{headerSize, recordCount}
 use Rattle.rim_file.proofs.Lengths.{whole}
+use Rattle.conversion.specs.Converted.{converted, normalLost}
+use Rattle.conversion.specs.Steps.{targetOf}
+use Rattle.conversion.specs.declared.Target.{Target}
+use Rattle.conversion.proofs.Storing.{stores-fill}
+use Rattle.conversion.proofs.Targets.{Bounds, target-bounds, Carried, carried, layout-length}
 use Rattle.converter.specs.Call.{conversionCode, conversionNumber}
-use Rattle.converter.specs.Converted.{converted, normalLost}
-use Rattle.converter.specs.Steps.{targetOf}
-use Rattle.converter.specs.declared.Target.{Target}
-use Rattle.converter.proofs.Storing.{stores-fill}
-use Rattle.converter.proofs.Targets.{Bounds, target-bounds, Carried, carried, layout-length}
 use Rattle.converter.proofs.Answers.{not-short, refused-by, taken-by}
 use borrow.Author.Needs.{needs}
 use Rattle.converter.proofs.carry.Statement.{statement}

@@ -1,4 +1,4 @@
--- What the converter's functions say to each other, by layouts. Nobody has to believe it.
+-- What the functions of a conversion say to each other, by layouts. Nobody has to believe it.
 use mathlib.Core.Path.{_≡_}
 use mathlib.Core.Bool.{false, cond}
 use mathlib.Core.List.{List}
@@ -7,8 +7,8 @@ use lib.Dec.{eqb}
 use lib.ListN.{length, replicate}
 use Rattle.rim_file.specs.declared.Layout.{Layout}
 use Rattle.rim_file.specs.File.{markerSize, headerSize, recordSize1, recordSize2, layout1, layout2, layoutOf, recordCount, lengthWrong}
-use Rattle.converter.specs.Converted.{laidOut, markerByte}
-use Rattle.converter.specs.declared.Target.{Target}
+use Rattle.conversion.specs.Converted.{laidOut, markerByte}
+use Rattle.conversion.specs.declared.Target.{Target}
 
 -- the edition that is not this layout's, with its layout
 abbrev pub targetOf : Layout → Target

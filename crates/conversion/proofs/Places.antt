@@ -11,10 +11,10 @@ use Rattle.lists.specs.Lists.{over}
 use Rattle.lists.proofs.Pieces.{piece-at}
 use Rattle.rim_file.specs.File.{u16At, headerSize, recordSize1, headerStart, recordSize, recordCount, lengthWrong, offset}
 use Rattle.rim_file.proofs.Lengths.{Whole, by-records}
-use Rattle.converter.specs.Converted.{headerBytes, recordBytes, laidOut}
-use Rattle.converter.proofs.Storing.{bytes-at}
-use Rattle.converter.proofs.Records.{header-length, record-length, piece-length}
-use Rattle.converter.proofs.Targets.{laid-length}
+use Rattle.conversion.specs.Converted.{headerBytes, recordBytes, laidOut}
+use Rattle.conversion.proofs.Storing.{bytes-at}
+use Rattle.conversion.proofs.Records.{header-length, record-length, piece-length}
+use Rattle.conversion.proofs.Targets.{laid-length}
 
 module _ (s : List ℕ) (w : Whole s) (opening ending : List ℕ) where
   abbrev front : List ℕ

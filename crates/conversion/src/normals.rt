@@ -2,7 +2,7 @@
 ghost use mathlib.Core.Path.{_≡_};
 ghost use mathlib.Core.Bool.{false};
 ghost use Rattle.rim_file.specs.File.{layoutOf, recordCount, lengthWrong};
-ghost use Rattle.converter.specs.Converted.{normalLost};
+ghost use Rattle.conversion.specs.Converted.{normalLost};
 use rim_file::Layout;
 use rim_file::edition;
 use rim_file::normal;

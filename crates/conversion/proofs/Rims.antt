@@ -21,8 +21,8 @@ use Rattle.rim_file.proofs.Lengths.{Whole, whole}
 use Rattle.rim_file.proofs.Normals.{normal-1, normal-2}
 use Rattle.reader.specs.Chain.{link}
 use Rattle.reader.proofs.FirstNumber.{Read, read-end}
-use Rattle.converter.specs.Converted.{laidOut, markerBytes, zeroNormal, converted, normalLost}
-use Rattle.converter.proofs.Places.{header-at, field, count-same, right-again, record-byte, after-record}
+use Rattle.conversion.specs.Converted.{laidOut, markerBytes, zeroNormal, converted, normalLost}
+use Rattle.conversion.proofs.Places.{header-at, field, count-same, right-again, record-byte, after-record}
 
 -- the two directions
 pub converted-up : (s : List ℕ) → isEdition2 s ≡ false → converted s ≡ laidOut markerBytes zeroNormal s

@@ -1,4 +1,4 @@
--- `converter::normals::has_normal` meets its contract: what is left of the test is the whole test. Assumes nothing.
+-- `conversion::normals::has_normal` meets its contract: what is left of the test is the whole test. Assumes nothing.
 use mathlib.Core.Path.{_≡_, refl, sym, ap, _∙_}
 use mathlib.Core.Bool.{not}
 use Prim.Native.Nat.{ℕ, suc, _+_, _-_, _≤_, _<_}
@@ -13,9 +13,9 @@ use Rattle.rim_file.specs.File.{recordCount, offset}
 use Rattle.rim_file.specs.Record.{normalIn}
 use Rattle.rim_file.proofs.Layouts.{bounds, header-as, size-as, start-as}
 use Rattle.rim_file.proofs.Lengths.{whole, record-held}
-use Rattle.converter.specs.Converted.{normalLost}
-use Rattle.converter.proofs.normals.has_normal.Statement.{statement}
-use Rattle.converter.proofs.normals.has_normal.Tie as tie
+use Rattle.conversion.specs.Converted.{normalLost}
+use Rattle.conversion.proofs.normals.has_normal.Statement.{statement}
+use Rattle.conversion.proofs.normals.has_normal.Tie as tie
 
 abbrev Inv-loop : tie.InvT-loop
 Inv-loop file layout count k₀ k-end k = (0 < k) × (k ≤ count + 1) × (some k (suc (recordCount file)) (λ k. not (isNone (normalIn file (offset file k)))) ≡ some 1 (suc (recordCount file)) (λ k. not (isNone (normalIn file (offset file k)))))

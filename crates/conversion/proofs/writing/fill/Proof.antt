@@ -1,13 +1,13 @@
--- `converter::writing::fill` meets its contract. Assumes nothing.
+-- `conversion::writing::fill` meets its contract. Assumes nothing.
 use mathlib.Core.Path.{_≡_, refl, ap, _∙_}
 use Prim.Native.Nat.{ℕ, _-_, _≤_}
 use native.Mathlib.Omega.{arith}
 use lib.ListN.{length, replicate, length-set}
 use lib.Seq.{sets}
 use denote.Ref.{now}
-use Rattle.converter.proofs.Storing.{filled-next}
-use Rattle.converter.proofs.writing.fill.Statement.{statement}
-use Rattle.converter.proofs.writing.fill.Tie as tie
+use Rattle.conversion.proofs.Storing.{filled-next}
+use Rattle.conversion.proofs.writing.fill.Statement.{statement}
+use Rattle.conversion.proofs.writing.fill.Tie as tie
 
 abbrev Inv-loop : tie.InvT-loop
 Inv-loop out₀ to count byte i₀ out i = (i ≤ count) × (length out ≡ length out₀) × (out ≡ sets out₀ to (replicate i byte))

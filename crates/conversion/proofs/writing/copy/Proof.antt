@@ -1,14 +1,14 @@
--- `converter::writing::copy` meets its contract. Assumes nothing.
+-- `conversion::writing::copy` meets its contract. Assumes nothing.
 use mathlib.Core.Path.{_≡_, refl, ap, _∙_}
 use Prim.Native.Nat.{ℕ, _-_, _≤_}
 use native.Mathlib.Omega.{arith}
 use lib.ListN.{length, length-set}
 use lib.Seq.{sets}
 use denote.Ref.{now}
-use Rattle.converter.specs.Converted.{bytesAt}
-use Rattle.converter.proofs.Storing.{copied-next}
-use Rattle.converter.proofs.writing.copy.Statement.{statement}
-use Rattle.converter.proofs.writing.copy.Tie as tie
+use Rattle.conversion.specs.Converted.{bytesAt}
+use Rattle.conversion.proofs.Storing.{copied-next}
+use Rattle.conversion.proofs.writing.copy.Statement.{statement}
+use Rattle.conversion.proofs.writing.copy.Tie as tie
 
 abbrev Inv-loop : tie.InvT-loop
 Inv-loop file from count out₀ to i₀ out i = (i ≤ count) × (length out ≡ length out₀) × (out ≡ sets out₀ to (bytesAt file from i))

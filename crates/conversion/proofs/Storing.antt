@@ -7,7 +7,7 @@ use native.Mathlib.Omega.{arith}
 use lib.ListN.{length, take, drop, set, getD, replicate, length-drop, length-replicate, replicate-append-replicate}
 use lib.Seq.{sets, sets-eq, length-take-le, take-suc, getD-take, getD-drop, ext-getD}
 use Rattle.lists.specs.Lists.{filled}
-use Rattle.converter.specs.Converted.{bytesAt}
+use Rattle.conversion.specs.Converted.{bytesAt}
 
 -- ---- the bytes
 pub bytes-length : (s : List ℕ) (i k : ℕ) → i + k ≤ length s → length (bytesAt s i k) ≡ k

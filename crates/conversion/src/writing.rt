@@ -6,8 +6,8 @@ ghost use lib.ListN.{length, replicate};
 ghost use lib.Seq.{sets};
 ghost use Rattle.lists.specs.Lists.{over};
 ghost use Rattle.rim_file.specs.File.{headerSize, recordCount};
-ghost use Rattle.converter.specs.Converted.{bytesAt, recordBytes};
-ghost use Rattle.converter.specs.Steps.{endingIn, inLayout, Room};
+ghost use Rattle.conversion.specs.Converted.{bytesAt, recordBytes};
+ghost use Rattle.conversion.specs.Steps.{endingIn, inLayout, Room};
 use rim_file::Layout;
 use rim_file::edition;
 

@@ -1,4 +1,4 @@
--- `converter::writing::write_file` meets its contract. Assumes nothing.
+-- `conversion::writing::write_file` meets its contract. Assumes nothing.
 use mathlib.Core.Path.{ap}
 use native.Mathlib.Omega.{arith}
 use lib.ListN.{length}
@@ -6,10 +6,10 @@ use lib.Seq.{length-sets}
 use denote.Ref.{now}
 use Rattle.rim_file.proofs.Layouts.{header-as}
 use Rattle.rim_file.proofs.Lengths.{whole}
-use Rattle.converter.proofs.Targets.{file-stored}
+use Rattle.conversion.proofs.Targets.{file-stored}
 use borrow.Author.Needs.{needs}
-use Rattle.converter.proofs.writing.write_file.Statement.{statement}
-use Rattle.converter.proofs.writing.write_file.Tie as tie
+use Rattle.conversion.proofs.writing.write_file.Statement.{statement}
+use Rattle.conversion.proofs.writing.write_file.Tie as tie
 
 fill-requires : tie.Need-fill-requires
 fill-requires c κs = search needs

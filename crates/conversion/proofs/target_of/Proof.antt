@@ -1,12 +1,12 @@
--- `converter::target_of` meets its contract. Assumes nothing.
+-- `conversion::target_of` meets its contract. Assumes nothing.
 use mathlib.Core.Path.{sym, ap, _∙_}
 use borrow.Author.Tests.{eq-eqb, ne-eqb}
 use Rattle.lists.proofs.Choice.{yes, no}
 use Rattle.rim_file.specs.declared.Layout.{Layout}
 use Rattle.rim_file.specs.File.{recordSize1}
 use borrow.Author.Needs.{needs}
-use Rattle.converter.proofs.target_of.Statement.{statement}
-use Rattle.converter.proofs.target_of.Tie as tie
+use Rattle.conversion.proofs.target_of.Statement.{statement}
+use Rattle.conversion.proofs.target_of.Tie as tie
 
 layout-2-requires : tie.Need-layout-2-requires
 layout-2-requires c κs = search needs

@@ -21,10 +21,10 @@ use Rattle.rim_file.proofs.Lengths.{Whole, whole}
 use Rattle.rim_file.proofs.Normals.{normal-2}
 use Rattle.rim_file.proofs.Signed.{zero-bits}
 use Rattle.reader.proofs.FirstNumber.{Read}
-use Rattle.converter.specs.Converted.{bytesAt, headerBytes, recordBytes, laidOut, markerBytes, zeroNormal, converted, normalLost}
-use Rattle.converter.proofs.Storing.{bytes-length, bytes-at, bytes-same}
-use Rattle.converter.proofs.Places.{header-byte, count-same, right-again, record-byte}
-use Rattle.converter.proofs.Rims.{converted-up, converted-down, none-lost, raised-edition, raised-start, raised-size, first-small, lowered-edition, lowered-start, lowered-size}
+use Rattle.conversion.specs.Converted.{bytesAt, headerBytes, recordBytes, laidOut, markerBytes, zeroNormal, converted, normalLost}
+use Rattle.conversion.proofs.Storing.{bytes-length, bytes-at, bytes-same}
+use Rattle.conversion.proofs.Places.{header-byte, count-same, right-again, record-byte}
+use Rattle.conversion.proofs.Rims.{converted-up, converted-down, none-lost, raised-edition, raised-start, raised-size, first-small, lowered-edition, lowered-start, lowered-size}
 
 -- ---- a file laid out twice
 module _ (s : List ℕ) (w : Whole s) (opening ending : List ℕ)

@@ -12,8 +12,8 @@ use Rattle.lists.proofs.Pieces.{pieces-length}
 use Rattle.rim_file.specs.File.{headerSize, recordSize1, recordCount, offset}
 use Rattle.rim_file.proofs.Layouts.{bounds, record-within}
 use Rattle.rim_file.proofs.Lengths.{Whole}
-use Rattle.converter.specs.Converted.{bytesAt, headerBytes, recordBytes}
-use Rattle.converter.proofs.Storing.{bytes-length, stores-then}
+use Rattle.conversion.specs.Converted.{bytesAt, headerBytes, recordBytes}
+use Rattle.conversion.proofs.Storing.{bytes-length, stores-then}
 
 -- piece k of n ends within all of them
 pub piece-end : (size k n : ℕ) → 0 < k → k ≤ n → size * (k - 1) + size ≤ size * n

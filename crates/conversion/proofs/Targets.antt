@@ -13,11 +13,11 @@ use Rattle.rim_file.specs.declared.Layout.{Layout}
 use Rattle.rim_file.specs.File.{isEdition2, markerSize, headerSize, recordSize1, recordSize2, layout1, layout2, layoutOf, headerStart, recordCount}
 use Rattle.rim_file.proofs.Layouts.{edition1, edition2}
 use Rattle.rim_file.proofs.Lengths.{Whole}
-use Rattle.converter.specs.Converted.{bytesAt, headerBytes, recordBytes, laidOut, markerByte, converted, otherEdition}
-use Rattle.converter.specs.Steps.{targetOf, endingIn, inLayout}
-use Rattle.converter.specs.declared.Target.{Target}
-use Rattle.converter.proofs.Storing.{stores-then}
-use Rattle.converter.proofs.Records.{header-length, pieces}
+use Rattle.conversion.specs.Converted.{bytesAt, headerBytes, recordBytes, laidOut, markerByte, converted, otherEdition}
+use Rattle.conversion.specs.Steps.{targetOf, endingIn, inLayout}
+use Rattle.conversion.specs.declared.Target.{Target}
+use Rattle.conversion.proofs.Storing.{stores-then}
+use Rattle.conversion.proofs.Records.{header-length, pieces}
 
 -- ---- the two layouts
 pub record Bounds (l : Layout) : Type 0 where

@@ -1,4 +1,4 @@
--- `converter::writing::write_records` meets its contract: the records before k are stored. Assumes nothing.
+-- `conversion::writing::write_records` meets its contract: the records before k are stored. Assumes nothing.
 use mathlib.Core.Path.{_≡_, refl, sym, ap, _∙_}
 use mathlib.Core.List.{List, _++_}
 use Prim.Native.Nat.{ℕ, suc, _+_, _*_, _-_, _≤_, _<_}
@@ -10,11 +10,11 @@ use Rattle.lists.specs.Lists.{upFrom, over}
 use Rattle.rim_file.specs.File.{headerSize, recordSize1, recordCount, offset}
 use Rattle.rim_file.proofs.Layouts.{bounds, header-as, size-as, start-as, record-within}
 use Rattle.rim_file.proofs.Lengths.{whole}
-use Rattle.converter.specs.Converted.{recordBytes}
-use Rattle.converter.specs.Steps.{endingIn}
-use Rattle.converter.proofs.Records.{piece-end, record-stored}
-use Rattle.converter.proofs.writing.write_records.Statement.{statement}
-use Rattle.converter.proofs.writing.write_records.Tie as tie
+use Rattle.conversion.specs.Converted.{recordBytes}
+use Rattle.conversion.specs.Steps.{endingIn}
+use Rattle.conversion.proofs.Records.{piece-end, record-stored}
+use Rattle.conversion.proofs.writing.write_records.Statement.{statement}
+use Rattle.conversion.proofs.writing.write_records.Tie as tie
 
 abbrev Inv-loop : tie.InvT-loop
 Inv-loop file source target count out₀ k₀ k-end out k = (0 < k) × (k ≤ count + 1) × (length out ≡ length out₀) × (out ≡ sets out₀ (target .header + headerSize) (over 1 k (λ k. recordBytes file k ++ endingIn target)))
