@@ -41,7 +41,7 @@ module _ (limit : ℕ) (file : List ℕ) where
     bare-read e =
         let complete : readingOf limit file .status ≡ Complete = ap (λ (k : ℕ). answer k (polygonOf file) .status) e in
         let same : readingOf limit file .polygon ≡ polygonOf file = ap (λ (k : ℕ). answer k (polygonOf file) .polygon) e in
-        subst (λ (p : Polygon). NoSurface p) same (record { none = λ i h. zero-normal i (read-records limit file complete i h) (read-normals limit file complete i h) })
+        subst (λ (p : Polygon). NoSurface p) same (record { none = λ i h. zero-normal i (read-records limit file complete .in-file i h) (read-normals limit file complete i h) })
       where
         zero-normal : {q : Normal} (i : ℕ) → InFile file (link file i) → HasNormal file i q → q ≡ noNormal
         zero-normal _ r (held i two in-range) = sym (normal-2 file (offset file (link file i)) two) ∙ zeros .zero (link file i) (r .numbered) (r .counted)

@@ -6,28 +6,19 @@ use mathlib.Core.List.{List}
 use mathlib.Core.Logic.{_⊎_}
 use Prim.Native.Nat.{ℕ, zero, suc}
 use native.Mathlib.Omega.{arith}
-use borrow.Author.Tests.{ltb-true, lt-ltb, eq-eqb}
+use borrow.Author.Tests.{ltb-true, lt-ltb}
 use lib.Dec.{ltb}
 use lib.ListN.{length}
 use Rattle.codes.specs.Refusals.{refusal}
 use Rattle.lists.specs.Lists.{upFrom}
-use Rattle.lists.proofs.Choice.{Truth, holds, fails, truth, yes, no, true-not-false, either-left, either-right}
+use Rattle.lists.proofs.Choice.{Truth, holds, fails, truth, no, either-left, either-right}
 use Rattle.polygon.specs.declared.Polygon.{Polygon}
-use Rattle.polygon.specs.Polygon.{codeOf, ValidPolygon, emptyPolygon}
-use Rattle.terms.specs.Numbers.{firstDue}
-use Rattle.polygon.proofs.Validity.{valid-code}
+use Rattle.polygon.specs.Polygon.{ValidPolygon, emptyPolygon}
 use Rattle.rim_file.specs.File.{Bytes}
-use Rattle.reader.specs.declared.Status.the-variants.{Complete}
-use Rattle.reader.specs.Order.{FilePlace, rim, Precedes, by-number, First, NoneDue}
-use Rattle.reader.specs.Due.{FileDue}
-use Rattle.reader.specs.Reading.{polygonOf, answer, readingOf}
-use Rattle.reader.specs.Reading as reader
-use Rattle.reader.proofs.Order.{none-first, Verdict, first-due, none-due, verdict-either, verdict-first, verdict-given, verdict-zero, verdict-none}
-use Rattle.reader.proofs.FirstNumber.{number-first}
-use Rattle.reader.proofs.Demand1.{read-only-when, refused-empty}
-use Rattle.reader.proofs.Accepted.{read-valid}
-use Rattle.delaunay.specs.Candidates.{candidatesOf, degenerate}
-use Rattle.finder.specs.Finding.{numberDue}
+use Rattle.reader.specs.Order.{First, NoneDue}
+use Rattle.reader.specs.Reading.{polygonOf}
+use Rattle.reader.proofs.Order.{none-first, Verdict, verdict-either, verdict-first, verdict-given, verdict-zero, verdict-none}
+use Rattle.delaunay.specs.Candidates.{candidatesOf}
 use Rattle.finder.specs.Sizes.{placesOf}
 use Rattle.triangulation.specs.Triangulations.{best}
 use Rattle.triangulator.specs.declared.Outcome.{Outcome}
@@ -35,10 +26,9 @@ use Rattle.triangulator.specs.declared.Outcome.the-variants.{Refused}
 use Rattle.triangulator.specs.Call.{numberOf}
 use Rattle.triangulator.specs.Demands.{Taken, a-patch, a-none}
 use Rattle.triangulator.proofs.Demands.{settled-taken}
-use Rattle.pipeline.specs.Patching.{Tables, Patching, refused, rowsIn, problemIn, tablesShort, patched, patchBy, polygonNumber, fileNumber, patchFile}
-use Rattle.demands.specs.Candidates.{Degenerate, on-sphere, on-circle}
-use Rattle.demands.specs.Demand1.{polygonIn, TooShort, triangles, candidates, weights, rows, work, CallDue, by-reader, twelve, thirteen}
-use Rattle.demands.proofs.Candidates.{degenerate-true, true-degenerate}
+use Rattle.pipeline.specs.Patching.{Tables, Patching, refused, rowsIn, problemIn, tablesShort, patched, patchBy, fileNumber, patchFile}
+use Rattle.demands.specs.Demand1.{polygonIn, TooShort, triangles, candidates, weights, rows, work, CallDue}
+use Rattle.demands.proofs.FileNumbers.{polygon-is, polygon-valid, file-verdict, none-read}
 
 -- ---- 13, as a test and as a statement
 module _ (p : Polygon) (t : Tables) where
@@ -70,11 +60,7 @@ pub never-given : {o : Outcome} {k : ℕ} → Taken o → numberOf o ≡ suc k �
 never-given a-patch q = omega (arith, q)
 never-given a-none q = omega (arith, q)
 
--- nothing is asked of the polygon that stands for a file which the reader refuses
-nothing-12 : Degenerate emptyPolygon → ⊥
-nothing-12 (on-sphere r) = omega (arith, r .fifth<n)
-nothing-12 (on-circle r) = omega (arith, r .fourth<n)
-
+-- no table is too short for the polygon that stands for a file which the reader refuses
 nothing-13 : {t : Tables} → TooShort (placesOf emptyPolygon) t → ⊥
 unfolding upFrom
 nothing-13 (triangles h) = omega arith
@@ -84,78 +70,12 @@ nothing-13 (rows h) = omega arith
 nothing-13 (work h) = omega arith
 
 module _ (limit : ℕ) (file : List ℕ) (bytes : Bytes file) (t : Tables) where
-  -- what the call does: one of the two
-  abbrev Decided : Type 0
-  Decided = Verdict (CallDue limit file t) (fileNumber limit file t)
+  abbrev Short : Polygon → Type 0
+  Short p = TooShort (placesOf p) t
 
-  -- ---- the reader's numbers come first
-  reader-first : (k : ℕ) → First (FileDue limit file) (suc k) → First (CallDue limit file t) (suc k)
-  reader-first k f = record { place = f .place; is-due = by-reader (f .is-due); none-before = before }
-    where
-      empty : polygonIn limit file ≡ emptyPolygon
-      empty = refused-empty limit file (suc k) f
+  verdict : Verdict (CallDue limit file t) (fileNumber limit file t)
+  verdict = file-verdict limit file bytes Short (λ p. tablesShort p t) (λ p. short-true p t) (λ p. true-short p t) nothing-13
 
-      before : (p : FilePlace) (j : ℕ) → Precedes p j (f .place) (suc k) → CallDue limit file t p j → ⊥
-      before p j h (by-reader d) = f .none-before p j h d
-      before p j h (twelve d) = nothing-12 (subst (λ (x : Polygon). Degenerate x) empty d)
-      before p j h (thirteen d) = nothing-13 (subst (λ (x : Polygon). TooShort (placesOf x) t) empty d)
-
-  -- ---- 12 comes next
-  pub twelve-first : NoneDue (FileDue limit file) → Degenerate (polygonIn limit file) → First (CallDue limit file t) 12
-  twelve-first none d = record { place = rim; is-due = twelve d; none-before = before }
-    where
-      before : (p : FilePlace) (j : ℕ) → Precedes p j rim 12 → CallDue limit file t p j → ⊥
-      before p j h (by-reader d) = none .none p j d
-      before _ _ (by-number l) (twelve d) = omega arith
-      before _ _ (by-number l) (thirteen d) = omega arith
-
-  -- ---- a file that is read
-  module _ (e : reader.numberDue limit file ≡ 0) where
-    complete : readingOf limit file .status ≡ Complete
-    complete = ap (λ (k : ℕ). answer k (polygonOf file) .status) e
-
-    polygon-is : polygonIn limit file ≡ polygonOf file
-    polygon-is = ap (λ (k : ℕ). answer k (polygonOf file) .polygon) e
-
-    no-reader : (p : FilePlace) (k : ℕ) → FileDue limit file p k → ⊥
-    no-reader p k d = read-only-when limit file complete .none p k d
-
-    valid : ValidPolygon (polygonIn limit file)
-    valid = read-valid limit file complete bytes
-
-    number-is : fileNumber limit file t ≡ polygonNumber (polygonIn limit file) t
-    number-is = ap (λ (k : ℕ). firstDue k (polygonNumber (polygonOf file) t)) e ∙ ap (λ (p : Polygon). polygonNumber p t) (sym polygon-is)
-
-    no-code : Truth (degenerate (polygonIn limit file)) → Truth (tablesShort (polygonIn limit file) t) → Decided
-    unfolding numberDue
-    no-code (holds a) b =
-        first-due 11 (twelve-first (read-only-when limit file complete) (degenerate-true (polygonIn limit file) a))
-        (number-is ∙ yes _ _ (eq-eqb (codeOf (polygonIn limit file)) 0 (valid-code (polygonIn limit file) valid)) ∙ yes _ _ a)
-    no-code (fails a) (holds b) =
-        first-due 12 (record { place = rim; is-due = thirteen (short-true (polygonIn limit file) t b); none-before = before })
-        (number-is ∙ yes _ _ (eq-eqb (codeOf (polygonIn limit file)) 0 (valid-code (polygonIn limit file) valid)) ∙ no _ _ a ∙ yes _ _ b)
-      where
-        before : (p : FilePlace) (j : ℕ) → Precedes p j rim 13 → CallDue limit file t p j → ⊥
-        before p j h (by-reader d) = no-reader p j d
-        before p j h (twelve d) = true-not-false (true-degenerate (polygonIn limit file) d) a
-        before _ _ (by-number l) (thirteen d) = omega arith
-    no-code (fails a) (fails b) =
-        none-due (record { none = nothing })
-        (number-is ∙ yes _ _ (eq-eqb (codeOf (polygonIn limit file)) 0 (valid-code (polygonIn limit file) valid)) ∙ no _ _ a ∙ no _ _ b)
-      where
-        nothing : (p : FilePlace) (k : ℕ) → CallDue limit file t p k → ⊥
-        nothing p k (by-reader d) = no-reader p k d
-        nothing p k (twelve d) = true-not-false (true-degenerate (polygonIn limit file) d) a
-        nothing p k (thirteen d) = true-not-false (true-short (polygonIn limit file) t d) b
-
-  verdict : Decided
-  verdict = by (reader.numberDue limit file) refl
-    where
-      by : (k : ℕ) → reader.numberDue limit file ≡ k → Decided
-      by zero e = no-code e (truth (degenerate (polygonIn limit file))) (truth (tablesShort (polygonIn limit file) t))
-      by (suc k) e = first-due k (reader-first k (number-first limit file k e)) (ap (λ (j : ℕ). firstDue j (polygonNumber (polygonOf file) t)) e)
-
-  -- ---- the call
   refused-by : (k : ℕ) → fileNumber limit file t ≡ suc k → patchFile limit file t ≡ refused (suc k) t
   unfolding patchFile
   refused-by k e = ap (λ (n : ℕ). patchBy n (polygonOf file) t) e
@@ -203,8 +123,9 @@ module _ (limit : ℕ) (file : List ℕ) (bytes : Bytes file) (t : Tables) where
     pub call-is : patchFile limit file t ≡ patched (polygonIn limit file) t
 
   pub accepted : NoneDue (CallDue limit file t) → Accepted
-  accepted n = by (reader.numberDue limit file) refl
-    where
-      by : (k : ℕ) → reader.numberDue limit file ≡ k → Accepted
-      by zero e = record { polygon-valid = valid e; call-is = accepted-by (verdict-zero verdict n) ∙ ap (λ (p : Polygon). patched p t) (sym (polygon-is e)) }
-      by (suc k) e = absurd (none-first n (reader-first k (number-first limit file k e)))
+  accepted n =
+      let e = none-read limit file bytes Short (λ p. tablesShort p t) (λ p. short-true p t) (λ p. true-short p t) nothing-13 n in
+      record {
+        polygon-valid = polygon-valid limit file e bytes;
+        call-is = accepted-by (verdict-zero verdict n) ∙ ap (λ (p : Polygon). patched p t) (sym (polygon-is limit file e));
+      }

@@ -3,13 +3,15 @@ use mathlib.Core.List.{List}
 use Prim.Native.Nat.{ℕ}
 use Rattle.reader.specs.Order.{NoneDue}
 use Rattle.rim_file.specs.File.{Bytes}
+use Rattle.triangulation.specs.Triangulations.{ValidProblem}
 use Rattle.triangulation.specs.Demand3.{Demand3}
 use Rattle.triangulator.specs.Demands.{Handed}
 use Rattle.pipeline.specs.Patching.{Tables, problemIn, patchFile}
 use Rattle.demands.specs.Demand1.{polygonIn, CallDue}
-use Rattle.demands.specs.Demand3.{ListsLeft, answerIn, handedBack, RightOfTables}
+use Rattle.demands.specs.Demand3.{ListsLeft, problemLeft, answerIn, handedBack, RightOfTables, HandedOfTables, RestOfTables}
 use Rattle.demands.proofs.Demand1.{accepted}
-use Rattle.demands.proofs.Patched.{patched-demand2, patched-demand3, patched-demand3-of-tables, patched-handed}
+use Rattle.demands.proofs.Patched.{patched-demand2, patched-demand3, patched-demand3-of-tables}
+use Rattle.demands.proofs.Patched.{patched-handed, patched-handed-of-tables, patched-valid, patched-rest}
 
 module _ (limit : ℕ) (file : List ℕ) (bytes : Bytes file) (t : Tables) (none : NoneDue (CallDue limit file t)) where
   -- Demand 2: the candidate, weight and row tables hold the lists of the rim in their first places, and what they held in all others
@@ -28,3 +30,14 @@ module _ (limit : ℕ) (file : List ℕ) (bytes : Bytes file) (t : Tables) (none
   -- what the caller is handed: after a patch its n - 2 triangles in walk order, each triangle of the tiling once; after 'none' nothing
   pub file-handed : Handed (problemIn (polygonIn limit file)) (handedBack (patchFile limit file t)) (patchFile limit file t .outcome)
   file-handed = let a = accepted limit file bytes t none in patched-handed (polygonIn limit file) t (a .call-is) (a .polygon-valid)
+
+  pub file-handed-of-tables : HandedOfTables (polygonIn limit file) (patchFile limit file t)
+  file-handed-of-tables = let a = accepted limit file bytes t none in patched-handed-of-tables (polygonIn limit file) t (a .call-is) (a .polygon-valid)
+
+  -- the lists in the tables state a valid problem, of which all that is proved of tilings holds
+  pub file-valid : ValidProblem (problemLeft (polygonIn limit file) (patchFile limit file t .left))
+  file-valid = let a = accepted limit file bytes t none in patched-valid (polygonIn limit file) t (a .call-is) (a .polygon-valid)
+
+  -- what is left beside the patch
+  pub file-rest : RestOfTables (polygonIn limit file) t (patchFile limit file t)
+  file-rest = patched-rest (polygonIn limit file) t (accepted limit file bytes t none .call-is)

@@ -22,12 +22,13 @@ use Rattle.finder.specs.declared.Sizes.the-variants as sizes
 use Rattle.finder.specs.Finding.{Finding, finding, numberOf, shortTables, numberDue, findBy, findNumber, findCall}
 use Rattle.finder.specs.Sizes.{placesOf, sizesBy, sizesOf}
 use Rattle.finder.specs.Sizes as finder-sizes
-use Rattle.demands.specs.Polygons.{FindTooShort, few-candidates, few-weights, few-rows, FindDue, SizesDue}
+use Rattle.demands.specs.Finding.{FindTooShort, few-candidates, few-weights, few-rows}
+use Rattle.demands.specs.Polygons.{FindDue, SizesDue}
 use Rattle.demands.proofs.PolygonNumbers.{polygon-verdict}
 
 module _ (p : Polygon) (candidates : List (List ℕ)) (weights : List ℕ) (rows : List (List ℕ)) where
   -- ---- 13, as a test and as a statement
-  short-true : shortTables p candidates weights rows ≡ true → FindTooShort (placesOf p) candidates weights rows
+  pub short-true : shortTables p candidates weights rows ≡ true → FindTooShort (placesOf p) candidates weights rows
   short-true e = by (truth (ltb (length candidates) (placesOf p .candidates))) (truth (ltb (length weights) (placesOf p .candidates)))
     where
       by : Truth (ltb (length candidates) (placesOf p .candidates)) → Truth (ltb (length weights) (placesOf p .candidates)) →
@@ -36,7 +37,7 @@ module _ (p : Polygon) (candidates : List (List ℕ)) (weights : List ℕ) (rows
       by (fails a) (holds b) = few-weights (ltb-true _ _ b)
       by (fails a) (fails b) = few-rows (ltb-true (length rows) (placesOf p .rows) (sym (no _ _ a ∙ no _ _ b) ∙ e))
 
-  true-short : FindTooShort (placesOf p) candidates weights rows → shortTables p candidates weights rows ≡ true
+  pub true-short : FindTooShort (placesOf p) candidates weights rows → shortTables p candidates weights rows ≡ true
   true-short (few-candidates h) = either-left _ _ (lt-ltb _ _ h)
   true-short (few-weights h) = either-right (ltb (length candidates) (placesOf p .candidates)) _ (either-left _ _ (lt-ltb _ _ h))
   true-short (few-rows h) =

@@ -39,7 +39,8 @@ use Rattle.pipeline.proofs.Values.{valid-job}
 use Rattle.demands.specs.Demand1.{CallDue, by-reader, twelve, polygonIn}
 use Rattle.demands.specs.Candidates.{Counts, Face, abc, abd, acd, bcd, Flat, CountsInPlane, Candidate, face, three, Cospherical, Cocircular, Degenerate, on-sphere, on-circle}
 use Rattle.demands.proofs.Candidates.{candidate-true, true-candidate}
-use Rattle.demands.proofs.Demand1.{twelve-first, refused-first, given-first, accepted}
+use Rattle.demands.proofs.FileNumbers.{twelve-first}
+use Rattle.demands.proofs.Demand1.{refused-first, given-first, accepted}
 
 -- ---- which triples are candidates
 module _ (p : Polygon) where
@@ -126,7 +127,7 @@ alone w rows = ap (λ (x : ℕ). patch x (0 ∷ [])) (sum w)
 -- ---- the one call
 -- where the reader takes the file: 12 where a three of a flat rim that counts has a fourth vertex on its circle
 pub circle-gets-12 : (limit : ℕ) (file : List ℕ) → Bytes file → (t : Tables) → NoneDue (FileDue limit file) → Cocircular (polygonIn limit file) → patchFile limit file t ≡ refused 12 t
-circle-gets-12 limit file bytes t none r = refused-first limit file bytes t 12 (twelve-first limit file bytes t none (on-circle r))
+circle-gets-12 limit file bytes t none r = refused-first limit file bytes t 12 (twelve-first limit file _ none (on-circle r))
 
 -- and only there: 12 given on a flat rim is that of such a circle
 due-12 : (limit : ℕ) (file : List ℕ) (t : Tables) (p : FilePlace) → CallDue limit file t p 12 → Degenerate (polygonIn limit file)

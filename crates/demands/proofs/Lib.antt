@@ -2,10 +2,12 @@ pub mod Candidates
 pub mod Demand2
 pub mod Tables
 pub mod Patched
+pub mod FileNumbers
 pub mod Demand1
 pub mod Demands
 pub mod PolygonNumbers
 pub mod Finding
+pub mod FileFinding
 pub mod Polygons
 pub mod Flat
 pub mod Judging

@@ -6,16 +6,17 @@ use Rattle.lists.proofs.Writing.{filled-take}
 use Rattle.polygon.specs.declared.Polygon.{Polygon}
 use Rattle.polygon.specs.Polygon.{ValidPolygon}
 use Rattle.delaunay.specs.Candidates.{candidatesOf}
-use Rattle.triangulation.specs.Triangulations.{Answer, best}
+use Rattle.triangulation.specs.Triangulations.{ValidProblem, Answer, best}
 use Rattle.triangulation.specs.Problems.{problemOf}
 use Rattle.triangulation.specs.Demand3.{Demand3}
 use Rattle.triangulation.proofs.Demand3.{demand3}
 use Rattle.triangulator.specs.Demands.{Handed}
-use Rattle.triangulator.proofs.Demands.{settled-states, settled-handed}
+use Rattle.triangulator.proofs.Demands.{settled-states, settled-handed, settled-rest}
 use Rattle.pipeline.specs.Patching.{Tables, Patching, weightsIn, rowsIn, problemIn, patched, jobIn}
 use Rattle.pipeline.proofs.Values.{valid-job}
 use Rattle.pipeline.proofs.Accepted.{weight-count}
-use Rattle.demands.specs.Demand3.{ListsLeft, candidatesLeft, weightsLeft, rowsLeft, jobLeft, answerIn, handedBack, RightOfTables}
+use Rattle.demands.specs.Demand3.{ListsLeft, candidatesLeft, weightsLeft, rowsLeft, jobLeft, problemLeft, answerIn, handedBack}
+use Rattle.demands.specs.Demand3.{RightOfTables, HandedOfTables, RestOfTables}
 use Rattle.demands.proofs.Tables.{filled-hold}
 
 module _ (p : Polygon) (t : Tables) {x : Patching} (e : x ≡ patched p t) where
@@ -45,7 +46,18 @@ module _ (p : Polygon) (t : Tables) {x : Patching} (e : x ≡ patched p t) where
     pub patched-demand3-of-tables : RightOfTables p x
     patched-demand3-of-tables = subst (λ (j : Job). Demand3 (problemOf j) (answerIn x)) (sym job-left) patched-demand3
 
+    -- what is handed back, over the polygon's lists and over those in the tables
     pub patched-handed : Handed (problemIn p) (handedBack x) (x .outcome)
     patched-handed =
         subst (λ (x : Patching). Handed (problemIn p) (handedBack x) (x .outcome)) (sym e)
         (settled-handed (problemIn p) (valid-job p v) (length (candidatesOf p)) (t .triangles) (t .work))
+
+    pub patched-handed-of-tables : HandedOfTables p x
+    patched-handed-of-tables = subst (λ (j : Job). Handed (problemOf j) (handedBack x) (x .outcome)) (sym job-left) patched-handed
+
+    -- the lists in the tables state a valid problem
+    pub patched-valid : ValidProblem (problemLeft p (x .left))
+    patched-valid = subst (λ (j : Job). ValidProblem (problemOf j)) (sym job-left) (valid-job p v)
+
+  pub patched-rest : RestOfTables p t x
+  patched-rest = subst (λ (x : Patching). RestOfTables p t x) (sym e) (settled-rest (best (problemIn p)) (length (candidatesOf p)) (t .triangles) (t .work))

@@ -13,18 +13,19 @@ use Rattle.polygon.specs.Due.{PolygonBefore, First}
 use Rattle.polygon.proofs.Due.{ordered, none-valid}
 use Rattle.delaunay.specs.Candidates.{candidatesOf}
 use Rattle.finder.specs.Sizes.{placesOf}
-use Rattle.triangulation.specs.Triangulations.{best}
+use Rattle.triangulation.specs.Triangulations.{ValidProblem, best}
 use Rattle.triangulation.specs.Demand3.{Demand3}
 use Rattle.triangulator.specs.Call.{numberOf}
-use Rattle.triangulator.specs.Demands.{Taken, Handed}
+use Rattle.triangulator.specs.Demands.{Taken}
 use Rattle.triangulator.proofs.Demands.{settled-taken}
 use Rattle.pipeline.specs.Patching.{Tables, Patching, refused, problemIn, tablesShort, patched, patchBy, polygonNumber, patchPolygon}
 use Rattle.demands.specs.Demand1.{TooShort}
-use Rattle.demands.specs.Demand3.{ListsLeft, handedBack, answerIn, RightOfTables}
+use Rattle.demands.specs.Demand3.{ListsLeft, problemLeft, answerIn, RightOfTables, HandedOfTables, RestOfTables}
 use Rattle.demands.specs.Polygons.{by-polygon, PatchDue}
 use Rattle.demands.proofs.Demand1.{short-true, true-short, never-refused, never-given}
 use Rattle.demands.proofs.PolygonNumbers.{polygon-verdict}
-use Rattle.demands.proofs.Patched.{patched-demand2, patched-demand3, patched-demand3-of-tables, patched-handed}
+use Rattle.demands.proofs.Patched.{patched-demand2, patched-demand3, patched-demand3-of-tables}
+use Rattle.demands.proofs.Patched.{patched-handed-of-tables, patched-valid, patched-rest}
 
 module _ (p : Polygon) (t : Tables) where
   verdict : Verdict PolygonBefore (PatchDue p t) (polygonNumber p t)
@@ -68,10 +69,10 @@ module _ (p : Polygon) (t : Tables) where
 
   -- ---- a polygon on which, with its tables, no number is due
   module _ (none : NoneDue (PatchDue p t)) where
-    valid : ValidPolygon p
+    pub valid : ValidPolygon p
     valid = none-valid p (record { none = λ q k d. none .none q k (by-polygon d) })
 
-    call-is : patchPolygon p t ≡ patched p t
+    pub call-is : patchPolygon p t ≡ patched p t
     call-is = by-number (verdict-zero verdict none)
 
     -- Demand 2: the candidate, weight and row tables hold the lists of the polygon in their first places, and what they held in all others
@@ -86,5 +87,13 @@ module _ (p : Polygon) (t : Tables) where
     polygon-demand3-of-tables = patched-demand3-of-tables p t call-is valid
 
     -- what the caller is handed: after a patch its n - 2 triangles in walk order, each triangle of the tiling once; after 'none' nothing
-    pub polygon-handed : Handed (problemIn p) (handedBack (patchPolygon p t)) (patchPolygon p t .outcome)
-    polygon-handed = patched-handed p t call-is valid
+    pub polygon-handed-of-tables : HandedOfTables p (patchPolygon p t)
+    polygon-handed-of-tables = patched-handed-of-tables p t call-is valid
+
+    -- the lists in the tables state a valid problem, of which all that is proved of tilings holds
+    pub polygon-problem-valid : ValidProblem (problemLeft p (patchPolygon p t .left))
+    polygon-problem-valid = patched-valid p t call-is valid
+
+    -- what is left beside the patch
+    pub polygon-rest : RestOfTables p t (patchPolygon p t)
+    polygon-rest = patched-rest p t call-is

@@ -1,12 +1,13 @@
--- Every patch is listed turn by turn (rule 3.12), of the call for direct jobs and of the one call. Assumes nothing.
+-- Every patch is listed turn by turn (rule 3.12), of the call for direct jobs and of those on rim files and polygons. Assumes nothing.
 use Prim.Native.Nat.{ℕ}
-use mathlib.Core.Path.{_≡_, sym, _∙_}
+use mathlib.Core.Path.{_≡_, sym, _∙_, subst}
 use mathlib.Core.List.{List}
 use lib.ListN.{length}
 use Rattle.jobs.specs.Job.{Job}
 use Rattle.rim_file.specs.File.{Bytes}
 use Rattle.reader.specs.Order.{NoneDue}
-use Rattle.delaunay.specs.Candidates.{candidatesOf}
+use Rattle.polygon.specs.declared.Polygon.{Polygon}
+use Rattle.polygon.specs.Polygon.{ValidPolygon}
 use Rattle.triangulation.specs.Triangulations.{Answer, patch}
 use Rattle.triangulation.specs.Problems.{problemOf}
 use Rattle.triangulation.specs.Demand3.{Demand3}
@@ -20,11 +21,14 @@ use Rattle.triangulator.specs.Call.{triangulated}
 use Rattle.triangulator.specs.Demands.{stated}
 use Rattle.triangulator.proofs.Accepting.{well-formed, accepted-well-formed}
 use Rattle.triangulator.proofs.Demands.{job-demand3}
-use Rattle.pipeline.specs.Patching.{Tables, problemIn, patchFile, jobIn}
+use Rattle.pipeline.specs.Patching.{Tables, Patching, patched, patchPolygon, patchFile, jobIn}
 use Rattle.pipeline.proofs.Accepted.{lists-accepted}
 use Rattle.demands.specs.Demand1.{polygonIn, CallDue}
+use Rattle.demands.specs.Demand3.{problemLeft, answerIn}
+use Rattle.demands.specs.Polygons.{PatchDue}
 use Rattle.demands.proofs.Demand1.{accepted}
-use Rattle.demands.proofs.Demands.{file-demand3}
+use Rattle.demands.proofs.Patched.{job-left, patched-demand3}
+use Rattle.demands.proofs.Polygons.{valid, call-is}
 
 module _ (job : Job) where
   -- an answer of which demand 3 holds is the answer
@@ -40,11 +44,19 @@ module _ (job : Job) where
       right-answer (accepted-well-formed job (length triangles) (length work) (accepted-zero job (length triangles) (length work) a) .0)
       _ (job-demand3 job triangles work a)
 
--- and of every patch that the one call gives
-pub file-turn-by-turn : (limit : ℕ) (file : List ℕ) → Bytes file → (t : Tables) → NoneDue (CallDue limit file t) → (total : ℕ) (l : List ℕ)
-    → stated (patchFile limit file t .outcome) (patchFile limit file t .left .triangles) ≡ patch total l → TurnByTurn (problemIn (polygonIn limit file)) l
+-- and of every patch that a call on a polygon gives, over the lists that it left
+module _ (p : Polygon) (v : ValidPolygon p) (t : Tables) {x : Patching} (is : x ≡ patched p t) where
+  left-turn-by-turn : (total : ℕ) (l : List ℕ) → answerIn x ≡ patch total l → TurnByTurn (problemLeft p (x .left)) l
+  left-turn-by-turn total l e =
+      subst (λ (j : Job). TurnByTurn (problemOf j) l) (sym (job-left p t is))
+      (right-answer (jobIn p) (well-formed (jobIn p) (v .least) (v .most) (lists-accepted p v)) _ (patched-demand3 p t is v) total l e)
+
+pub file-turn-by-turn : (limit : ℕ) (file : List ℕ) → Bytes file → (t : Tables) → NoneDue (CallDue limit file t) → (total : ℕ) (l : List ℕ) →
+    answerIn (patchFile limit file t) ≡ patch total l → TurnByTurn (problemLeft (polygonIn limit file) (patchFile limit file t .left)) l
 file-turn-by-turn limit file bytes t none =
-    let p = polygonIn limit file in
-    let v = accepted limit file bytes t none .polygon-valid in
-    right-answer (jobIn p) (well-formed (jobIn p) (v .least) (v .most) (lists-accepted p v))
-    _ (file-demand3 limit file bytes t none)
+    let a = accepted limit file bytes t none in
+    left-turn-by-turn (polygonIn limit file) (a .polygon-valid) t (a .call-is)
+
+pub polygon-turn-by-turn : (p : Polygon) (t : Tables) → NoneDue (PatchDue p t) → (total : ℕ) (l : List ℕ) →
+    answerIn (patchPolygon p t) ≡ patch total l → TurnByTurn (problemLeft p (patchPolygon p t .left)) l
+polygon-turn-by-turn p t none = left-turn-by-turn p (valid p t none) t (call-is p t none)

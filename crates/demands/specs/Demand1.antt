@@ -24,8 +24,13 @@ pub data TooShort (needed : Places) (t : Tables) : Type 0 where
   rows : length (t .rows) < needed .rows → TooShort needed t
   work : length (t .work) < needed .candidates → TooShort needed t
 
--- number k is due on a call with a limit (rules 4.1 to 4.14, 4.18 and 4.20), at its place; 12 and 13 on the rim as a whole
-pub data CallDue (limit : ℕ) (file : List ℕ) (t : Tables) : FilePlace → ℕ → Type 0 where
-  by-reader : {p : FilePlace} {k : ℕ} → FileDue limit file p k → CallDue limit file t p k
-  twelve : Degenerate (polygonIn limit file) → CallDue limit file t rim 12
-  thirteen : TooShort (placesOf (polygonIn limit file)) t → CallDue limit file t rim 13
+-- number k is due on a call with a limit and a file, at its place (rules 4.1 to 4.14, 4.18 and 4.20); 12 on the rim as a whole, and 13 where the tables of
+-- the call are too short
+pub data FileCallDue (limit : ℕ) (file : List ℕ) (Short : Type 0) : FilePlace → ℕ → Type 0 where
+  by-reader : {p : FilePlace} {k : ℕ} → FileDue limit file p k → FileCallDue limit file Short p k
+  twelve : Degenerate (polygonIn limit file) → FileCallDue limit file Short rim 12
+  thirteen : Short → FileCallDue limit file Short rim 13
+
+-- on the one call (rules 4.13, 4.31)
+abbrev pub CallDue : ℕ → List ℕ → Tables → FilePlace → ℕ → Type 0
+CallDue limit file t = FileCallDue limit file (TooShort (placesOf (polygonIn limit file)) t)

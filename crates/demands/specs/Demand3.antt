@@ -5,11 +5,11 @@ use lib.ListN.{take}
 use Rattle.polygon.specs.declared.Polygon.{Polygon}
 use Rattle.finder.specs.Sizes.{placesOf}
 use Rattle.jobs.specs.Job.{Job, jobOf}
-use Rattle.triangulation.specs.Triangulations.{Answer}
+use Rattle.triangulation.specs.Triangulations.{Problem, Answer}
 use Rattle.triangulation.specs.Problems.{problemOf}
 use Rattle.triangulation.specs.Demand3.{Demand3}
-use Rattle.triangulator.specs.Call.{partOf}
-use Rattle.triangulator.specs.Demands.{stated}
+use Rattle.triangulator.specs.Call.{partOf, result}
+use Rattle.triangulator.specs.Demands.{stated, Handed, RestLeft}
 use Rattle.pipeline.specs.Patching.{Tables, Patching}
 use Rattle.demands.specs.Demand2.{TablesHold}
 
@@ -32,6 +32,9 @@ rowsLeft p left = take (placesOf p .rows) (left .rows)
 abbrev pub jobLeft : Polygon → Tables → Job
 jobLeft p left = jobOf (p .n) (candidatesLeft p left) (weightsLeft p left) (rowsLeft p left)
 
+abbrev pub problemLeft : Polygon → Tables → Problem
+problemLeft p left = problemOf (jobLeft p left)
+
 -- the triangles that a call hands back, as candidate numbers in walk order (rule 3.8)
 abbrev pub handedBack : Patching → List ℕ
 handedBack x = partOf (x .outcome) (x .left .triangles)
@@ -42,4 +45,12 @@ answerIn x = stated (x .outcome) (x .left .triangles)
 
 -- the answer is right for the lists that the call left (rule 3.7)
 abbrev pub RightOfTables : Polygon → Patching → Type 0
-RightOfTables p x = Demand3 (problemOf (jobLeft p (x .left))) (answerIn x)
+RightOfTables p x = Demand3 (problemLeft p (x .left)) (answerIn x)
+
+-- so is what is handed back with it (rule 3.8)
+abbrev pub HandedOfTables : Polygon → Patching → Type 0
+HandedOfTables p x = Handed (problemLeft p (x .left)) (handedBack x) (x .outcome)
+
+-- what the call left in its triangle and work tables beside the patch (rules 3.8, 3.9)
+abbrev pub RestOfTables : Polygon → Tables → Patching → Type 0
+RestOfTables p t x = RestLeft (placesOf p .candidates) (t .triangles) (t .work) (result (x .outcome) (x .left .triangles) (x .left .work))

@@ -2,6 +2,7 @@ pub mod Candidates
 pub mod Demand2
 pub mod Demand3
 pub mod Demand1
+pub mod Finding
 pub mod Polygons
 pub mod Base
 pub mod Conversion

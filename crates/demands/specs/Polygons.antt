@@ -1,20 +1,13 @@
 -- The numbers due on a polygon that a host built by hand and on the tables lent with it, each by itself and at its place (rule 4.34). Definitions only.
 use mathlib.Core.List.{List}
-use Prim.Native.Nat.{ℕ, _<_}
-use lib.ListN.{length}
+use Prim.Native.Nat.{ℕ}
 use Rattle.polygon.specs.declared.Polygon.{Polygon}
 use Rattle.polygon.specs.Due.{PolygonPlace, rim, PolygonDue}
-use Rattle.finder.specs.declared.Places.{Places}
 use Rattle.finder.specs.Sizes.{placesOf}
 use Rattle.pipeline.specs.Patching.{Tables}
 use Rattle.demands.specs.Candidates.{Degenerate}
 use Rattle.demands.specs.Demand1.{TooShort}
-
--- one of the finder's three tables has fewer places than these (rule 4.13)
-pub data FindTooShort (needed : Places) (candidates : List (List ℕ)) (weights : List ℕ) (rows : List (List ℕ)) : Type 0 where
-  few-candidates : length candidates < needed .candidates → FindTooShort needed candidates weights rows
-  few-weights : length weights < needed .candidates → FindTooShort needed candidates weights rows
-  few-rows : length rows < needed .rows → FindTooShort needed candidates weights rows
+use Rattle.demands.specs.Finding.{FindTooShort}
 
 -- number k is due on a call with a polygon, at its place; 12 on the rim as a whole, and 13 where the tables of the call are too short (rule 4.34)
 pub data PolygonCallDue (p : Polygon) (Short : Type 0) : PolygonPlace → ℕ → Type 0 where

@@ -1,19 +1,20 @@
 -- The polygon that is read: from 3 vertices to the limit, each the one that its record gives, with its normal, all in range, no two vertices equal.
 -- Assumes nothing.
-use mathlib.Core.Path.{_≡_, refl, sym, subst}
+use mathlib.Core.Path.{_≡_, refl, sym, ap, subst}
 use mathlib.Core.Bool.{true}
 use mathlib.Core.List.{List}
 use Prim.Native.Nat.{ℕ, zero, suc, _+_, _≤_, _<_}
 use native.Mathlib.Omega.{arith}
 use lib.ListN.{getD}
 use Rattle.grid.specs.Point.{OnGrid, PointOnGrid}
+use Rattle.polygon.specs.declared.Polygon.{Polygon}
 use Rattle.polygon.specs.Polygon.{ValidPolygon}
 use Rattle.polygon.specs.Polygon as polygon
 use Rattle.polygon.specs.Normal.{noNormal, normalInRange, NormalInRange}
 use Rattle.polygon.specs.Normal as polygon-normals
 use Rattle.polygon.proofs.Normals.{normal-in-range}
 use Rattle.polygon.proofs.Validity.{repeated-none}
-use Rattle.rim_file.specs.File.{headerStart, offset}
+use Rattle.rim_file.specs.File.{headerStart, areaFactor, bendFactor, offset}
 use Rattle.rim_file.specs.Record.{known, heightOf, numberOf, pointOf}
 use Rattle.rim_file.specs.declared.Height.{Height}
 use Rattle.rim_file.specs.declared.Vertex.{Vertex}
@@ -21,7 +22,7 @@ use Rattle.rim_file.specs.declared.Vertex.the-variants.{At, Refused}
 use Rattle.rim_file.proofs.Vertices.{Vertexed, vertexed, refused-positive}
 use Rattle.rim_file.proofs.Lengths.{whole}
 use Rattle.reader.specs.Chain.{link, heightBefore, vertexAtPosition, normalAtPosition, vertexCount, verticesOf, normalsOf}
-use Rattle.reader.specs.Due.{InFile, HasVertex, HasNormal}
+use Rattle.reader.specs.Due.{HasRecords, HasVertex, HasNormal}
 use Rattle.reader.specs.Reading.{numberDue, polygonOf, answer, readingOf}
 use Rattle.reader.specs.declared.Status.the-variants.{Complete}
 use Rattle.reader.proofs.Answers.{count-within, limit-most}
@@ -103,6 +104,16 @@ module _ (limit : ℕ) (s : List ℕ) (complete : readingOf limit s .status ≡ 
   read-normals = subst (λ p. (i : ℕ) → i < p .n → HasNormal s i (polygon-normals.normalAt (p .normals) i)) (sym complete-polygon)
       (λ i h. subst (λ q. HasNormal s i q) (sym (table-at (λ j. normalAtPosition s j) noNormal (vertexCount s) i h)) (has-normal s i (normal-fine limit s (complete-read limit s complete) i h)))
 
-  -- and these records are among those of the file
-  pub read-records : (i : ℕ) → i < readingOf limit s .polygon .n → InFile s (link s i)
-  read-records = subst (λ p. (i : ℕ) → i < p .n → InFile s (link s i)) (sym complete-polygon) (read-end limit s (complete-read limit s complete) .has .in-file)
+  -- it has a vertex for each record of the chain, all of them records of the file and no two the same, up to the link 0 that ends it (rules 1.5, 1.8)
+  pub read-records : HasRecords s (readingOf limit s .polygon .n)
+  read-records = subst (λ p. HasRecords s (p .n)) (sym complete-polygon) (read-end limit s (complete-read limit s complete) .has)
+
+  pub read-ended : link s (readingOf limit s .polygon .n) ≡ 0
+  read-ended = subst (λ p. link s (p .n) ≡ 0) (sym complete-polygon) (read-end limit s (complete-read limit s complete) .ended)
+
+  -- and the header's factors (rule 1.2)
+  pub read-area-factor : readingOf limit s .polygon .«area_factor» ≡ areaFactor s
+  read-area-factor = ap (λ (p : Polygon). p .«area_factor») complete-polygon
+
+  pub read-bend-factor : readingOf limit s .polygon .«bend_factor» ≡ bendFactor s
+  read-bend-factor = ap (λ (p : Polygon). p .«bend_factor») complete-polygon

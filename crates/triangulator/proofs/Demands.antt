@@ -3,9 +3,11 @@ use Prim.Native.Nat.{ℕ, zero, suc}
 use mathlib.Core.Path.{_≡_, refl, sym, ap, _∙_, subst}
 use mathlib.Core.List.{List}
 use native.Mathlib.Omega.{arith}
-use lib.ListN.{length}
+use lib.ListN.{length, take, drop, replicate, length-replicate}
+use lib.Seq.{drop-at}
 use borrow.Author.Tests.{eq-eqb, ne-eqb}
 use Rattle.codes.specs.Refusals.{refusal}
+use Rattle.lists.specs.Lists.{filled}
 use Rattle.lists.proofs.Choice.{yes, no}
 use Rattle.lists.proofs.Writing.{filled-take}
 use Rattle.triangulation.specs.Triangulations.{Problem, ValidProblem, Answer, none, patch, best}
@@ -19,7 +21,7 @@ use Rattle.jobs.proofs.Acceptance.{accepted-zero, zero-accepted, code-due, due-
 use Rattle.triangulator.specs.declared.Outcome.{Outcome}
 use Rattle.triangulator.specs.declared.Outcome.the-variants.{Patch, None, Refused}
 use Rattle.triangulator.specs.Call.{Result, result, settled, triangulated, numberOf, partOf}
-use Rattle.triangulator.specs.Demands.{stated, Taken, a-patch, a-none, Handed, with-patch, with-none, with-refusal}
+use Rattle.triangulator.specs.Demands.{stated, Taken, a-patch, a-none, Handed, with-patch, with-none, with-refusal, RestLeft}
 use Rattle.triangulator.proofs.Accepting.{accepted-well-formed, accepted-demand3}
 use Rattle.triangulator.proofs.Settling.{part-patch, part-empty}
 
@@ -46,6 +48,27 @@ settled-handed job good count triangles work = go (best job) (demand3 job good .
     go (patch total l) h =
         let b = handed-back job good total l (h total l refl) in
         with-patch {total = total} (b .count) (rw (part-patch l triangles total) b)
+
+-- and so is what it leaves beside the patch
+pub settled-rest : (a : Answer) (count : ℕ) (triangles work : List ℕ) → RestLeft count triangles work (settled a count triangles work)
+settled-rest a count triangles work = by a
+  where
+    all : List ℕ
+    all = replicate count 0
+
+    long : length all ≡ count
+    long = length-replicate {A = ℕ} count 0
+
+    zeros-first : take count (filled all work) ≡ all
+    zeros-first = filled-take all work count (sym long)
+
+    then-kept : drop count (filled all work) ≡ drop count work
+    then-kept = drop-at all (drop (length all) work) count long ∙ ap (λ (k : ℕ). drop k work) long
+
+    by : (a : Answer) → RestLeft count triangles work (settled a count triangles work)
+    by none = record { zeros = zeros-first; further-work = then-kept; further-triangles = refl }
+    by (patch total l) =
+        record { zeros = zeros-first; further-work = then-kept; further-triangles = drop-at l (drop (length l) triangles) (length l) refl }
 
 pub refused-handed : (job : Problem) (number : ℕ) (triangles : List ℕ) → Handed job (partOf (Refused (refusal number)) triangles) (Refused (refusal number))
 refused-handed job number triangles = with-refusal (part-empty (Refused (refusal number)) triangles refl)
@@ -121,3 +144,14 @@ module _ (job : Job) (triangles work : List ℕ) where
           (settled-handed (problemOf job) (accepted-well-formed job (length triangles) (length work) e .0 .valid) (length (job .candidates)) triangles work)
       by (suc k) e = subst (λ (r : Result). Handed (problemOf job) (partOf (r .outcome) (r .triangles)) (r .outcome)) (sym (refused-call k e))
           (refused-handed (problemOf job) (suc k) triangles)
+
+  -- what an accepted job leaves beside the patch (rules 3.8, 3.9)
+  pub job-rest : Accepted job (length triangles) (length work) → RestLeft (length (job .candidates)) triangles work (triangulated job triangles work)
+  unfolding call number
+  job-rest a =
+      subst (λ (r : Result). RestLeft (length (job .candidates)) triangles work r) (sym (settled-call (accepted-zero job (length triangles) (length work) a)))
+      (settled-rest (best (problemOf job)) (length (job .candidates)) triangles work)
+
+  -- an accepted job states a valid problem: what is proved of tilings holds of it (rules 3.1 to 3.3)
+  pub job-valid : Accepted job (length triangles) (length work) → ValidProblem (problemOf job)
+  job-valid a = accepted-well-formed job (length triangles) (length work) (accepted-zero job (length triangles) (length work) a) .0 .valid

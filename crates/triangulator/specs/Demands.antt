@@ -2,10 +2,11 @@
 use mathlib.Core.Path.{_≡_}
 use mathlib.Core.List.{List, []}
 use Prim.Native.Nat.{ℕ, _-_}
-use lib.ListN.{take}
+use lib.ListN.{take, drop, replicate}
 use Rattle.codes.specs.declared.Refusal.{Refusal}
 use Rattle.triangulation.specs.Triangulations.{Problem, Answer, none, patch}
 use Rattle.triangulation.specs.Demand3.{HandedBack}
+use Rattle.triangulator.specs.Call.{trianglesOf, Result}
 use Rattle.triangulator.specs.declared.Outcome.{Outcome}
 use Rattle.triangulator.specs.declared.Outcome.the-variants.{Patch, None, Refused}
 
@@ -26,3 +27,10 @@ pub data Handed (job : Problem) (part : List ℕ) : Outcome → Type 0 where
   with-patch : {count total : ℕ} → count ≡ job .n - 2 → HandedBack job total part → Handed job part (Patch count total)
   with-none : part ≡ [] → Handed job part None
   with-refusal : {r : Refusal} → part ≡ [] → Handed job part (Refused r)
+
+-- what a call that is taken leaves beside the patch (rules 3.8, 3.9): 0 in a place of the work table for each candidate, and in every further place of the
+-- work and triangle tables what it held
+pub record RestLeft (count : ℕ) (triangles work : List ℕ) (after : Result) : Type 0 where
+  pub zeros : take count (after .work) ≡ replicate count 0
+  pub further-work : drop count (after .work) ≡ drop count work
+  pub further-triangles : drop (trianglesOf (after .outcome)) (after .triangles) ≡ drop (trianglesOf (after .outcome)) triangles
