@@ -23,6 +23,7 @@ use Rattle.demands.proofs.Conversion as conversion
 use Rattle.demands.proofs.Demand1 as demand1
 use Rattle.demands.proofs.Demands as demands
 use Rattle.demands.proofs.Finding as finding
+use Rattle.demands.proofs.FileFinding as file-finding
 use Rattle.demands.proofs.Flat as flat
 use Rattle.demands.proofs.Judging as judging
 use Rattle.demands.proofs.Limits as limits
@@ -31,25 +32,43 @@ use Rattle.demands.proofs.Polygons as polygons
 use Rattle.demands.proofs.Sizes as sizes
 use Rattle.demands.proofs.Tables as tables
 use Rattle.demands.proofs.Turns as turns
-use Rattle.promises.specs.Promises.{Reading, Finding, RimFile, HandBuilt, DirectJob, Tilings, Editions, Converting, HalfSteps, Limits, Turns, FlatRims, Judging, Promises}
+use Rattle.promises.specs.Promises.{ReaderCall, FinderCall, FinderFileCall, RimFile, HandBuilt, DirectJob, Tilings, Editions, ConverterCall}
+use Rattle.promises.specs.Promises.{HalfSteps, Limits, Turns, FlatRims, Judging, Promises}
 
-reads : (limit : ℕ) (file : List ℕ) → Reading limit file
+reads : (limit : ℕ) (file : List ℕ) → ReaderCall limit file
 reads limit file = record {
   read-when = reader.read-when limit file;
   read-only-when = reader.read-only-when limit file;
-  first-given = reader.first-refused limit file;
+  refused-first = reader.first-refused limit file;
   given-first = reader.given-first limit file;
+  area-factor = accepted.read-area-factor limit file;
+  bend-factor = accepted.read-bend-factor limit file;
+  records = accepted.read-records limit file;
+  ended = accepted.read-ended limit file;
   vertices = accepted.read-vertices limit file;
   normals = accepted.read-normals limit file;
 }
 
-finds : (p : Polygon) (candidates : List (List ℕ)) (weights : List ℕ) (rows : List (List ℕ)) → Finding p candidates weights rows
+finds : (p : Polygon) (candidates : List (List ℕ)) (weights : List ℕ) (rows : List (List ℕ)) → FinderCall p candidates weights rows
 finds p candidates weights rows = record {
   found-when = finding.found-when p candidates weights rows;
   found-only-when = finding.found-only-when p candidates weights rows;
   refused-first = finding.refused-first p candidates weights rows;
   given-first = finding.given-first p candidates weights rows;
   lists = tables.find-hold p candidates weights rows;
+  sizes-when = finding.sizes-known-when p;
+  sizes-refused-first = finding.sizes-refused-first p;
+  sizes-given-first = finding.sizes-given-first p;
+}
+
+finds-in-files : (limit : ℕ) (file : List ℕ) → Bytes file → (candidates : List (List ℕ)) (weights : List ℕ) (rows : List (List ℕ)) →
+    FinderFileCall limit file candidates weights rows
+finds-in-files limit file bytes candidates weights rows = record {
+  found-when = file-finding.found-when limit file bytes candidates weights rows;
+  found-only-when = file-finding.found-only-when limit file bytes candidates weights rows;
+  refused-first = file-finding.refused-first limit file bytes candidates weights rows;
+  given-first = file-finding.given-first limit file bytes candidates weights rows;
+  lists = file-finding.found-hold limit file bytes candidates weights rows;
 }
 
 closes : (limit : ℕ) (file : List ℕ) → Bytes file → (t : Tables) → RimFile limit file t
@@ -60,7 +79,9 @@ closes limit file bytes t = record {
   given-first = demand1.given-first limit file bytes t;
   lists = demands.file-demand2 limit file bytes t;
   right = demands.file-demand3-of-tables limit file bytes t;
-  handed = demands.file-handed limit file bytes t;
+  handed = demands.file-handed-of-tables limit file bytes t;
+  rest = demands.file-rest limit file bytes t;
+  valid = demands.file-valid limit file bytes t;
   sizes-refused = sizes.sizes-refused limit file t;
   shorter-13 = λ e. sizes.shorter-13 limit file t e;
   enough-taken = λ e. sizes.enough-taken limit file t e;
@@ -74,7 +95,9 @@ by-hand p t = record {
   given-first = polygons.given-first p t;
   lists = polygons.polygon-demand2 p t;
   right = polygons.polygon-demand3-of-tables p t;
-  handed = polygons.polygon-handed p t;
+  handed = polygons.polygon-handed-of-tables p t;
+  rest = polygons.polygon-rest p t;
+  valid = polygons.polygon-problem-valid p t;
 }
 
 tiles : (job : Job) (triangles work : List ℕ) → DirectJob job triangles work
@@ -85,6 +108,8 @@ tiles job triangles work = record {
   given-first = jobs.job-refused-only job triangles work;
   right = jobs.job-demand3 job triangles work;
   handed = jobs.job-handed job triangles work;
+  rest = jobs.job-rest job triangles work;
+  valid = jobs.job-valid job triangles work;
 }
 
 in-editions : (file : List ℕ) → Editions file
@@ -95,7 +120,7 @@ in-editions file = record {
   answer-2 = λ one same limit t. base.edition-2-answer limit one same t;
 }
 
-converts : (file out : List ℕ) → Converting file out
+converts : (file out : List ℕ) → ConverterCall file out
 converts file out = record {
   converted-when = numbers.converted-when file out;
   converted-only-when = numbers.converted-only-when file out;
@@ -127,7 +152,7 @@ within file = record {
 }
 
 in-turns : Turns
-in-turns = record { of-jobs = turns.job-turn-by-turn; of-files = turns.file-turn-by-turn }
+in-turns = record { of-jobs = turns.job-turn-by-turn; of-files = turns.file-turn-by-turn; of-polygons = turns.polygon-turn-by-turn }
 
 in-plane : FlatRims
 in-plane = record {
@@ -159,6 +184,7 @@ pub promises : Promises
 promises = record {
   reading = reads;
   finding = finds;
+  finding-files = finds-in-files;
   rim-files = closes;
   hand-built = by-hand;
   direct-jobs = tiles;

@@ -1,8 +1,9 @@
 -- The page of promises. Each field is a statement about a call, in the users' words, with its rule in docs/SPECIFICATION.md; `promises` of
 -- proofs/Promises.antt proves them all. A call is named here by the definition that its contract equates it with, on every path and for every place of
--- every lent table: `read_polygon` is `readingOf`, `find` is `findCall`, `patch_polygon` is `patchPolygon`, `patch_file` is `patchFile`, `table_sizes` is
--- `sizesFile`, `triangulate` is `triangulated`, `judge` is `judged`, `convert` is `convertCall`. `Bytes file` says that the places of a file are bytes, as
--- those of every `&[u8]` are. What the statements rest on stands at the end.
+-- every lent table. On rim files: `read_polygon` is `readingOf`, `find_file` is `findFile`, `patch_file` is `patchFile`, `pipeline::table_sizes` is
+-- `sizesFile`, `convert` is `convertCall`. On polygons: `find` is `findCall`, `finder::table_sizes` is `sizesOf`, `patch_polygon` is `patchPolygon`. On
+-- direct jobs: `triangulate` is `triangulated`, `judge` is `judged`. `Bytes file` says that the places of a file are bytes, as those of every `&[u8]` are.
+-- What the statements rest on stands at the end.
 use mathlib.Core.Path.{_≡_}
 use mathlib.Core.Logic.{_≢_}
 use mathlib.Core.Bool.{not, true, false}
@@ -22,10 +23,11 @@ use Rattle.polygon.specs.declared.Polygon.{Polygon}
 use Rattle.polygon.specs.Polygon as polygon
 use Rattle.polygon.specs.Normal as polygon-normals
 use Rattle.polygon.specs.Due as polygon-due
-use Rattle.rim_file.specs.File.{Bytes, u16At, isEdition2}
+use Rattle.rim_file.specs.File.{Bytes, u16At, isEdition2, areaFactor, bendFactor}
 use Rattle.rim_file.specs.Editions.{SameRim}
 use Rattle.rim_file.specs.Layouts.{Edition1, Edition2}
 use Rattle.reader.specs.declared.Status.the-variants.{Complete}
+use Rattle.reader.specs.Chain.{link}
 use Rattle.reader.specs.Order.{First}
 use Rattle.reader.specs.Due.{FileDue, HasRecords, HasVertex, HasNormal, ChainAtMost}
 use Rattle.reader.specs.Rounded.{Rounded}
@@ -39,7 +41,7 @@ use Rattle.finder.specs.declared.Places.{Places}
 use Rattle.finder.specs.declared.Sizes.the-variants as sizes
 use Rattle.finder.specs.Finding.{finding, findCall}
 use Rattle.finder.specs.Finding as finder
-use Rattle.finder.specs.Sizes.{placesOf}
+use Rattle.finder.specs.Sizes.{placesOf, sizesOf}
 use Rattle.jobs.specs.Job.{Job}
 use Rattle.jobs.specs.Due.{Accepted}
 use Rattle.jobs.specs.Due as job-due
@@ -50,7 +52,7 @@ use Rattle.triangulation.specs.Tiling.{Tiling}
 use Rattle.preorder.specs.Preorder.{TurnByTurn}
 use Rattle.triangulator.specs.declared.Outcome.the-variants.{Patch, None, Refused}
 use Rattle.triangulator.specs.Call.{result, numberOf, partOf, triangulated}
-use Rattle.triangulator.specs.Demands.{Taken, Handed, stated}
+use Rattle.triangulator.specs.Demands.{Taken, Handed, RestLeft, stated}
 use Rattle.judge.specs.declared.Judgement.the-variants as judgement
 use Rattle.judge.specs.Call.{judged}
 use Rattle.judge.specs.Call as judge
@@ -61,26 +63,33 @@ use Rattle.converter.specs.declared.Conversion.the-variants as conversion
 use Rattle.converter.specs.Call.{converting, convertCall, handedOver}
 use Rattle.converter.specs.Call as converter
 use Rattle.converter.specs.Due.{ConvertDue}
-use Rattle.pipeline.specs.Patching.{Tables, refused, problemIn, patchPolygon, patchFile}
+use Rattle.pipeline.specs.Finding.{findFile}
+use Rattle.pipeline.specs.Patching.{Tables, refused, patchPolygon, patchFile}
 use Rattle.pipeline.specs.Sizes.{sizesFile}
 use Rattle.demands.specs.Candidates.{Face, Flat, CountsInPlane, Candidate, Cocircular}
 use Rattle.demands.specs.Demand1.{polygonIn, TooShort, CallDue}
 use Rattle.demands.specs.Demand2.{TablesHold}
-use Rattle.demands.specs.Demand3.{ListsLeft, jobLeft, handedBack, answerIn, RightOfTables}
-use Rattle.demands.specs.Polygons.{FindDue, PatchDue}
+use Rattle.demands.specs.Demand3.{ListsLeft, jobLeft, problemLeft, answerIn, RightOfTables, HandedOfTables, RestOfTables}
+use Rattle.demands.specs.Finding.{FindFileDue}
+use Rattle.demands.specs.Polygons.{FindDue, PatchDue, SizesDue}
 use Rattle.demands.specs.Base.{baseFile}
 use Rattle.demands.specs.Conversion.{SameAnswers}
 use Rattle.demands.specs.OnePatch.{LongEnough, SamePatch}
 use Rattle.demands.specs.Limits.{OneAnswer}
 
 -- ---- reading a rim file, of the reader's call under any limit
-pub record Reading (limit : ℕ) (file : List ℕ) : Type 0 where
+pub record ReaderCall (limit : ℕ) (file : List ℕ) : Type 0 where
   -- a file is read exactly when no number is due (rules 4.31, 4.33)
   pub read-when : NoneDue (FileDue limit file) → readingOf limit file .status ≡ Complete
   pub read-only-when : readingOf limit file .status ≡ Complete → NoneDue (FileDue limit file)
   -- every other gets the first number due, and no polygon (rules 4.30, 4.31)
-  pub first-given : (k : ℕ) → First (FileDue limit file) k → readingOf limit file ≡ refusedReading k
+  pub refused-first : (k : ℕ) → First (FileDue limit file) k → readingOf limit file ≡ refusedReading k
   pub given-first : (k : ℕ) → statusNumber (readingOf limit file .status) ≡ suc k → First (FileDue limit file) (suc k)
+  -- the factors are the header's, and there is a vertex for each record of the chain, up to the link 0 that ends it (rules 1.2, 1.5, 1.8)
+  pub area-factor : readingOf limit file .status ≡ Complete → readingOf limit file .polygon .«area_factor» ≡ areaFactor file
+  pub bend-factor : readingOf limit file .status ≡ Complete → readingOf limit file .polygon .«bend_factor» ≡ bendFactor file
+  pub records : readingOf limit file .status ≡ Complete → HasRecords file (readingOf limit file .polygon .n)
+  pub ended : readingOf limit file .status ≡ Complete → link file (readingOf limit file .polygon .n) ≡ 0
   -- vertices and normals are what the records give, in the order of the chain (rules 1.6 to 1.8, 1.13, 1.14)
   pub vertices : readingOf limit file .status ≡ Complete → (i : ℕ) → i < readingOf limit file .polygon .n →
       HasVertex file i (polygon.vertexAt (readingOf limit file .polygon .vertices) i)
@@ -88,7 +97,7 @@ pub record Reading (limit : ℕ) (file : List ℕ) : Type 0 where
       HasNormal file i (polygon-normals.normalAt (readingOf limit file .polygon .normals) i)
 
 -- ---- candidates, weights and rows, of the finder's call on a polygon built by hand
-pub record Finding (p : Polygon) (candidates : List (List ℕ)) (weights : List ℕ) (rows : List (List ℕ)) : Type 0 where
+pub record FinderCall (p : Polygon) (candidates : List (List ℕ)) (weights : List ℕ) (rows : List (List ℕ)) : Type 0 where
   -- the lists are found exactly when no number is due (rule 4.34)
   pub found-when : NoneDue (FindDue p candidates weights rows) →
       findCall p candidates weights rows .answer ≡ found.Lists (placesOf p .candidates) (placesOf p .rows)
@@ -103,6 +112,25 @@ pub record Finding (p : Polygon) (candidates : List (List ℕ)) (weights : List 
   pub lists : (count row-count : ℕ) → findCall p candidates weights rows .answer ≡ found.Lists count row-count →
       TablesHold p count row-count candidates weights rows
       (findCall p candidates weights rows .candidates) (findCall p candidates weights rows .weights) (findCall p candidates weights rows .rows)
+  -- the places that the tables need are told in the same way, before any is lent (rule 5.5)
+  pub sizes-when : NoneDue (SizesDue p) → sizesOf p ≡ sizes.Known (placesOf p)
+  pub sizes-refused-first : (k : ℕ) → polygon-due.First (SizesDue p) k → sizesOf p ≡ sizes.Refused (refusal k)
+  pub sizes-given-first : (k : ℕ) → sizesOf p ≡ sizes.Refused (refusal k) → polygon-due.First (SizesDue p) k
+
+-- the same of the finder's call on a rim file, under any limit
+pub record FinderFileCall (limit : ℕ) (file : List ℕ) (candidates : List (List ℕ)) (weights : List ℕ) (rows : List (List ℕ)) : Type 0 where
+  pub found-when : NoneDue (FindFileDue limit file candidates weights rows) → findFile limit file candidates weights rows .answer
+      ≡ found.Lists (placesOf (polygonIn limit file) .candidates) (placesOf (polygonIn limit file) .rows)
+  pub found-only-when : (count row-count : ℕ) → findFile limit file candidates weights rows .answer ≡ found.Lists count row-count →
+      NoneDue (FindFileDue limit file candidates weights rows)
+  pub refused-first : (k : ℕ) → First (FindFileDue limit file candidates weights rows) k →
+      findFile limit file candidates weights rows ≡ finding (found.Refused (refusal k)) candidates weights rows
+  pub given-first : (k : ℕ) → finder.numberOf (findFile limit file candidates weights rows .answer) ≡ suc k →
+      First (FindFileDue limit file candidates weights rows) (suc k)
+  pub lists : NoneDue (FindFileDue limit file candidates weights rows) →
+      TablesHold (polygonIn limit file) (placesOf (polygonIn limit file) .candidates) (placesOf (polygonIn limit file) .rows) candidates weights rows
+      (findFile limit file candidates weights rows .candidates) (findFile limit file candidates weights rows .weights)
+      (findFile limit file candidates weights rows .rows)
 
 -- ---- the one call on a rim file, under any limit
 pub record RimFile (limit : ℕ) (file : List ℕ) (t : Tables) : Type 0 where
@@ -118,8 +146,11 @@ pub record RimFile (limit : ℕ) (file : List ℕ) (t : Tables) : Type 0 where
   -- each that costs the same comes later; 'none' exactly when they hold none (rules 3.3 to 3.7)
   pub right : NoneDue (CallDue limit file t) → RightOfTables (polygonIn limit file) (patchFile limit file t)
   -- what the caller is handed: after a patch its n - 2 triangles in walk order, each once; after 'none' nothing (rule 3.8)
-  pub handed : NoneDue (CallDue limit file t) →
-      Handed (problemIn (polygonIn limit file)) (handedBack (patchFile limit file t)) (patchFile limit file t .outcome)
+  pub handed : NoneDue (CallDue limit file t) → HandedOfTables (polygonIn limit file) (patchFile limit file t)
+  -- beside it the work table has 0 for each candidate, and every further place of both tables what it held (rules 3.8, 3.9)
+  pub rest : NoneDue (CallDue limit file t) → RestOfTables (polygonIn limit file) t (patchFile limit file t)
+  -- what tilings are, below, is said of these lists
+  pub valid : NoneDue (CallDue limit file t) → ValidProblem (problemLeft (polygonIn limit file) (patchFile limit file t .left))
   -- the sizing call: the one call gives its number, and 13 exactly where a table has fewer places than it says (rules 4.13, 5.5)
   pub sizes-refused : (k : ℕ) → sizesFile limit file ≡ sizes.Refused (refusal k) → patchFile limit file t ≡ refused k t
   pub shorter-13 : {needed : Places} → sizesFile limit file ≡ sizes.Known needed → TooShort needed t → patchFile limit file t ≡ refused 13 t
@@ -135,7 +166,9 @@ pub record HandBuilt (p : Polygon) (t : Tables) : Type 0 where
   -- demands 2 and 3, and what is handed back (rules 2.3 to 2.19, 3.3 to 3.9)
   pub lists : NoneDue (PatchDue p t) → ListsLeft p t (patchPolygon p t .left)
   pub right : NoneDue (PatchDue p t) → RightOfTables p (patchPolygon p t)
-  pub handed : NoneDue (PatchDue p t) → Handed (problemIn p) (handedBack (patchPolygon p t)) (patchPolygon p t .outcome)
+  pub handed : NoneDue (PatchDue p t) → HandedOfTables p (patchPolygon p t)
+  pub rest : NoneDue (PatchDue p t) → RestOfTables p t (patchPolygon p t)
+  pub valid : NoneDue (PatchDue p t) → ValidProblem (problemLeft p (patchPolygon p t .left))
 
 -- ---- direct jobs, of the tiler's call
 pub record DirectJob (job : Job) (triangles work : List ℕ) : Type 0 where
@@ -146,11 +179,13 @@ pub record DirectJob (job : Job) (triangles work : List ℕ) : Type 0 where
   pub refused-first : (k : ℕ) → job-due.FirstDue job (length triangles) (length work) k →
       triangulated job triangles work ≡ result (Refused (refusal k)) triangles work
   pub given-first : (k : ℕ) → triangulated job triangles work .outcome ≡ Refused (refusal k) → job-due.FirstDue job (length triangles) (length work) k
-  -- demand 3 (rules 3.3 to 3.8)
+  -- demand 3, what is handed back, and what is left beside it (rules 3.3 to 3.9)
   pub right : Accepted job (length triangles) (length work) →
       Demand3 (problemOf job) (stated (triangulated job triangles work .outcome) (triangulated job triangles work .triangles))
   pub handed : Handed (problemOf job) (partOf (triangulated job triangles work .outcome) (triangulated job triangles work .triangles))
       (triangulated job triangles work .outcome)
+  pub rest : Accepted job (length triangles) (length work) → RestLeft (length (job .candidates)) triangles work (triangulated job triangles work)
+  pub valid : Accepted job (length triangles) (length work) → ValidProblem (problemOf job)
 
 -- ---- editions: where a file of each has its numbers, and the answer without a surface outside (rules 1.2 to 1.4, 1.12, 1.13, 2.16)
 pub record Editions (file : List ℕ) : Type 0 where
@@ -160,7 +195,7 @@ pub record Editions (file : List ℕ) : Type 0 where
   pub answer-2 : {two : List ℕ} → isEdition2 file ≡ false → SameRim two file → (limit : ℕ) (t : Tables) → patchFile limit two t ≡ baseFile limit file t
 
 -- a file carried to the other edition, of the converter's call (rules 1.15, 1.16, 4.35)
-pub record Converting (file out : List ℕ) : Type 0 where
+pub record ConverterCall (file out : List ℕ) : Type 0 where
   -- converted exactly when no number is due; every other gets the first, and no place is changed
   pub converted-when : NoneDue (ConvertDue file out) →
       convertCall file out ≡ converting (conversion.Converted (otherEdition file) (length (converted file))) (filled (converted file) out)
@@ -205,12 +240,15 @@ pub record Limits (file : List ℕ) : Type 0 where
   -- the trim program answers as the bench program on every rim that both take (rule 5.9)
   pub trim-as-bench : ChainAtMost file trimVertices → OneAnswer trimVertices maxVertices file
 
--- ---- turns: every patch is listed by turns, a triangle in each, and after each no more parts wait than triangles are still to be listed (rule 3.12)
+-- ---- turns: every patch is listed by turns, a triangle in each, and after each no more parts wait than triangles are still to be listed (rule 3.12); said of
+-- the list that is handed back, and kept by the code's loop turn for turn (`Listing` of preorder/proofs)
 pub record Turns : Type 0 where
   pub of-jobs : (job : Job) (triangles work : List ℕ) → Accepted job (length triangles) (length work) → (total : ℕ) (l : List ℕ) →
       stated (triangulated job triangles work .outcome) (triangulated job triangles work .triangles) ≡ patch total l → TurnByTurn (problemOf job) l
   pub of-files : (limit : ℕ) (file : List ℕ) → Bytes file → (t : Tables) → NoneDue (CallDue limit file t) → (total : ℕ) (l : List ℕ) →
-      answerIn (patchFile limit file t) ≡ patch total l → TurnByTurn (problemIn (polygonIn limit file)) l
+      answerIn (patchFile limit file t) ≡ patch total l → TurnByTurn (problemLeft (polygonIn limit file) (patchFile limit file t .left)) l
+  pub of-polygons : (p : Polygon) (t : Tables) → NoneDue (PatchDue p t) → (total : ℕ) (l : List ℕ) →
+      answerIn (patchPolygon p t) ≡ patch total l → TurnByTurn (problemLeft p (patchPolygon p t .left)) l
 
 -- ---- flat rims
 pub record FlatRims : Type 0 where
@@ -273,14 +311,16 @@ pub record Tilings (problem : Problem) : Type 0 where
 
 -- ---- the page
 pub record Promises : Type 0 where
-  pub reading : (limit : ℕ) (file : List ℕ) → Reading limit file
-  pub finding : (p : Polygon) (candidates : List (List ℕ)) (weights : List ℕ) (rows : List (List ℕ)) → Finding p candidates weights rows
+  pub reading : (limit : ℕ) (file : List ℕ) → ReaderCall limit file
+  pub finding : (p : Polygon) (candidates : List (List ℕ)) (weights : List ℕ) (rows : List (List ℕ)) → FinderCall p candidates weights rows
+  pub finding-files : (limit : ℕ) (file : List ℕ) → Bytes file → (candidates : List (List ℕ)) (weights : List ℕ) (rows : List (List ℕ)) →
+      FinderFileCall limit file candidates weights rows
   pub rim-files : (limit : ℕ) (file : List ℕ) → Bytes file → (t : Tables) → RimFile limit file t
   pub hand-built : (p : Polygon) (t : Tables) → HandBuilt p t
   pub direct-jobs : (job : Job) (triangles work : List ℕ) → DirectJob job triangles work
   pub tilings : (problem : Problem) → Tilings problem
   pub editions : (file : List ℕ) → Editions file
-  pub converting : (file out : List ℕ) → Converting file out
+  pub converting : (file out : List ℕ) → ConverterCall file out
   pub half-steps : HalfSteps
   pub limits : (file : List ℕ) → Limits file
   pub turns : Turns
@@ -289,12 +329,14 @@ pub record Promises : Type 0 where
   pub own-patches : OwnPatches
 
 -- ---- what the page rests on, beside the calls' own definitions; `crate/File` is crates/CRATE/specs/FILE.antt, docs/ARCHITECTURE.md has the rest
--- numbers that are due: reader/Due `FileDue`, demands/Demand1 `CallDue`, `TooShort`, demands/Polygons `FindDue`, `PatchDue`, jobs/Due `Accepted`, `FirstDue`,
---   judge/Due `FirstDue`, converter/Due `ConvertDue`; the first of them: terms/Order `First`, `NoneDue`
--- what a file says: reader/Due `HasRecords`, `HasVertex`, `HasNormal`, `ChainAtMost`, reader/Rounded `Rounded`, grid/Number `HalfStep`, `EvenHalf`,
---   rim_file/Layouts `Edition1`, `Edition2`, rim_file/Editions `SameRim`
+-- numbers that are due: reader/Due `FileDue`, demands/Demand1 `CallDue`, `TooShort`, demands/Finding `FindFileDue`, demands/Polygons `FindDue`, `PatchDue`,
+--   `SizesDue`, jobs/Due `Accepted`, `FirstDue`, judge/Due `FirstDue`, converter/Due `ConvertDue`; the first of them: terms/Order `First`, `NoneDue`, with
+--   the order of places in reader/Order, polygon/Due, jobs/Due, judge/Due; the places needed: finder/Sizes `placesOf`
+-- what a file says: rim_file/File `areaFactor`, `bendFactor`, reader/Chain `link`, reader/Due `HasRecords`, `HasVertex`, `HasNormal`, `ChainAtMost`,
+--   reader/Rounded `Rounded`, grid/Number `HalfStep`, `EvenHalf`, rim_file/Layouts `Edition1`, `Edition2`, rim_file/Editions `SameRim`
 -- candidates, weights and rows: demands/Candidates `Candidate`, `Flat`, `Cocircular`, demands/Demand2 `TablesHold`, demands/Demand3 `ListsLeft`,
---   `RightOfTables`, planar/Planes `OnOneLine`, planar/Circles `collinear`, weights/Weights `ownWeight`
--- tilings and answers: jobs/Job `Job`, triangulation/Triangulations `Problem`, `totalWeight`, Problems `problemOf`, Tiling `Tiling`, Demand3 `Demand3`,
---   `HandedBack`, triangulator/Demands `Taken`, `Handed`, preorder/Preorder `TurnByTurn`, judge/Demands `IsTiling`, `Acceptable`, `SameNumbers`, `Excess`
+--   `RightOfTables`, `HandedOfTables`, `RestOfTables`, planar/Planes `OnOneLine`, planar/Circles `collinear`, weights/Weights `ownWeight`
+-- tilings and answers: jobs/Job `Job`, triangulation/Triangulations `Problem`, `totalWeight`, `preorder`, Problems `problemOf`, Tiling `Tiling`, Demand3
+--   `Demand3`, `HandedBack`, triangulator/Demands `Taken`, `Handed`, `RestLeft`, preorder/Preorder `TurnByTurn`, judge/Demands `IsTiling`, `Acceptable`,
+--   `SameNumbers`, `Excess`
 -- answers alike: demands/Base `baseFile`, Conversion `SameAnswers`, OnePatch `SamePatch`, `LongEnough`, Limits `OneAnswer`
