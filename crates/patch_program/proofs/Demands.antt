@@ -1,17 +1,22 @@
 -- The lines that are printed for a file add up to the total, and each has the row of the one triangle that its own hangs on. Assumes nothing.
 use mathlib.Core.Path.{_≡_, refl, sym, ap, ap₂, _∙_, subst}
-use mathlib.Core.List.{List, [], _∷_, map, cons≢nil, head-eq-of-cons-eq, List·Memᴰ, List·Memᴰ·head, List·Memᴰ·not-nil}
+use mathlib.Core.List.{List, [], _∷_, map, List·Memᴰ, List·Memᴰ·not-nil}
 use Prim.Native.Nat.{ℕ, zero, suc, _+_, _-_, _≤_, _<_}
 use native.Mathlib.Omega.{arith}
-use lib.ListN.{getD, length, replicate}
+use lib.ListN.{getD, length, replicate, length-map}
 use Rattle.codes.specs.Refusals.{refusal}
 use Rattle.lists.specs.Lists.{filled}
 use Rattle.lists.proofs.Writing.{filled-at}
-use Rattle.terms.specs.Entries.{triple, entryAt, hangs}
+use Rattle.lists.proofs.Maps.{map-at}
+use Rattle.lists.proofs.Members.{entry-member}
+use Rattle.terms.specs.Entries.{triple, entryAt, vertexA, vertexB, vertexC, hangs}
 use Rattle.polygon.specs.declared.Polygon.{Polygon}
 use Rattle.polygon.specs.Polygon.{ValidPolygon}
 use Rattle.reader.specs.Reading.{polygonOf}
-use Rattle.delaunay.specs.Candidates.{candidatesOf}
+use Rattle.faces.proofs.Members.{triples-member}
+use Rattle.delaunay.specs.Candidates.{candidatesOf, isCandidate}
+use Rattle.weights.specs.Weights.{ownWeight}
+use Rattle.weights.proofs.Edges.{weight-at}
 use Rattle.lists.specs.Sums.{sum}
 use Rattle.triangulation.specs.Triangulations.{Problem}
 use Rattle.triangulation.specs.Triangulations as triangulations
@@ -30,7 +35,7 @@ use Rattle.pipeline.proofs.Accepted.{weight-count}
 use Rattle.pipeline.proofs.Values.{valid-job}
 use Rattle.patch_lines.specs.declared.Line.{Line}
 use Rattle.patch_program.specs.Run.{emptyTables}
-use Rattle.patch_lines.specs.Lines.{rowUnder, lineOf}
+use Rattle.patch_lines.specs.Lines.{rowUnder, lineOf, noLine}
 use Rattle.patch_program.specs.Demands.{weightsOn, LinesHold}
 use Rattle.patch_lines.proofs.Hanging.{under-same, under-members}
 use Rattle.patch_program.proofs.Rows.{alone, file-valid}
@@ -44,12 +49,18 @@ weights-sum f (t ∷ l) = ap (λ (x : ℕ). f t .weight + f t .row + x) (weights
 empty : (file : List ℕ) (o : Outcome) (left : Tables) → partOf o (left .triangles) ≡ [] → totalOf o ≡ 0 → ((count total : ℕ) → o ≡ Patch count total → ⊥) →
     LinesHold file (patching o left)
 empty file o left e z n = record {
-  adds-up = ap (λ (l : List ℕ). weightsOn (map (lineOf (left .candidates) (left .weights) (left .rows) (partOf o (left .triangles))) l)) e ∙ sym z;
+  line-count = length-map (partOf o (left .triangles)) (lineOf (left .candidates) (left .weights) (left .rows) (partOf o (left .triangles)));
+  corners = λ k h. absurd (none h);
+  own-weight = λ k h. absurd (none h);
   one-outer = λ t u v m. absurd (List·Memᴰ·not-nil (subst (List·Memᴰ t) e m));
-  row-is = λ t u m. absurd (List·Memᴰ·not-nil (subst (List·Memᴰ t) e m));
-  first = λ l rest d. absurd (cons≢nil (sym d ∙ ap (λ (x : List ℕ). map (lineOf (left .candidates) (left .weights) (left .rows) (partOf o (left .triangles))) x) e));
+  row-is = λ k u h. absurd (none h);
+  first = λ h. absurd (none h);
+  adds-up = ap (λ (l : List ℕ). weightsOn (map (lineOf (left .candidates) (left .weights) (left .rows) (partOf o (left .triangles))) l)) e ∙ sym z;
   vertices = λ count total d. absurd (n count total d);
 }
+  where
+    none : {k : ℕ} → k < length (partOf o (left .triangles)) → ⊥
+    none h = omega (arith, h, ap length e)
 
 -- a call on which no number is due, over a row table of zeros
 module _ (file : List ℕ) (v : ValidPolygon (polygonOf file)) (lent : Tables) (places : ℕ) (zeros : lent .rows ≡ replicate places (triple 0 0 0)) where
@@ -104,25 +115,57 @@ module _ (file : List ℕ) (v : ValidPolygon (polygonOf file)) (lent : Tables) (
         ∙ adds-up (p .n) (candidatesOf p) (weightsIn p) (rowsIn p) good (h .right .set) (h .right .tiles)
         ∙ sym (h .right .weight)
 
-    first-line : (part : List ℕ) → patch ≡ part → (l : Line) (rest : List Line) →
-        map (lineOf all (left triangles work .weights) (left triangles work .rows) patch) part ≡ l ∷ rest → l .row ≡ 0
-    first-line [] e l rest d = absurd (cons≢nil (sym d))
-    first-line (t ∷ part) e l rest d =
-        let m : Mem t patch = subst (Mem t) (sym e) (List·Memᴰ·head refl) in
-        ap (λ (x : Line). x .row) (sym (head-eq-of-cons-eq d))
-        ∙ same-under t m
-        ∙ ap (λ (x : List ℕ). rowUnder (candidatesOf p) (rowsIn p) x t) (h .right .walk)
+    -- triangle k of the patch and its line
+    abbrev at : ℕ → ℕ
+    at k = getD patch k 0
+
+    listed : (k : ℕ) → k < length patch → Mem (at k) patch
+    listed k h = entry-member patch 0 k h
+
+    abbrev line : ℕ → Line
+    line k = getD (map (lineOf all (left triangles work .weights) (left triangles work .rows) patch) patch) k noLine
+
+    line-is : (k : ℕ) → k < length patch → line k ≡ lineOf all (left triangles work .weights) (left triangles work .rows) patch (at k)
+    line-is k h = map-at (lineOf all (left triangles work .weights) (left triangles work .rows) patch) patch 0 noLine k h
+
+    row-of : (k : ℕ) → k < length patch → line k .row ≡ rowUnder (candidatesOf p) (rowsIn p) patch (at k)
+    row-of k h = ap (λ (x : Line). x .row) (line-is k h) ∙ same-under (at k) (listed k h)
+
+    three : (e : List ℕ) → List·Memᴰ e (candidatesOf p) → triple (vertexA e) (vertexB e) (vertexC e) ≡ e
+    three e m = subst (λ (x : List ℕ). triple (vertexA x) (vertexB x) (vertexC x) ≡ x) (sym (triples-member (p .n) (isCandidate p) e m .is)) refl
+
+    first-row : (part : List ℕ) → patch ≡ part → 0 < length part → rowUnder (candidatesOf p) (rowsIn p) patch (getD part 0 0) ≡ 0
+    first-row [] e m = absurd (omega arith)
+    first-row (t ∷ part) e m =
+        ap (λ (x : List ℕ). rowUnder (candidatesOf p) (rowsIn p) x t) (h .right .walk)
         ∙ root-row (p .n) (candidatesOf p) (weightsIn p) (rowsIn p) good (h .right .set) (h .right .tiles) t part (sym (h .right .walk) ∙ e)
 
     of-patch : LinesHold file (patching (Patch size total) (left triangles work))
     of-patch = record {
+      line-count = length-map patch (lineOf all (left triangles work .weights) (left triangles work .rows) patch);
+      corners = λ k h.
+          ap (λ (x : Line). triple (x .a) (x .b) (x .c)) (line-is k h)
+          ∙ subst (λ (e : List ℕ). triple (vertexA e) (vertexB e) (vertexC e) ≡ e) (sym (same-candidate (at k) (listed k h)))
+          (three (entryAt (candidatesOf p) (at k)) (entry-member (candidatesOf p) [] (at k) (in-size (at k) (listed k h))));
+      own-weight = λ k h.
+          ap (λ (x : Line). x .weight) (line-is k h)
+          ∙ same-weight (at k) (listed k h)
+          ∙ weight-at p (candidatesOf p) (at k) (in-size (at k) (listed k h))
+          ∙ ap (ownWeight p) (sym (same-candidate (at k) (listed k h)));
+      one-outer = λ t o u m mo mu eo eu.
+          outers-same (p .n) (candidatesOf p) (weightsIn p) (rowsIn p) t patch (few t m) o u mo mu (sym (same-hangs t o m mo) ∙ eo)
+          (sym (same-hangs t u m mu) ∙ eu);
+      row-is = λ k o h mo e.
+          row-of k h
+          ∙ the-outer (p .n) (candidatesOf p) (weightsIn p) (rowsIn p) (at k) patch (few (at k) (listed k h)) o mo
+          (sym (same-hangs (at k) o (listed k h) mo) ∙ e)
+          ∙ sym (same-row o (at k));
+      first = λ h. row-of 0 h ∙ first-row patch refl h;
       adds-up =
           weights-sum (lineOf all (left triangles work .weights) (left triangles work .rows) patch) patch
-          ∙ sum-ext _ (λ t. getD (weightsIn p) t 0 + rowUnder (candidatesOf p) (rowsIn p) patch t) patch (λ t m. ap₂ (λ x y. x + y) (same-weight t m) (same-under t m))
+          ∙ sum-ext _ (λ t. getD (weightsIn p) t 0 + rowUnder (candidatesOf p) (rowsIn p) patch t) patch
+          (λ t m. ap₂ (λ x y. x + y) (same-weight t m) (same-under t m))
           ∙ total-is;
-      one-outer = λ t o u m mo mu eo eu. outers-same (p .n) (candidatesOf p) (weightsIn p) (rowsIn p) t patch (few t m) o u mo mu (sym (same-hangs t o m mo) ∙ eo) (sym (same-hangs t u m mu) ∙ eu);
-      row-is = λ t o m mo e. same-under t m ∙ the-outer (p .n) (candidatesOf p) (weightsIn p) (rowsIn p) t patch (few t m) o mo (sym (same-hangs t o m mo) ∙ e) ∙ sym (same-row o t);
-      first = λ l rest e. first-line patch refl l rest e;
       vertices = λ c x e. omega (arith, many, v .least);
     }
 

@@ -2,15 +2,17 @@
 use mathlib.Core.Path.{_≡_}
 use mathlib.Core.Bool.{true}
 use mathlib.Core.List.{List, [], _∷_, List·Memᴰ}
-use Prim.Native.Nat.{ℕ, _+_}
-use Rattle.terms.specs.Entries.{entryAt, hangs}
+use Prim.Native.Nat.{ℕ, _+_, _<_}
+use lib.ListN.{length, getD}
+use Rattle.terms.specs.Entries.{triple, entryAt, hangs}
 use Rattle.triangulation.specs.Problems.{pairWeight}
 use Rattle.reader.specs.Reading.{polygonOf}
+use Rattle.weights.specs.Weights.{ownWeight}
 use Rattle.triangulator.specs.declared.Outcome.the-variants.{Patch}
 use Rattle.triangulator.specs.Call.{totalOf, partOf}
 use Rattle.pipeline.specs.Patching.{Patching}
 use Rattle.patch_lines.specs.declared.Line.{Line}
-use Rattle.patch_lines.specs.Lines.{rowUnder, verticesOf}
+use Rattle.patch_lines.specs.Lines.{noLine, verticesOf}
 use Rattle.patch_program.specs.Printing.{linesAfter}
 
 -- the fourth and fifth numbers of all lines, added up
@@ -29,15 +31,26 @@ Listed r t = List·Memᴰ t (patchIn r)
 abbrev pub HangsIn : Patching → ℕ → ℕ → Type 0
 HangsIn r t o = hangs (entryAt (r .left .candidates) t) (entryAt (r .left .candidates) o) ≡ true
 
+-- triangle k of the patch, and its line
+abbrev pub triangleAt : Patching → ℕ → ℕ
+triangleAt r k = getD (patchIn r) k 0
+
+abbrev pub lineAt : Patching → ℕ → Line
+lineAt r k = getD (linesAfter r) k noLine
+
 -- of a call on a file (rules 3.3, 3.4, 5.4)
 pub record LinesHold (file : List ℕ) (r : Patching) : Type 0 where
-  -- the weights on the lines add up to the total
-  pub adds-up : weightsOn (linesAfter r) ≡ totalOf (r .outcome)
+  -- there is a line for each triangle of the patch, with its vertices and its whole own weight
+  pub line-count : length (linesAfter r) ≡ length (patchIn r)
+  pub corners : (k : ℕ) → k < length (patchIn r) → triple (lineAt r k .a) (lineAt r k .b) (lineAt r k .c) ≡ entryAt (r .left .candidates) (triangleAt r k)
+  pub own-weight : (k : ℕ) → k < length (patchIn r) → lineAt r k .weight ≡ ownWeight (polygonOf file) (entryAt (r .left .candidates) (triangleAt r k))
   -- a triangle of the patch hangs on one other at most, and the row weight on its line is that of the two
   pub one-outer : (t o u : ℕ) → Listed r t → Listed r o → Listed r u → HangsIn r t o → HangsIn r t u → o ≡ u
-  pub row-is : (t o : ℕ) → Listed r t → Listed r o → HangsIn r t o →
-      rowUnder (r .left .candidates) (r .left .rows) (patchIn r) t ≡ pairWeight (r .left .rows) o t
+  pub row-is : (k o : ℕ) → k < length (patchIn r) → Listed r o → HangsIn r (triangleAt r k) o →
+      lineAt r k .row ≡ pairWeight (r .left .rows) o (triangleAt r k)
   -- the first triangle hangs on none: the fifth number of its line is 0
-  pub first : (l : Line) (rest : List Line) → linesAfter r ≡ l ∷ rest → l .row ≡ 0
+  pub first : 0 < length (patchIn r) → lineAt r 0 .row ≡ 0
+  -- the weights on the lines add up to the total
+  pub adds-up : weightsOn (linesAfter r) ≡ totalOf (r .outcome)
   -- the number of vertices on the first line is the rim's
   pub vertices : (count total : ℕ) → r .outcome ≡ Patch count total → verticesOf (r .outcome) ≡ polygonOf file .n

@@ -1,5 +1,5 @@
 -- The page of promises, proved: each promise by the theorem named beside it. Assumes nothing.
-use mathlib.Core.Path.{_≡_, sym, ap, _∙_}
+use mathlib.Core.Path.{refl}
 use mathlib.Core.List.{List}
 use Prim.Native.Nat.{ℕ}
 use Rattle.rim_file.specs.File.{Bytes}
@@ -32,8 +32,10 @@ use Rattle.demands.proofs.Polygons as polygons
 use Rattle.demands.proofs.Sizes as sizes
 use Rattle.demands.proofs.Tables as tables
 use Rattle.demands.proofs.Turns as turns
+use Rattle.patch_program.specs.Printing.{printoutOf}
+use Rattle.patch_program.proofs.Demands as lines
 use Rattle.promises.specs.Promises.{ReaderCall, FinderCall, FinderFileCall, RimFile, HandBuilt, DirectJob, Tilings, Editions, ConverterCall}
-use Rattle.promises.specs.Promises.{HalfSteps, Limits, Turns, FlatRims, Judging, Promises}
+use Rattle.promises.specs.Promises.{HalfSteps, Limits, Turns, FlatRims, Judging, Printing, Promises}
 
 reads : (limit : ℕ) (file : List ℕ) → ReaderCall limit file
 reads limit file = record {
@@ -180,6 +182,10 @@ judges job list total work = record {
   own-patch = judge.handed-accepted job total list work;
 }
 
+prints : (limit : ℕ) (file : List ℕ) → Printing limit file
+unfolding printoutOf
+prints limit file = record { printed = refl; lines = lines.lines-hold limit file }
+
 pub promises : Promises
 promises = record {
   reading = reads;
@@ -197,4 +203,7 @@ promises = record {
   flat-rims = in-plane;
   judging = judges;
   own-patches = judging.file-patch-accepted;
+  printing = prints;
+  refusal-values = λ k. refl;
+  none-values = refl;
 }

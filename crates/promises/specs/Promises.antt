@@ -51,7 +51,7 @@ use Rattle.triangulation.specs.Demand3.{Triangulates, Demand3, HandedBack}
 use Rattle.triangulation.specs.Tiling.{Tiling}
 use Rattle.preorder.specs.Preorder.{TurnByTurn}
 use Rattle.triangulator.specs.declared.Outcome.the-variants.{Patch, None, Refused}
-use Rattle.triangulator.specs.Call.{result, numberOf, partOf, triangulated}
+use Rattle.triangulator.specs.Call.{values, valuesOf, result, numberOf, partOf, triangulated}
 use Rattle.triangulator.specs.Demands.{Taken, Handed, RestLeft, stated}
 use Rattle.judge.specs.declared.Judgement.the-variants as judgement
 use Rattle.judge.specs.Call.{judged}
@@ -76,6 +76,9 @@ use Rattle.demands.specs.Base.{baseFile}
 use Rattle.demands.specs.Conversion.{SameAnswers}
 use Rattle.demands.specs.OnePatch.{LongEnough, SamePatch}
 use Rattle.demands.specs.Limits.{OneAnswer}
+use Rattle.patch_program.specs.Run.{emptyTables}
+use Rattle.patch_program.specs.Printing.{printoutAfter, printoutOf}
+use Rattle.patch_program.specs.Demands.{LinesHold}
 
 -- ---- reading a rim file, of the reader's call under any limit
 pub record ReaderCall (limit : ℕ) (file : List ℕ) : Type 0 where
@@ -309,6 +312,13 @@ pub record Tilings (problem : Problem) : Type 0 where
   pub tiling-of : ValidProblem problem → (s : List ℕ) → Triangulates problem s → Tiling problem s
   pub of-tiling : ValidProblem problem → (s : List ℕ) → Tiling problem s → Triangulates problem s
 
+-- ---- what a run of the bench or trim program is given to print, of `printout_of` (rules 5.3, 5.4)
+pub record Printing (limit : ℕ) (file : List ℕ) : Type 0 where
+  -- the outcome of the one call over the program's own tables, the number of vertices, and a line for each triangle
+  pub printed : printoutOf limit file ≡ printoutAfter (patchFile limit file emptyTables)
+  -- each line has the triangle's vertices, its whole own weight, and the row weight of the one triangle that it hangs on; all add up to the total
+  pub lines : LinesHold file (patchFile limit file emptyTables)
+
 -- ---- the page
 pub record Promises : Type 0 where
   pub reading : (limit : ℕ) (file : List ℕ) → ReaderCall limit file
@@ -327,6 +337,10 @@ pub record Promises : Type 0 where
   pub flat-rims : FlatRims
   pub judging : (job : Job) (list : List ℕ) (total : ℕ) (work : List ℕ) → Judging job list total work
   pub own-patches : OwnPatches
+  pub printing : (limit : ℕ) (file : List ℕ) → Printing limit file
+  -- a refusal states its number, no triangles and the total 0; 'none' three zeros (rule 5.2)
+  pub refusal-values : (k : ℕ) → valuesOf (Refused (refusal k)) ≡ values k 0 0
+  pub none-values : valuesOf None ≡ values 0 0 0
 
 -- ---- what the page rests on, beside the calls' own definitions; `crate/File` is crates/CRATE/specs/FILE.antt, docs/ARCHITECTURE.md has the rest
 -- numbers that are due: reader/Due `FileDue`, demands/Demand1 `CallDue`, `TooShort`, demands/Finding `FindFileDue`, demands/Polygons `FindDue`, `PatchDue`,
@@ -340,3 +354,4 @@ pub record Promises : Type 0 where
 --   `Demand3`, `HandedBack`, triangulator/Demands `Taken`, `Handed`, `RestLeft`, preorder/Preorder `TurnByTurn`, judge/Demands `IsTiling`, `Acceptable`,
 --   `SameNumbers`, `Excess`
 -- answers alike: demands/Base `baseFile`, Conversion `SameAnswers`, OnePatch `SamePatch`, `LongEnough`, Limits `OneAnswer`
+-- lines: patch_program/Run `emptyTables`, Demands `LinesHold`
