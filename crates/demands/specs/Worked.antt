@@ -185,4 +185,7 @@ worked =
     ∷ rounds 0xbe40_0000 (negsuc 1)
     ∷ rounds 0x42f9_e000 (pos 1000)
     ∷ rounds 0xc2f9_e000 (negsuc 999)
+    -- and the floats next to 0.0625 mm: half a step added first would round the lower one up
+    ∷ rounds 0x3d7f_ffff (pos 0)
+    ∷ rounds 0x3d80_0001 (pos 1)
     ∷ []
