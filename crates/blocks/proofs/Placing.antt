@@ -20,14 +20,16 @@ module _ (candidates : List (List ℕ)) (i k : ℕ) where
   pub there : both (ltb i (length candidates)) (ltb (vertexA (entryAt candidates i)) k) ≡ true → (i < length candidates) × (vertexA (entryAt candidates i) < k)
   there t = go (ltb i (length candidates)) refl t
     where
-      go : (b : Bool) → ltb i (length candidates) ≡ b → both b (ltb (vertexA (entryAt candidates i)) k) ≡ true → (i < length candidates) × (vertexA (entryAt candidates i) < k)
+      go : (b : Bool) → ltb i (length candidates) ≡ b → both b (ltb (vertexA (entryAt candidates i)) k) ≡ true →
+          (i < length candidates) × (vertexA (entryAt candidates i) < k)
       go true e t = (ltb-true i (length candidates) e, ltb-true (vertexA (entryAt candidates i)) k t)
       go false e t = absurd (true-not-false t refl)
 
   not-there : both (ltb i (length candidates)) (ltb (vertexA (entryAt candidates i)) k) ≡ false → (length candidates ≤ i) ⊎ (k ≤ vertexA (entryAt candidates i))
   not-there t = go (ltb i (length candidates)) refl t
     where
-      go : (b : Bool) → ltb i (length candidates) ≡ b → both b (ltb (vertexA (entryAt candidates i)) k) ≡ false → (length candidates ≤ i) ⊎ (k ≤ vertexA (entryAt candidates i))
+      go : (b : Bool) → ltb i (length candidates) ≡ b → both b (ltb (vertexA (entryAt candidates i)) k) ≡ false →
+          (length candidates ≤ i) ⊎ (k ≤ vertexA (entryAt candidates i))
       go true e t = inr (ltb-false (vertexA (entryAt candidates i)) k t)
       go false e t = inl (ltb-false i (length candidates) e)
 
@@ -53,14 +55,16 @@ module _ (candidates : List (List ℕ)) where
   }
 
   module _ (up : ByFirst candidates) where
-    pub placed-set : {starts : List ℕ} {k i : ℕ} → Placed starts k i → k < startCount → both (ltb i (length candidates)) (ltb (vertexA (entryAt candidates i)) k) ≡ false → Placed (set starts k i) (k + 1) i
+    pub placed-set : {starts : List ℕ} {k i : ℕ} → Placed starts k i → k < startCount →
+        both (ltb i (length candidates)) (ltb (vertexA (entryAt candidates i)) k) ≡ false → Placed (set starts k i) (k + 1) i
     placed-set {starts} {k} {i} p h t = record {
       size = length-set starts k i ∙ p .size;
       room = omega arith;
       range = p .range;
       passed = λ q l. omega (arith, p .passed q l);
       at = λ w l. ⊎-elim
-          (λ e. subst (λ x. BlockStart candidates x (getD (set starts k i) x 0)) (sym e) (subst (BlockStart candidates k) (sym (getD-set-same starts k i 0 (omega (arith, p .size)))) here))
+          (λ e. subst (λ x. BlockStart candidates x (getD (set starts k i) x 0)) (sym e)
+          (subst (BlockStart candidates k) (sym (getD-set-same starts k i 0 (omega (arith, p .size)))) here))
           (λ (m : w < k). subst (BlockStart candidates w) (sym (getD-set-other starts k w i 0 (λ (e : w ≡ k). omega arith))) (p .at w m))
           (eq-or-lt-of-le (let z : w ≤ k = omega arith in z));
     }

@@ -34,7 +34,12 @@ module _ (cs : List (List ℕ)) where
 -- a block starts after as many candidates as have a first vertex below its own
 module _ (cs : List (List ℕ)) where
   pub start-count : {k r : ℕ} → BlockStart cs k r → r ≡ startOf cs k
-  start-count {k} b = front-count (record { within = b .within; before = λ i h. lt-ltb (vertexA (entryAt cs i)) k (b .below i h); after = λ i l h. le-ltb (vertexA (entryAt cs i)) k (b .above i l h) })
+  start-count {k} b =
+      front-count (record {
+        within = b .within;
+        before = λ i h. lt-ltb (vertexA (entryAt cs i)) k (b .below i h);
+        after = λ i l h. le-ltb (vertexA (entryAt cs i)) k (b .above i l h);
+      })
 
   pub starts-are : (starts : List ℕ) → length starts ≡ startCount → Starts cs starts → starts ≡ startsOf cs
   starts-are starts e s = ext-getD 0 starts (startsOf cs) (e ∙ sym (over-length 0 startCount (startOf cs)))
@@ -43,8 +48,16 @@ module _ (cs : List (List ℕ)) where
   module _ (up : ByFirst cs) where
     pub start-of : (k : ℕ) → BlockStart cs k (startOf cs k)
     start-of k =
-        let f = front-of (length cs) (λ i j h l t. lt-ltb (vertexA (entryAt cs i)) k (let m = ltb-true (vertexA (entryAt cs j)) k t in omega (arith, up .up i j h l))) in
-        record { within = f .within; below = λ i h. ltb-true (vertexA (entryAt cs i)) k (f .before i h); above = λ i l h. ltb-false (vertexA (entryAt cs i)) k (f .after i l h) }
+        let f = front-of (length cs)
+        (λ i j h l t. lt-ltb (vertexA (entryAt cs i)) k (let m = ltb-true (vertexA (entryAt cs j)) k t in omega (arith, up .up i j h l))) in
+        record {
+          within = f .within;
+          below = λ i h. ltb-true (vertexA (entryAt cs i)) k (f .before i h);
+          above = λ i l h. ltb-false (vertexA (entryAt cs i)) k (f .after i l h);
+        }
 
     pub starts-of : {starts : List ℕ} → starts ≡ startsOf cs → Starts cs starts
-    starts-of e = record { at = λ k h. subst (BlockStart cs k) (sym (ap (λ t. getD t k 0) e ∙ over-at 0 startCount (startOf cs) 0 k (omega arith) ∙ ap (startOf cs) (omega arith))) (start-of k) }
+    starts-of e = record {
+      at = λ k h. subst (BlockStart cs k)
+          (sym (ap (λ t. getD t k 0) e ∙ over-at 0 startCount (startOf cs) 0 k (omega arith) ∙ ap (startOf cs) (omega arith))) (start-of k);
+    }

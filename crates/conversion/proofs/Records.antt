@@ -38,7 +38,8 @@ module _ (s : List ℕ) (w : Whole s) where
 
     -- record k is stored after those before it, and its ending after its bytes
     pub record-stored : (d : List ℕ) (first k to : ℕ) {o o′ o″ : List ℕ} {from end : ℕ} → 0 < k → k ≤ recordCount s →
-        o ≡ sets d first (over 1 k (λ k. recordBytes s k ++ ending)) → from ≡ offset s k → to ≡ first + (recordSize1 + length ending) * (k - 1) → end ≡ to + recordSize1 →
+        o ≡ sets d first (over 1 k (λ k. recordBytes s k ++ ending)) → from ≡ offset s k →
+        to ≡ first + (recordSize1 + length ending) * (k - 1) → end ≡ to + recordSize1 →
         o′ ≡ sets o to (bytesAt s from recordSize1) → o″ ≡ sets o′ end ending →
         o″ ≡ sets d first (over 1 (k + 1) (λ k. recordBytes s k ++ ending))
     record-stored d first k to {o} {end = end} h l before from-is to-is end-is copied ended =

@@ -38,7 +38,8 @@ pub none-lost : (s : List ℕ) → normalLost s ≡ false → (k : ℕ) → 0 < 
 unfolding normalLost
 none-lost s e k h l =
     none-is (normalIn s (offset s k))
-    (not-false-true (isNone (normalIn s (offset s k))) (λ f. some-none 1 (suc (recordCount s)) (λ k. not (isNone (normalIn s (offset s k)))) e k (omega arith) (omega arith) (ap not f)))
+    (not-false-true (isNone (normalIn s (offset s k)))
+    (λ f. some-none 1 (suc (recordCount s)) (λ k. not (isNone (normalIn s (offset s k)))) e k (omega arith) (omega arith) (ap not f)))
 
 -- and where none has, none is lost: so 19 is never due on a file that goes up
 pub nothing-lost : (s : List ℕ) → ((k : ℕ) → 0 < k → k ≤ recordCount s → normalIn s (offset s k) ≡ noNormal) → normalLost s ≡ false
@@ -97,7 +98,8 @@ module _ (s : List ℕ) (w : Whole s) where
     zero-number : (k j : ℕ) → 0 < k → k ≤ recordCount s → j < 5 → i16At raised (offset raised k + (16 + j)) ≡ pos 0
     zero-number k j h l m =
         let e : offset raised k + (16 + j) + 1 ≡ offset raised k + (16 + (j + 1)) = omega arith in
-        let z : u16At raised (offset raised k + (16 + j)) ≡ 0 = omega (arith, zero-byte k j h l (omega arith), ap (λ (i : ℕ). getD raised i 0) e ∙ zero-byte k (j + 1) h l (omega arith)) in
+        let z : u16At raised (offset raised k + (16 + j)) ≡ 0 =
+        omega (arith, zero-byte k j h l (omega arith), ap (λ (i : ℕ). getD raised i 0) e ∙ zero-byte k (j + 1) h l (omega arith)) in
         ap signed16 z
 
     raised-normal : (k : ℕ) → 0 < k → k ≤ recordCount s → normalIn raised (offset raised k) ≡ normalIn s (offset s k)

@@ -24,7 +24,8 @@ use Rattle.reader.proofs.FirstNumber.{Read}
 use Rattle.conversion.specs.Converted.{bytesAt, headerBytes, recordBytes, laidOut, markerBytes, zeroNormal, converted, normalLost}
 use Rattle.conversion.proofs.Storing.{bytes-length, bytes-at, bytes-same}
 use Rattle.conversion.proofs.Places.{header-byte, count-same, right-again, record-byte}
-use Rattle.conversion.proofs.Rims.{converted-up, converted-down, none-lost, raised-edition, raised-start, raised-size, first-small, lowered-edition, lowered-start, lowered-size}
+use Rattle.conversion.proofs.Rims.{converted-up, converted-down, none-lost, raised-edition, raised-start}
+use Rattle.conversion.proofs.Rims.{raised-size, first-small, lowered-edition, lowered-start, lowered-size}
 
 -- ---- a file laid out twice
 module _ (s : List ℕ) (w : Whole s) (opening ending : List ℕ)
@@ -51,13 +52,15 @@ module _ (s : List ℕ) (w : Whole s) (opening ending : List ℕ)
       let count = count-same s w opening ending start stride in
       (λ i. opening′ ++ header-same i ++ over 1 (suc (count i)) (λ k. recordBytes t k ++ ending′))
       ∙ ap (λ (l : List ℕ). opening′ ++ headerBytes s ++ l)
-      (over-same 1 (suc (recordCount s)) (λ k. recordBytes t k ++ ending′) (λ k. recordBytes s k ++ ending′) (λ k h l. ap (λ (b : List ℕ). b ++ ending′) (record-same k (omega arith) (omega arith))))
+      (over-same 1 (suc (recordCount s)) (λ k. recordBytes t k ++ ending′) (λ k. recordBytes s k ++ ending′)
+      (λ k h l. ap (λ (b : List ℕ). b ++ ending′) (record-same k (omega arith) (omega arith))))
 
 -- ---- a file laid out as it is
 module _ (s : List ℕ) (w : Whole s) (opening ending : List ℕ) (opens : take (headerStart s) s ≡ opening) (stride : recordSize s ≡ recordSize1 + length ending)
     (ends : (k : ℕ) → 0 < k → k ≤ recordCount s → bytesAt s (offset s k + recordSize1) (length ending) ≡ ending) where
   -- a record with its ending
-  piece : (k : ℕ) → 0 < k → k ≤ recordCount s → take (recordSize s) (drop (recordSize s * (k - 1)) (drop (headerStart s + headerSize) s)) ≡ recordBytes s k ++ ending
+  piece : (k : ℕ) → 0 < k → k ≤ recordCount s →
+      take (recordSize s) (drop (recordSize s * (k - 1)) (drop (headerStart s + headerSize) s)) ≡ recordBytes s k ++ ending
   piece k h l =
       ap (λ (x : List ℕ). take (recordSize s) x) (drop-drop (recordSize s * (k - 1)) (headerStart s + headerSize) s)
       ∙ ap (λ (z : ℕ). take z (drop (offset s k) s)) stride
@@ -70,7 +73,8 @@ module _ (s : List ℕ) (w : Whole s) (opening ending : List ℕ) (opens : take 
       let rest = drop (headerStart s + headerSize) s in
       sym (take-all (recordSize s * recordCount s) rest (omega (arith, length-drop (headerStart s + headerSize) s, w .records)))
       ∙ cut-pieces (recordSize s) (recordCount s) rest
-      ∙ over-same 1 (suc (recordCount s)) (λ k. take (recordSize s) (drop (recordSize s * (k - 1)) rest)) (λ k. recordBytes s k ++ ending) (λ k h l. piece k (omega arith) (omega arith))
+      ∙ over-same 1 (suc (recordCount s)) (λ k. take (recordSize s) (drop (recordSize s * (k - 1)) rest))
+      (λ k. recordBytes s k ++ ending) (λ k h l. piece k (omega arith) (omega arith))
 
   laid-as-is : laidOut opening ending s ≡ s
   laid-as-is =

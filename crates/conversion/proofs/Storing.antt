@@ -17,7 +17,8 @@ pub bytes-at : (s : List ℕ) (i k j : ℕ) → j < k → getD (bytesAt s i k) j
 bytes-at s i k j h = getD-take k (drop i s) j 0 h ∙ getD-drop i s j 0
 
 -- bytes that are the same one by one
-pub bytes-same : (s t : List ℕ) (i j k : ℕ) → i + k ≤ length s → j + k ≤ length t → ((n : ℕ) → n < k → getD s (i + n) 0 ≡ getD t (j + n) 0) → bytesAt s i k ≡ bytesAt t j k
+pub bytes-same : (s t : List ℕ) (i j k : ℕ) → i + k ≤ length s → j + k ≤ length t → ((n : ℕ) → n < k → getD s (i + n) 0 ≡ getD t (j + n) 0) →
+    bytesAt s i k ≡ bytesAt t j k
 bytes-same s t i j k a b h =
     ext-getD 0 (bytesAt s i k) (bytesAt t j k) (bytes-length s i k a ∙ sym (bytes-length t j k b))
     (λ n l. let m : n < k = omega (arith, bytes-length s i k a) in bytes-at s i k n m ∙ h n m ∙ sym (bytes-at t j k n m))

@@ -53,7 +53,8 @@ module _ (s : List ℕ) where
 
   module _ (w : Whole s) where
     -- its length, with any opening and ending, and in a layout
-    pub laid-length : (opening ending : List ℕ) → length (laidOut opening ending s) ≡ length opening + headerSize + (recordSize1 + length ending) * recordCount s
+    pub laid-length : (opening ending : List ℕ) →
+        length (laidOut opening ending s) ≡ length opening + headerSize + (recordSize1 + length ending) * recordCount s
     laid-length opening ending =
         let records = over 1 (suc (recordCount s)) (λ k. recordBytes s k ++ ending) in
         let count : suc (recordCount s) - 1 ≡ recordCount s = omega arith in
@@ -68,7 +69,8 @@ module _ (s : List ℕ) where
     pub layout-length : (l : Layout) → Bounds l → length (inLayout l s) ≡ l .header + headerSize + l .«record_size» * recordCount s
     layout-length l b =
         let opening : length (replicate (l .header) markerByte) ≡ l .header = length-replicate (l .header) markerByte in
-        let ending : recordSize1 + length (endingIn l) ≡ l .«record_size» = omega (arith, b .least, length-replicate {A = ℕ} (l .«record_size» - recordSize1) 0) in
+        let ending : recordSize1 + length (endingIn l) ≡ l .«record_size» =
+        omega (arith, b .least, length-replicate {A = ℕ} (l .«record_size» - recordSize1) 0) in
         laid-length (replicate (l .header) markerByte) (endingIn l) ∙ (λ i. opening i + headerSize + ending i * recordCount s)
 
     -- opening, header and records stored one after the other

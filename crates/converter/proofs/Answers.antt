@@ -37,7 +37,8 @@ module _ (file out : List ℕ) where
   refused-by zero m h e = absurd (h refl)
   refused-by (suc k) m h e = ap (λ (r : Refusal). converting (Refused r) out) m ∙ ap (λ (i : ℕ). convertBy i file out) e
 
-  pub taken-by : {edition size n : ℕ} {left : List ℕ} → 0 ≡ n → edition ≡ otherEdition file → size ≡ length (converted file) → left ≡ filled (converted file) out →
+  pub taken-by : {edition size n : ℕ} {left : List ℕ} → 0 ≡ n → edition ≡ otherEdition file →
+      size ≡ length (converted file) → left ≡ filled (converted file) out →
       converting (Converted edition size) left ≡ convertBy n file out
   taken-by {n = n} z a b c = (λ i. converting (Converted (a i) (b i)) (c i)) ∙ ap (λ (i : ℕ). convertBy i file out) z
 
@@ -55,7 +56,8 @@ module _ (file out : List ℕ) where
   unfolding convertCall
   call-refused {k} e = by (reader.numberDue maxVertices file) refl e
     where
-      by : (n : ℕ) → reader.numberDue maxVertices file ≡ n → answer n (polygonOf file) .status ≡ status.Refused k → converting (Refused k) out ≡ convertCall file out
+      by : (n : ℕ) → reader.numberDue maxVertices file ≡ n → answer n (polygonOf file) .status ≡ status.Refused k →
+          converting (Refused k) out ≡ convertCall file out
       by zero d f = absurd (let z : _≡_ {A = ℕ} 0 1 = cc in omega arith)
       by (suc j) d f =
           let g : k ≡ refusal (suc j) = cc in

@@ -59,8 +59,10 @@ module _ (file out : List ℕ) where
   pub due-lost : (k : ℕ) → InFile file k → isEdition2 file ≡ true → (heldNormal file (offset file k) ≡ noNormal → ⊥) → normalLost file ≡ true
   unfolding normalLost
   due-lost k in-file two some =
-      some-here 1 (suc (recordCount file)) (λ k. not (isNone (normalIn file (offset file k)))) k (omega (arith, in-file .numbered)) (omega (arith, in-file .counted))
-      (ap not (not-true-false (isNone (normalIn file (offset file k))) (λ t. some (sym (normal-2 file (offset file k) two) ∙ none-is (normalIn file (offset file k)) t))))
+      some-here 1 (suc (recordCount file)) (λ k. not (isNone (normalIn file (offset file k)))) k
+      (omega (arith, in-file .numbered)) (omega (arith, in-file .counted))
+      (ap not (not-true-false (isNone (normalIn file (offset file k)))
+      (λ t. some (sym (normal-2 file (offset file k) two) ∙ none-is (normalIn file (offset file k)) t))))
 
 -- ---- the reader's numbers come first
 module _ (file out : List ℕ) where
@@ -92,7 +94,11 @@ module _ (file out : List ℕ) where
 
     decided : Truth (ltb (length out) (length (converted file))) → Truth (normalLost file) → Decided
     decided (holds a) b =
-        first-due 12 (record { place = rim; is-due = thirteen (right-length maxVertices file e) (ltb-true (length out) (length (converted file)) a); none-before = before })
+        first-due 12 (record {
+          place = rim;
+          is-due = thirteen (right-length maxVertices file e) (ltb-true (length out) (length (converted file)) a);
+          none-before = before;
+        })
         (number-is ∙ yes _ _ a)
       where
         before : (p : FilePlace) (j : ℕ) → Precedes p j rim 13 → ConvertDue file out p j → ⊥
@@ -152,7 +158,8 @@ module _ (file out : List ℕ) where
   given-first k e = verdict-given verdict (sym number-given ∙ e)
 
   -- the file is converted exactly when no number is due
-  pub converted-when : NoneDue (ConvertDue file out) → convertCall file out ≡ converting (Converted (otherEdition file) (length (converted file))) (filled (converted file) out)
+  pub converted-when : NoneDue (ConvertDue file out) →
+      convertCall file out ≡ converting (Converted (otherEdition file) (length (converted file))) (filled (converted file) out)
   converted-when none = call-by 0 (verdict-zero verdict none)
 
   pub converted-only-when : numberOf (convertCall file out .answer) ≡ 0 → NoneDue (ConvertDue file out)

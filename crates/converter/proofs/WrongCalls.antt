@@ -71,11 +71,14 @@ tries =
     -- 19 before 13
     ∷ try (second 2 up) (places 71) (converting (Refused (refusal 13)) (places 71)) (converting (Refused (refusal 19)) (places 71))
     -- the marker left out
-    ∷ try (first 128) (places 99) (converting (Converted 2 98) (second 2 no-surface ++ places 1)) (converting (Converted 2 96) (second 0 no-surface ++ places 3))
+    ∷ try (first 128) (places 99) (converting (Converted 2 98) (second 2 no-surface ++ places 1))
+    (converting (Converted 2 96) (second 0 no-surface ++ places 3))
     ∷ []
 
 pub right-calls : map (λ (t : Try). convertCall (t .file) (t .out)) tries ≡ map (λ (t : Try). t .right) tries
-unfolding convertCall converted normalLost ofBits upFrom someFrom finite numerator denominator negative inRange roundEighths repeatedVertex layoutOf lengthWrong recordAt numbersCode vertexOf normalIn link metBefore heightBefore linkCode positionCode codeFrom endFrom reader.fileCode reader.numberDue
+unfolding convertCall converted normalLost ofBits upFrom someFrom finite numerator denominator negative inRange
+    roundEighths repeatedVertex layoutOf lengthWrong recordAt numbersCode vertexOf normalIn link metBefore heightBefore
+    linkCode positionCode codeFrom endFrom reader.fileCode reader.numberDue
 right-calls = refl
 
 -- equal answers and tables are the same by their numbers
@@ -88,7 +91,8 @@ sameConverting c d =
 
 same-converting : (c : Converting) → sameConverting c c ≡ true
 unfolding sameConverting
-same-converting c = rw (eq-eqb (numberOf (c .answer)) _ refl, eq-eqb (editionOf (c .answer)) _ refl, eq-eqb (convertedLength (c .answer)) _ refl, same-list (c .left))
+same-converting c =
+    rw (eq-eqb (numberOf (c .answer)) _ refl, eq-eqb (editionOf (c .answer)) _ refl, eq-eqb (convertedLength (c .answer)) _ refl, same-list (c .left))
 
 pub wrong-calls-fail : (t : Try) → List·Memᴰ t tries → t .wrong ≡ t .right → ⊥
 unfolding anyOf sameConverting sameList

@@ -54,11 +54,14 @@ pub record CoplanarWith (lifted : List Lifted) (c d : ℕ) : Type 0 where
   pub at : (l : ℕ) → c < l → l < d → coplanarPair lifted c l ≡ true
 
 pub coplanar-with-on : {lifted : List Lifted} {c d : ℕ} → coplanarPair lifted c d ≡ true → CoplanarWith lifted c d → CoplanarWith lifted c (d + 1)
-coplanar-with-on {lifted} {c} {d} e h = record { at = λ l i j. ⊎-elim (λ k. h .at l i k) (λ k. subst (λ (l : ℕ). coplanarPair lifted c l ≡ true) (sym k) e) (below-or-same l d (omega arith)) }
+coplanar-with-on {lifted} {c} {d} e h = record {
+  at = λ l i j. ⊎-elim (λ k. h .at l i k) (λ k. subst (λ (l : ℕ). coplanarPair lifted c l ≡ true) (sym k) e) (below-or-same l d (omega arith));
+}
 
 pub coplanar-on : {n : ℕ} {lifted : List Lifted} {c d : ℕ} → (d < n → ⊥) → CoplanarWith lifted c d → CoplanarTo n lifted c → CoplanarTo n lifted (c + 1)
 coplanar-on {lifted = lifted} {c = c} f w h = record {
-  pairs = λ k l i j a b. ⊎-elim (λ s. h .pairs k l i s a b) (λ s. subst (λ (k : ℕ). coplanarPair lifted k l ≡ true) (sym s) (w .at l (omega arith) (omega arith))) (below-or-same k c (omega arith));
+  pairs = λ k l i j a b. ⊎-elim (λ s. h .pairs k l i s a b)
+      (λ s. subst (λ (k : ℕ). coplanarPair lifted k l ≡ true) (sym s) (w .at l (omega arith) (omega arith))) (below-or-same k c (omega arith));
 }
 
 module _ {p : Polygon} {lifted : List Lifted} (v : ValidPolygon p) (t : Lifts p 0 lifted) where

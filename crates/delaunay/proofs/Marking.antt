@@ -23,7 +23,8 @@ module _ (p : Polygon) {marks₀ marks : List ℕ} {due : Bool} where
   marked-flat e s = record {
     searched = record {
       found = s .searched .found ∙ sym (yes (cocircular p) (cospherical p) e);
-      put = λ h x y z hx hy hz. s .searched .put h x y z hx hy hz ∙ ap (λ (t : Bool). either (has marks₀ x y z) t) (sym (yes (isCountedThree p x y z) (isFaceOfFour p x y z) e));
+      put = λ h x y z hx hy hz. s .searched .put h x y z hx hy hz
+          ∙ ap (λ (t : Bool). either (has marks₀ x y z) t) (sym (yes (isCountedThree p x y z) (isFaceOfFour p x y z) e));
     };
     empty = s .empty;
   }
@@ -33,14 +34,18 @@ module _ (p : Polygon) {marks₀ marks : List ℕ} {due : Bool} where
   marked-solid e s = record {
     searched = record {
       found = s .searched .found ∙ sym (no (cocircular p) (cospherical p) e);
-      put = λ h x y z hx hy hz. s .searched .put h x y z hx hy hz ∙ ap (λ (t : Bool). either (has marks₀ x y z) t) (sym (no (isCountedThree p x y z) (isFaceOfFour p x y z) e));
+      put = λ h x y z hx hy hz. s .searched .put h x y z hx hy hz
+          ∙ ap (λ (t : Bool). either (has marks₀ x y z) t) (sym (no (isCountedThree p x y z) (isFaceOfFour p x y z) e));
     };
     empty = s .empty;
   }
 
 module _ (p : Polygon) where
   -- what was marked in an empty set lists the candidates
-  pub listed-are : {marks₀ marks : List ℕ} {due : Bool} → p .n ≤ maxVertices → ((x y z : ℕ) → x < maxVertices → y < maxVertices → z < maxVertices → has marks₀ x y z ≡ false) → due ≡ false → Marked (isCandidate p) (degenerate p) marks₀ due marks → triplesOf (p .n) (has marks) ≡ candidatesOf p
+  pub listed-are : {marks₀ marks : List ℕ} {due : Bool} → p .n ≤ maxVertices →
+      ((x y z : ℕ) → x < maxVertices → y < maxVertices → z < maxVertices → has marks₀ x y z ≡ false) → due ≡ false →
+      Marked (isCandidate p) (degenerate p) marks₀ due marks → triplesOf (p .n) (has marks) ≡ candidatesOf p
   listed-are {marks₀} {marks} h none e m =
       triples-same (p .n) (has marks) (isCandidate p)
-      (λ x y z hx hy hz. m .searched .put e x y z (omega arith) (omega arith) (omega arith) ∙ ap (λ (t : Bool). either t (isCandidate p x y z)) (none x y z (omega arith) (omega arith) (omega arith)))
+      (λ x y z hx hy hz. m .searched .put e x y z (omega arith) (omega arith) (omega arith)
+      ∙ ap (λ (t : Bool). either t (isCandidate p x y z)) (none x y z (omega arith) (omega arith) (omega arith)))

@@ -37,7 +37,8 @@ placed place i o e = record {
     on-is false = refl
 
 -- whether one that is not inside is another on the border, and no corner
-pub other-is : (corner : Bool) {place : Position} {i o found : Bool} → Placed place i o → (i ≡ true → ⊥) → found ≡ both (not corner) (isOn place) → both (not corner) o ≡ found
+pub other-is : (corner : Bool) {place : Position} {i o found : Bool} → Placed place i o → (i ≡ true → ⊥) → found ≡ both (not corner) (isOn place) →
+    both (not corner) o ≡ found
 other-is corner {i = i} p clear g = sym (g ∙ ap (λ (t : Bool). both (not corner) t) (p .when-on (not-true-false i clear)))
 
 -- a vertex that is a corner or not, by the test of its position

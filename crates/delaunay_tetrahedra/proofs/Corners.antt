@@ -45,9 +45,11 @@ module _ {p : Polygon} {a b c : ℕ} {lifted : List Lifted} {pencil : Pencil} (t
   pencil-of = t .spans ∙ (λ i. pencilOf (t .lifts .at b (t .b<n) i) (t .lifts .at c (t .c<n) i))
 
   -- two vertices that refute it: no four of the three counts
-  pub none-counts : (s w : ℕ) → s < p .n → w < p .n → refutedBy pencil (getD lifted s unlifted) (getD lifted w unlifted) ≡ true → (d : ℕ) → counts p a b c d ≡ false
+  pub none-counts : (s w : ℕ) → s < p .n → w < p .n → refutedBy pencil (getD lifted s unlifted) (getD lifted w unlifted) ≡ true →
+      (d : ℕ) → counts p a b c d ≡ false
   none-counts s w hs hw e d =
-      let r = refuted-is (vertex p a) (vertex p b) (vertex p c) (vertex p s) (vertex p w) (sym (λ i. refutedBy (pencil-of i) (t .lifts .at s hs i) (t .lifts .at w hw i)) ∙ e) in
+      let r = refuted-is (vertex p a) (vertex p b) (vertex p c) (vertex p s) (vertex p w)
+      (sym (λ i. refutedBy (pencil-of i) (t .lifts .at s hs i) (t .lifts .at w hw i)) ∙ e) in
       not-counts-between p a b c d s w hs hw (r .0) (r .1)
 
   -- the sphere through a fourth corner
@@ -62,10 +64,13 @@ module _ {p : Polygon} {a b c : ℕ} {lifted : List Lifted} {pencil : Pencil} (t
     flat-is = ap (λ (s : Sphere). equal (s .orient) (pos 0)) sphere-of ∙ coplanar-is (vertex p a) (vertex p b) (vertex p c) (vertex p d)
 
     -- where a vertex lies
-    module _ (solid : coplanar (vertex p a) (vertex p b) (vertex p c) (vertex p d) ≡ false) (v : ℕ) (v<n : v < p .n) {place : Position} (ep : place ≡ positionBy ball (getD lifted v unlifted)) where
+    module _ (solid : coplanar (vertex p a) (vertex p b) (vertex p c) (vertex p d) ≡ false) (v : ℕ) (v<n : v < p .n)
+        {place : Position} (ep : place ≡ positionBy ball (getD lifted v unlifted)) where
       pub place-is : Placed place (insideFour p a b c d v) (onFour p a b c d v)
       unfolding positionOf
-      place-is = placed place _ _ (ep ∙ (λ i. positionBy (sphere-of i) (t .lifts .at v v<n i)) ∙ position-is (vertex p a) (vertex p b) (vertex p c) (vertex p d) (vertex p v) solid)
+      place-is =
+          placed place _ _ (ep ∙ (λ i. positionBy (sphere-of i) (t .lifts .at v v<n i))
+          ∙ position-is (vertex p a) (vertex p b) (vertex p c) (vertex p d) (vertex p v) solid)
 
       -- inside: the four does not count
       pub drops : place ≡ Inside → counts p a b c d ≡ false
@@ -75,5 +80,6 @@ module _ {p : Polygon} {a b c : ℕ} {lifted : List Lifted} {pencil : Pencil} (t
       pub leaves : place ≡ Inside → separatesBy pencil (getD lifted d unlifted) (getD lifted v unlifted) ≡ true → (x : ℕ) → counts p a b c x ≡ false
       leaves e f x =
           not-counts-between p a b c x d v d<n v<n
-          (sym (separates-is (vertex p a) (vertex p b) (vertex p c) (vertex p d) (vertex p v)) ∙ sym (λ i. separatesBy (pencil-of i) (t .lifts .at d d<n i) (t .lifts .at v v<n i)) ∙ f)
+          (sym (separates-is (vertex p a) (vertex p b) (vertex p c) (vertex p d) (vertex p v))
+          ∙ sym (λ i. separatesBy (pencil-of i) (t .lifts .at d d<n i) (t .lifts .at v v<n i)) ∙ f)
           (place-is .when-inside e)

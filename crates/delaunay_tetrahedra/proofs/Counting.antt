@@ -26,12 +26,15 @@ module _ (p : Polygon) (a b c d : ℕ) where
   not-counts-inside v h e = scanning.not-counts-inside (p .n) (insideFour p a b c d) flat v h e
 
   -- two vertices between which the triangle (a, b, c) is not locally Delaunay: one of them is inside every sphere through it
-  pub not-counts-between : (s w : ℕ) → s < p .n → w < p .n → separates (vertex p a) (vertex p b) (vertex p c) (vertex p s) (vertex p w) ≡ true → insideFour p a b c s w ≡ true → counts p a b c d ≡ false
+  pub not-counts-between : (s w : ℕ) → s < p .n → w < p .n → separates (vertex p a) (vertex p b) (vertex p c) (vertex p s) (vertex p w) ≡ true →
+      insideFour p a b c s w ≡ true → counts p a b c d ≡ false
   not-counts-between s w hs hw e f = by (truth flat)
     where
       by : Truth flat → counts p a b c d ≡ false
       by (holds flat) = not-counts-flat flat
-      by (fails solid) = ⊎-elim (not-counts-inside s hs) (not-counts-inside w hw) (no-empty-sphere (vertex p a) (vertex p b) (vertex p c) (vertex p s) (vertex p w) e f (vertex p d) solid)
+      by (fails solid) =
+          ⊎-elim (not-counts-inside s hs) (not-counts-inside w hw)
+          (no-empty-sphere (vertex p a) (vertex p b) (vertex p c) (vertex p s) (vertex p w) e f (vertex p d) solid)
 
   pub counts-all : flat ≡ false → noneInside (p .n) (insideFour p a b c d) ≡ true → counts p a b c d ≡ true
   unfolding counts

@@ -79,7 +79,8 @@ pub record Triangle (p : Polygon) (a b c : ℕ) (lifted : List Lifted) (circle :
   pub through : circle ≡ circleOf (getD lifted b unlifted) (getD lifted c unlifted)
   pub kept : Kept p marks₀ marks left₀ (λ P. left3 (p .n) P a b c)
 
-module _ {p : Polygon} {a b c : ℕ} {lifted : List Lifted} {circle : Sphere} {marks₀ marks : List ℕ} {left₀ : Test → Bool} (t : Triangle p a b c lifted circle marks₀ marks left₀) where
+module _ {p : Polygon} {a b c : ℕ} {lifted : List Lifted} {circle : Sphere} {marks₀ marks : List ℕ} {left₀ : Test → Bool}
+    (t : Triangle p a b c lifted circle marks₀ marks left₀) where
   pub vertex-in : (v : ℕ) → v < p .n → LiftedBounds (getD lifted v unlifted)
   vertex-in = lift-in (t .valid) (t .a<n) (t .lifts)
 
@@ -111,14 +112,16 @@ module _ {p : Polygon} {a b c : ℕ} {lifted : List Lifted} {circle : Sphere} {m
       place-is =
           placed place _ _
           (e ∙ (λ i. positionBy (circle-of i) (t .lifts .at v v<n i))
-          ∙ circle-position-is (vertex p a) (vertex p b) (vertex p c) (vertex p v) proper (plane-any (vertex p) (p .n) (t .flat) a b c v (t .a<n) (t .b<n) (t .c<n) v<n))
+          ∙ circle-position-is (vertex p a) (vertex p b) (vertex p c) (vertex p v) proper
+          (plane-any (vertex p) (p .n) (t .flat) a b c v (t .a<n) (t .b<n) (t .c<n) v<n))
 
       -- inside: on to the next three
       pub three-dropped : place ≡ Inside → Next
       three-dropped i = skipped (not-counts-inside p a b c v v<n (place-is .when-inside i))
 
       -- not inside: on to the next turn of the scan
-      pub vertex-passed : (place ≡ Inside → ⊥) → (last i : ℕ) → v ≡ scannedAt last i → Scanned (p .n) (insideThree p a b c) (i - 1) → Scanned (p .n) (insideThree p a b c) (i + 1 - 1)
+      pub vertex-passed : (place ≡ Inside → ⊥) → (last i : ℕ) → v ≡ scannedAt last i → Scanned (p .n) (insideThree p a b c) (i - 1) →
+          Scanned (p .n) (insideThree p a b c) (i + 1 - 1)
       vertex-passed n last i k = scan-turn (p .n) (insideThree p a b c) last i v k v<n (place-is .when-clear n)
 
     -- all vertices are scanned
@@ -126,7 +129,8 @@ module _ {p : Polygon} {a b c : ℕ} {lifted : List Lifted} {circle : Sphere} {m
     three-counts v h s = counts-all p a b c proper (scan-end (p .n) (insideThree p a b c) v h s)
 
     module _ (full : countsInPlane p a b c ≡ true) where
-      module _ (v : ℕ) (v<n : v < p .n) {place : Position} (e : place ≡ positionBy circle (getD lifted v unlifted)) {found : Bool} (g : found ≡ both (not (isOneOf a b c v)) (isOn place)) where
+      module _ (v : ℕ) (v<n : v < p .n) {place : Position} (e : place ≡ positionBy circle (getD lifted v unlifted))
+          {found : Bool} (g : found ≡ both (not (isOneOf a b c v)) (isOn place)) where
         found-is : isFourth p a b c v ≡ found
         found-is = other-is (isOneOf a b c v) (place-is v v<n e) (λ h. true-not-false full (not-counts-inside p a b c v v<n h)) g
 
@@ -140,10 +144,12 @@ module _ {p : Polygon} {a b c : ℕ} {lifted : List Lifted} {circle : Sphere} {m
             (λ i. both (full i) (some-here 0 (p .n) (isFourth p a b c) v (omega arith) v<n (found-is ∙ h) i))
 
       -- all vertices are passed
-      pub three-marked : (v : ℕ) → p .n ≤ v → Passed (p .n) (isFourth p a b c) v → length marks ≡ pairCount → Kept p marks₀ (withTriple marks a b c) left₀ (λ P. left3 (p .n) P a b (c + 1))
+      pub three-marked : (v : ℕ) → p .n ≤ v → Passed (p .n) (isFourth p a b c) v → length marks ≡ pairCount →
+          Kept p marks₀ (withTriple marks a b c) left₀ (λ P. left3 (p .n) P a b (c + 1))
       three-marked v h s long =
           let m = t .valid .most in
-          marking.kept-mark (λ P. left3 (p .n) P a b (c + 1)) (λ (P : Test). P a b c) (λ P. next3 (p .n) P a b c (t .c<n)) (t .kept) (withTriple marks a b c) (length-set marks _ _)
+          marking.kept-mark (λ P. left3 (p .n) P a b (c + 1)) (λ (P : Test). P a b c) (λ P. next3 (p .n) P a b c (t .c<n))
+          (t .kept) (withTriple marks a b c) (length-set marks _ _)
           (λ x y z hx hy hz.
           put-in marks c long (omega (arith, m, t .a<n)) (omega (arith, m, t .b<n)) (record { first = hx; second = hy; third = hz })
           ∙ ap (λ (t : Bool). either t (has marks x y z)) (sym (both-yes (sameTriple a b c x y z) full)))
@@ -155,6 +161,7 @@ unfolding cocircular
 twelve-due p e = marking.put-due e
 
 -- all threes are done
-pub all-marked : (p : Polygon) {marks₀ marks : List ℕ} (a : ℕ) → p .n ≤ a + 2 → Kept p marks₀ marks (λ P. left1 (p .n) P 0) (λ P. left1 (p .n) P a) → Put (isCountedThree p) (cocircular p) marks₀ false marks
+pub all-marked : (p : Polygon) {marks₀ marks : List ℕ} (a : ℕ) → p .n ≤ a + 2 → Kept p marks₀ marks (λ P. left1 (p .n) P 0) (λ P. left1 (p .n) P a) →
+    Put (isCountedThree p) (cocircular p) marks₀ false marks
 unfolding cocircular isCountedThree
 all-marked p a h k = put-all (λ P. out1 (p .n) P a h) k

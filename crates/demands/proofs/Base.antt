@@ -41,7 +41,8 @@ module _ (limit : ℕ) (file : List ℕ) where
     bare-read e =
         let complete : readingOf limit file .status ≡ Complete = ap (λ (k : ℕ). answer k (polygonOf file) .status) e in
         let same : readingOf limit file .polygon ≡ polygonOf file = ap (λ (k : ℕ). answer k (polygonOf file) .polygon) e in
-        subst (λ (p : Polygon). NoSurface p) same (record { none = λ i h. zero-normal i (read-records limit file complete .in-file i h) (read-normals limit file complete i h) })
+        subst (λ (p : Polygon). NoSurface p) same
+        (record { none = λ i h. zero-normal i (read-records limit file complete .in-file i h) (read-normals limit file complete i h) })
       where
         zero-normal : {q : Normal} (i : ℕ) → InFile file (link file i) → HasNormal file i q → q ≡ noNormal
         zero-normal _ r (held i two in-range) = sym (normal-2 file (offset file (link file i)) two) ∙ zeros .zero (link file i) (r .numbered) (r .counted)
@@ -54,7 +55,8 @@ module _ (limit : ℕ) (file : List ℕ) where
     -- it has the answer of areas and rows alone
     pub zero-normals-answer : (t : Tables) → patchFile limit file t ≡ baseFile limit file t
     unfolding patchFile
-    zero-normals-answer t = by-number t (fileNumber limit file t) (λ e. bare-read (due-neither (reader.numberDue limit file) (polygonNumber (polygonOf file) t) e .0))
+    zero-normals-answer t =
+        by-number t (fileNumber limit file t) (λ e. bare-read (due-neither (reader.numberDue limit file) (polygonNumber (polygonOf file) t) e .0))
 
   -- every file of edition 1 is such a file
   pub edition-1-answer : isEdition2 file ≡ false → (t : Tables) → patchFile limit file t ≡ baseFile limit file t

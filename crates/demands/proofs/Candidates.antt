@@ -10,7 +10,8 @@ use Rattle.polygon.specs.declared.Polygon.{Polygon}
 use Rattle.geometry.specs.Spheres.{coplanar}
 use Rattle.planar.specs.Circles.{collinear}
 use Rattle.lists.specs.Lists.{both, either, every, some}
-use Rattle.lists.proofs.Choice.{Truth, truth, holds, fails, yes, no, true-not-false, not-true-false, both-left, both-right, both-true, either-left, either-right, either-cases}
+use Rattle.lists.proofs.Choice.{Truth, truth, holds, fails, yes, no, true-not-false, not-true-false}
+use Rattle.lists.proofs.Choice.{both-left, both-right, both-true, either-left, either-right, either-cases}
 use Rattle.lists.proofs.Ranges.{every-at, every-all, some-found, some-here}
 use Rattle.faces.specs.Faces.{sameTriple, isFace, isOneOf}
 use Rattle.faces.proofs.Sets.{triple-same, same-triple}
@@ -21,7 +22,8 @@ use Rattle.delaunay_tetrahedra.specs.Tetrahedra.{insideFour, onFour, counts, is
 use Rattle.delaunay_triangles.specs.Triangles.{insideThree, onThree, countsInPlane, isCountedThree, isFourth, cocircular}
 use Rattle.delaunay.specs.Candidates.{isFlat, isCandidate, degenerate}
 use Rattle.delaunay.proofs.Flat.{not-flat, flat-plane, plane-flat}
-use Rattle.demands.specs.Candidates.{Counts, Face, abc, abd, acd, bcd, CountsInPlane, Candidate, face, three, Cospherical, Cocircular, Degenerate, on-sphere, on-circle}
+use Rattle.demands.specs.Candidates.{Counts, Face, abc, abd, acd, bcd, CountsInPlane, Candidate, face}
+use Rattle.demands.specs.Candidates.{three, Cospherical, Cocircular, Degenerate, on-sphere, on-circle}
 
 -- a statement about a triple holds of the same triple
 at : (P : ℕ → ℕ → ℕ → Type 0) {i j k x y z : ℕ} → (i ≡ x) × (j ≡ y) × (k ≡ z) → P i j k → P x y z
@@ -116,16 +118,19 @@ module _ (p : Polygon) where
   four-face x y z e =
       let f = four-found (p .n) (λ a b c d. both (isFace a b c d x y z) (counts p a b c d)) e in
       face-true p (f .a) (f .b) (f .c) (f .d)
-      (counts-true p (f .a) (f .b) (f .c) (f .d) (f .a<b) (f .b<c) (f .c<d) (f .d<n) (both-right (isFace (f .a) (f .b) (f .c) (f .d) x y z) (counts p (f .a) (f .b) (f .c) (f .d)) (f .holds-of)))
+      (counts-true p (f .a) (f .b) (f .c) (f .d) (f .a<b) (f .b<c) (f .c<d) (f .d<n)
+      (both-right (isFace (f .a) (f .b) (f .c) (f .d) x y z) (counts p (f .a) (f .b) (f .c) (f .d)) (f .holds-of)))
       x y z (both-left (isFace (f .a) (f .b) (f .c) (f .d) x y z) (counts p (f .a) (f .b) (f .c) (f .d)) (f .holds-of))
 
   counted-three : isFlat p ≡ true → (x y z : ℕ) → isCountedThree p x y z ≡ true → CountsInPlane p x y z
   unfolding isCountedThree
   counted-three h x y z e =
       let f = three-found (p .n) (λ a b c. both (sameTriple a b c x y z) (countsInPlane p a b c)) e in
-      let s = triple-same {a = f .a} {b = f .b} {c = f .c} {x = x} {y = y} {z = z} (both-left (sameTriple (f .a) (f .b) (f .c) x y z) (countsInPlane p (f .a) (f .b) (f .c)) (f .holds-of)) in
+      let s = triple-same {a = f .a} {b = f .b} {c = f .c} {x = x} {y = y} {z = z}
+      (both-left (sameTriple (f .a) (f .b) (f .c) x y z) (countsInPlane p (f .a) (f .b) (f .c)) (f .holds-of)) in
       at (CountsInPlane p) s
-      (three-true p (f .a) (f .b) (f .c) h (f .a<b) (f .b<c) (f .c<n) (both-right (sameTriple (f .a) (f .b) (f .c) x y z) (countsInPlane p (f .a) (f .b) (f .c)) (f .holds-of)))
+      (three-true p (f .a) (f .b) (f .c) h (f .a<b) (f .b<c) (f .c<n)
+      (both-right (sameTriple (f .a) (f .b) (f .c) x y z) (countsInPlane p (f .a) (f .b) (f .c)) (f .holds-of)))
 
   three-counted : (x y z : ℕ) → CountsInPlane p x y z → isCountedThree p x y z ≡ true
   unfolding isCountedThree
@@ -149,15 +154,34 @@ module _ (p : Polygon) where
 
   face-found : (x y z : ℕ) → Face p x y z → (x < y) × (y < z) × (z < p .n) × (isCandidate p x y z ≡ true)
   unfolding isFace
-  face-found x y z (abc a b c d k) = (k .a<b, k .b<c, omega (arith, k .c<d, k .d<n), found p a b c d a b c k (either-left (sameTriple a b c a b c) _ (same a b c)))
-  face-found x y z (abd a b c d k) = (k .a<b, omega (arith, k .b<c, k .c<d), k .d<n, found p a b c d a b d k (either-right (sameTriple a b c a b d) _ (either-left (sameTriple a b d a b d) _ (same a b d))))
-  face-found x y z (acd a b c d k) = (omega (arith, k .a<b, k .b<c), k .c<d, k .d<n, found p a b c d a c d k (either-right (sameTriple a b c a c d) _ (either-right (sameTriple a b d a c d) _ (either-left (sameTriple a c d a c d) _ (same a c d)))))
-  face-found x y z (bcd a b c d k) = (k .b<c, k .c<d, k .d<n, found p a b c d b c d k (either-right (sameTriple a b c b c d) _ (either-right (sameTriple a b d b c d) _ (either-right (sameTriple a c d b c d) _ (same b c d)))))
+  face-found x y z (abc a b c d k) =
+      (k .a<b, k .b<c, omega (arith, k .c<d, k .d<n), found p a b c d a b c k (either-left (sameTriple a b c a b c) _ (same a b c)))
+  face-found x y z (abd a b c d k) = (
+    k .a<b,
+    omega (arith, k .b<c, k .c<d),
+    k .d<n,
+    found p a b c d a b d k (either-right (sameTriple a b c a b d) _ (either-left (sameTriple a b d a b d) _ (same a b d))),
+  )
+  face-found x y z (acd a b c d k) = (
+    omega (arith, k .a<b, k .b<c),
+    k .c<d,
+    k .d<n,
+    found p a b c d a c d k
+        (either-right (sameTriple a b c a c d) _ (either-right (sameTriple a b d a c d) _ (either-left (sameTriple a c d a c d) _ (same a c d)))),
+  )
+  face-found x y z (bcd a b c d k) = (
+    k .b<c,
+    k .c<d,
+    k .d<n,
+    found p a b c d b c d k
+        (either-right (sameTriple a b c b c d) _ (either-right (sameTriple a b d b c d) _ (either-right (sameTriple a c d b c d) _ (same b c d)))),
+  )
 
   pub true-candidate : (x y z : ℕ) → Candidate p x y z → (x < y) × (y < z) × (z < p .n) × (isCandidate p x y z ≡ true)
   unfolding isCandidate
   true-candidate x y z (face f) = face-found x y z f
-  true-candidate x y z (three k) = (k .a<b, k .b<c, k .c<n, yes (isCountedThree p x y z) (isFaceOfFour p x y z) (plane-flat p (k .flat)) ∙ three-counted x y z k)
+  true-candidate x y z (three k) =
+      (k .a<b, k .b<c, k .c<n, yes (isCountedThree p x y z) (isFaceOfFour p x y z) (plane-flat p (k .flat)) ∙ three-counted x y z k)
 
 -- ---- 12
 -- a vertex that is none of three corners, as a test and as a statement
@@ -203,7 +227,8 @@ module _ (p : Polygon) where
   true-fifth : Cospherical p → cospherical p ≡ true
   unfolding cospherical
   true-fifth r =
-      let apart : either (isOneOf (r .a) (r .b) (r .c) (r .fifth)) (eqb (r .fifth) (r .d)) ≡ false = (λ i. either (not-corner (r .a) (r .b) (r .c) (r .fifth) (r .not-a) (r .not-b) (r .not-c) i) (ne-eqb (r .fifth) (r .d) (r .not-d) i)) in
+      let apart : either (isOneOf (r .a) (r .b) (r .c) (r .fifth)) (eqb (r .fifth) (r .d)) ≡ false =
+      (λ i. either (not-corner (r .a) (r .b) (r .c) (r .fifth) (r .not-a) (r .not-b) (r .not-c) i) (ne-eqb (r .fifth) (r .d) (r .not-d) i)) in
       four-here (p .n) hasFifth (record {
         a = r .a;
         b = r .b;
@@ -213,7 +238,8 @@ module _ (p : Polygon) where
         b<c = r .four .b<c;
         c<d = r .four .c<d;
         d<n = r .four .d<n;
-        holds-of = both-true (true-counts p (r .a) (r .b) (r .c) (r .d) (r .four)) (some-here 0 (p .n) (isFifth p (r .a) (r .b) (r .c) (r .d)) (r .fifth) (omega arith) (r .fifth<n) (both-true (ap not apart) (r .on)));
+        holds-of = both-true (true-counts p (r .a) (r .b) (r .c) (r .d) (r .four))
+            (some-here 0 (p .n) (isFifth p (r .a) (r .b) (r .c) (r .d)) (r .fifth) (omega arith) (r .fifth<n) (both-true (ap not apart) (r .on)));
       })
 
   abbrev hasFourth : ℕ → ℕ → ℕ → Bool
@@ -250,7 +276,8 @@ module _ (p : Polygon) where
     a<b = r .three .a<b;
     b<c = r .three .b<c;
     c<n = r .three .c<n;
-    holds-of = both-true (true-three p (r .a) (r .b) (r .c) (r .three)) (some-here 0 (p .n) (isFourth p (r .a) (r .b) (r .c)) (r .fourth) (omega arith) (r .fourth<n) (both-true (ap not (not-corner (r .a) (r .b) (r .c) (r .fourth) (r .not-a) (r .not-b) (r .not-c))) (r .on)));
+    holds-of = both-true (true-three p (r .a) (r .b) (r .c) (r .three)) (some-here 0 (p .n) (isFourth p (r .a) (r .b) (r .c)) (r .fourth)
+        (omega arith) (r .fourth<n) (both-true (ap not (not-corner (r .a) (r .b) (r .c) (r .fourth) (r .not-a) (r .not-b) (r .not-c))) (r .on)));
   })
 
   pub degenerate-true : degenerate p ≡ true → Degenerate p

@@ -48,13 +48,16 @@ found = triple 0 1 2 ∷ triple 0 1 3 ∷ triple 0 2 3 ∷ triple 1 2 3 ∷ trip
 -- ---- the finder's call
 -- where the bend factor is 0, every row has the weight 0 and is there
 pub rows-of-weight-0 :
-    findCall (rim 0) (nines 5) (replicate 5 9) (nines 3) ≡ finding (Lists 4 2) found (80 ∷ 64 ∷ 80 ∷ 93 ∷ 9 ∷ []) (triple 1 3 0 ∷ triple 2 0 0 ∷ triple 9 9 9 ∷ [])
-unfolding numberDue codeOf repeatedVertex verticesCodeFrom upFrom everyFrom someFrom isFace counts isFaceOfFour isFlat isCandidate cospherical degenerate orientOf centreOf distanceOf hangs lengthOf rootDigits ratioOf bendOf sumBelow
+    findCall (rim 0) (nines 5) (replicate 5 9) (nines 3)
+    ≡ finding (Lists 4 2) found (80 ∷ 64 ∷ 80 ∷ 93 ∷ 9 ∷ []) (triple 1 3 0 ∷ triple 2 0 0 ∷ triple 9 9 9 ∷ [])
+unfolding numberDue codeOf repeatedVertex verticesCodeFrom upFrom everyFrom someFrom isFace counts isFaceOfFour isFlat isCandidate
+    cospherical degenerate orientOf centreOf distanceOf hangs lengthOf rootDigits ratioOf bendOf sumBelow
 rows-of-weight-0 = refl
 
 -- a row table one place short: 13, and nothing is changed
 pub short-rows : findCall (rim 1) (nines 5) (replicate 5 9) (nines 1) ≡ finding (Refused (refusal 13)) (nines 5) (replicate 5 9) (nines 1)
-unfolding numberDue codeOf repeatedVertex verticesCodeFrom upFrom everyFrom someFrom isFace counts isFaceOfFour isFlat isCandidate cospherical degenerate orientOf centreOf distanceOf hangs
+unfolding numberDue codeOf repeatedVertex verticesCodeFrom upFrom everyFrom someFrom isFace counts isFaceOfFour
+    isFlat isCandidate cospherical degenerate orientOf centreOf distanceOf hangs
 short-rows = refl
 
 -- five corners of a cube: 12
@@ -63,12 +66,14 @@ cubeCorners = record {
   n = 5;
   «area_factor» = 1;
   «bend_factor» = 1;
-  vertices = point (pos 0) (pos 0) (pos 0) ∷ point (pos 8) (pos 0) (pos 0) ∷ point (pos 8) (pos 8) (pos 0) ∷ point (pos 0) (pos 8) (pos 0) ∷ point (pos 0) (pos 0) (pos 8) ∷ [];
+  vertices = point (pos 0) (pos 0) (pos 0) ∷ point (pos 8) (pos 0) (pos 0) ∷ point (pos 8) (pos 8) (pos 0)
+      ∷ point (pos 0) (pos 8) (pos 0) ∷ point (pos 0) (pos 0) (pos 8) ∷ [];
   normals = [];
 }
 
 pub twelve-cube : findCall cubeCorners [] [] [] ≡ finding (Refused (refusal 12)) [] [] []
-unfolding numberDue codeOf repeatedVertex verticesCodeFrom upFrom everyFrom someFrom isFace counts isFaceOfFour isFlat isCandidate cospherical degenerate orientOf centreOf distanceOf hangs
+unfolding numberDue codeOf repeatedVertex verticesCodeFrom upFrom everyFrom someFrom isFace counts isFaceOfFour
+    isFlat isCandidate cospherical degenerate orientOf centreOf distanceOf hangs
 twelve-cube = refl
 
 -- ---- wrong programs

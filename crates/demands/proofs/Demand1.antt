@@ -34,9 +34,13 @@ use Rattle.demands.proofs.FileNumbers.{polygon-is, polygon-valid, file-
 module _ (p : Polygon) (t : Tables) where
   pub short-true : tablesShort p t ≡ true → TooShort (placesOf p) t
   unfolding tablesShort
-  short-true e = by (truth (ltb (length (t .triangles)) (placesOf p .triangles))) (truth (ltb (length (t .work)) (length (candidatesOf p)))) (truth (ltb (length (t .candidates)) (length (candidatesOf p)))) (truth (ltb (length (t .weights)) (length (candidatesOf p))))
+  short-true e =
+      by (truth (ltb (length (t .triangles)) (placesOf p .triangles))) (truth (ltb (length (t .work)) (length (candidatesOf p))))
+      (truth (ltb (length (t .candidates)) (length (candidatesOf p)))) (truth (ltb (length (t .weights)) (length (candidatesOf p))))
     where
-      by : Truth (ltb (length (t .triangles)) (placesOf p .triangles)) → Truth (ltb (length (t .work)) (length (candidatesOf p))) → Truth (ltb (length (t .candidates)) (length (candidatesOf p))) → Truth (ltb (length (t .weights)) (length (candidatesOf p))) → TooShort (placesOf p) t
+      by : Truth (ltb (length (t .triangles)) (placesOf p .triangles)) → Truth (ltb (length (t .work)) (length (candidatesOf p))) →
+          Truth (ltb (length (t .candidates)) (length (candidatesOf p))) →
+          Truth (ltb (length (t .weights)) (length (candidatesOf p))) → TooShort (placesOf p) t
       by (holds a) b c d = triangles (ltb-true _ _ a)
       by (fails a) (holds b) c d = work (ltb-true _ _ b)
       by (fails a) (fails b) (holds c) d = candidates (ltb-true _ _ c)
@@ -47,9 +51,16 @@ module _ (p : Polygon) (t : Tables) where
   unfolding tablesShort
   true-short (triangles h) = either-left _ _ (lt-ltb _ _ h)
   true-short (work h) = either-right (ltb (length (t .triangles)) (placesOf p .triangles)) _ (either-left _ _ (lt-ltb _ _ h))
-  true-short (candidates h) = either-right (ltb (length (t .triangles)) (placesOf p .triangles)) _ (either-right (ltb (length (t .work)) (length (candidatesOf p))) _ (either-left _ _ (lt-ltb _ _ h)))
-  true-short (weights h) = either-right (ltb (length (t .triangles)) (placesOf p .triangles)) _ (either-right (ltb (length (t .work)) (length (candidatesOf p))) _ (either-right (ltb (length (t .candidates)) (length (candidatesOf p))) _ (either-left _ _ (lt-ltb _ _ h))))
-  true-short (rows h) = either-right (ltb (length (t .triangles)) (placesOf p .triangles)) _ (either-right (ltb (length (t .work)) (length (candidatesOf p))) _ (either-right (ltb (length (t .candidates)) (length (candidatesOf p))) _ (either-right (ltb (length (t .weights)) (length (candidatesOf p))) _ (lt-ltb _ _ h))))
+  true-short (candidates h) =
+      either-right (ltb (length (t .triangles)) (placesOf p .triangles)) _
+      (either-right (ltb (length (t .work)) (length (candidatesOf p))) _ (either-left _ _ (lt-ltb _ _ h)))
+  true-short (weights h) =
+      either-right (ltb (length (t .triangles)) (placesOf p .triangles)) _ (either-right (ltb (length (t .work)) (length (candidatesOf p))) _
+      (either-right (ltb (length (t .candidates)) (length (candidatesOf p))) _ (either-left _ _ (lt-ltb _ _ h))))
+  true-short (rows h) =
+      either-right (ltb (length (t .triangles)) (placesOf p .triangles)) _
+      (either-right (ltb (length (t .work)) (length (candidatesOf p))) _ (either-right (ltb (length (t .candidates)) (length (candidatesOf p))) _
+      (either-right (ltb (length (t .weights)) (length (candidatesOf p))) _ (lt-ltb _ _ h))))
 
 -- a patch and 'none' are no refusal, and have no number
 pub never-refused : {o : Outcome} {k : ℕ} → o ≡ Refused (refusal k) → Taken o → ⊥

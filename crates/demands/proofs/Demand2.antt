@@ -27,7 +27,9 @@ module _ (p : Polygon) (v : ValidPolygon p) where
 
   same-row : (o i j k : ℕ) → IsRow rows j o i → IsRow rows k o i → (d : ℕ) → k - j ≡ d → k ≤ j
   same-row o i j k a b zero e = omega arith
-  same-row o i j k a b (suc d) e = absurd (row-before-same (a .outer-is ∙ sym (b .outer-is)) (a .inner-is ∙ sym (b .inner-is)) (rows-in-order p cs .ascending j k (omega arith) (b .below)))
+  same-row o i j k a b (suc d) e =
+      absurd (row-before-same (a .outer-is ∙ sym (b .outer-is)) (a .inner-is ∙ sym (b .inner-is))
+      (rows-in-order p cs .ascending j k (omega arith) (b .below)))
 
   pub demand-2 : Demand2 p cs (weightsOf p cs) rows
   demand-2 = record {
@@ -40,7 +42,8 @@ module _ (p : Polygon) (v : ValidPolygon p) where
     hinge-outer = λ k h. rows-in-order p cs .named k h .outer-is;
     hinge-inner = λ k h. rows-in-order p cs .named k h .inner-is;
     hinge-weight = λ k h. weigh k h;
-    row = λ o i ho hi e. let f = member-entry rows [] (rowAt p cs o i) (hinge-row p cs o i ho hi (hangs-true (entryAt cs i) (entryAt cs o) e)) in (f .at, record { below = f .below; outer-is = ap outer (f .is); inner-is = ap inner (f .is) });
+    row = λ o i ho hi e. let f = member-entry rows [] (rowAt p cs o i) (hinge-row p cs o i ho hi (hangs-true (entryAt cs i) (entryAt cs o) e)) in
+        (f .at, record { below = f .below; outer-is = ap outer (f .is); inner-is = ap inner (f .is) });
     one-row = λ o i j k a b. let l = same-row o i j k a b (k - j) refl in let m = same-row o i k j b a (j - k) refl in omega arith;
     rows-ascending = λ j k h l. true-row-before (entryAt rows j) (entryAt rows k) (rows-in-order p cs .ascending j k h l);
     light = λ i h. weights-allowed p v .own i h;
@@ -48,4 +51,6 @@ module _ (p : Polygon) (v : ValidPolygon p) where
   }
     where
       weigh : (k : ℕ) → k < length rows → rowWeight (entryAt rows k) ≡ hingeWeight p (entryAt cs (inner (entryAt rows k))) (entryAt cs (outer (entryAt rows k)))
-      weigh k h = let f = row-hinge p cs (entryAt rows k) (entry-member rows [] k h) in subst (λ (r : List ℕ). rowWeight r ≡ hingeWeight p (entryAt cs (inner r)) (entryAt cs (outer r))) (sym (f .is)) refl
+      weigh k h =
+          let f = row-hinge p cs (entryAt rows k) (entry-member rows [] k h) in
+          subst (λ (r : List ℕ). rowWeight r ≡ hingeWeight p (entryAt cs (inner r)) (entryAt cs (outer r))) (sym (f .is)) refl

@@ -89,7 +89,8 @@ module _ (limit : ℕ) (file : List ℕ) (bytes : Bytes file) (candidates : List
     call-is = by-number (verdict-zero verdict none) ∙ ap (λ (p : Polygon). findBy 0 p candidates weights rows) (sym (polygon-is limit file read))
 
     -- the lists are found
-    pub found-when : findFile limit file candidates weights rows .answer ≡ Lists (placesOf (polygonIn limit file) .candidates) (placesOf (polygonIn limit file) .rows)
+    pub found-when : findFile limit file candidates weights rows .answer
+        ≡ Lists (placesOf (polygonIn limit file) .candidates) (placesOf (polygonIn limit file) .rows)
     found-when = ap (λ (x : Finding). x .answer) call-is
 
     -- Demand 2: the tables hold the lists of the rim in their first places, and what they held in all others

@@ -114,7 +114,9 @@ module _ (limit : ℕ) (file : List ℕ) (bytes : Bytes file) (Short : Polygon �
     where
       by : (k : ℕ) → reader.numberDue limit file ≡ k → Verdict Due number
       by zero e = read-verdict e (truth (degenerate (polygonIn limit file))) (truth (short (polygonIn limit file)))
-      by (suc k) e = first-due k (reader-first k (number-first limit file k e)) (ap (λ (j : ℕ). firstDue j (numberDue (short (polygonOf file)) (polygonOf file))) e)
+      by (suc k) e =
+          first-due k (reader-first k (number-first limit file k e))
+          (ap (λ (j : ℕ). firstDue j (numberDue (short (polygonOf file)) (polygonOf file))) e)
 
   -- where no number is due the reader reads the file
   pub none-read : NoneDue (FileCallDue limit file (Short (polygonIn limit file))) → reader.numberDue limit file ≡ 0

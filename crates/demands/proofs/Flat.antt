@@ -37,7 +37,8 @@ use Rattle.triangulator.specs.Call.{numberOf, settled}
 use Rattle.pipeline.specs.Patching.{Tables, Patching, problemIn, refused, patchFile}
 use Rattle.pipeline.proofs.Values.{valid-job}
 use Rattle.demands.specs.Demand1.{CallDue, by-reader, twelve, polygonIn}
-use Rattle.demands.specs.Candidates.{Counts, Face, abc, abd, acd, bcd, Flat, CountsInPlane, Candidate, face, three, Cospherical, Cocircular, Degenerate, on-sphere, on-circle}
+use Rattle.demands.specs.Candidates.{Counts, Face, abc, abd, acd, bcd, Flat, CountsInPlane, Candidate, face}
+use Rattle.demands.specs.Candidates.{three, Cospherical, Cocircular, Degenerate, on-sphere, on-circle}
 use Rattle.demands.proofs.Candidates.{candidate-true, true-candidate}
 use Rattle.demands.proofs.FileNumbers.{twelve-first}
 use Rattle.demands.proofs.Demand1.{refused-first, given-first, accepted}
@@ -104,8 +105,10 @@ module _ (p : Polygon) (is3 : p .n ≡ 3) where
   module _ (proper : collinear (vertex p 0) (vertex p 1) (vertex p 2) ≡ false) where
     empty : (v : ℕ) → v < p .n → strictlyInsideCircle (vertex p 0) (vertex p 1) (vertex p 2) (vertex p v) ≡ false
     empty zero h = not-below-same (distanceInPlane (vertex p 0) (vertex p 1) (vertex p 2) (vertex p 0)) _ refl
-    empty (suc zero) h = not-below-same (distanceInPlane (vertex p 0) (vertex p 1) (vertex p 2) (vertex p 1)) _ (distance-q (vertex p 0) (vertex p 1) (vertex p 2))
-    empty (suc (suc zero)) h = not-below-same (distanceInPlane (vertex p 0) (vertex p 1) (vertex p 2) (vertex p 2)) _ (distance-r (vertex p 0) (vertex p 1) (vertex p 2))
+    empty (suc zero) h =
+        not-below-same (distanceInPlane (vertex p 0) (vertex p 1) (vertex p 2) (vertex p 1)) _ (distance-q (vertex p 0) (vertex p 1) (vertex p 2))
+    empty (suc (suc zero)) h =
+        not-below-same (distanceInPlane (vertex p 0) (vertex p 1) (vertex p 2) (vertex p 2)) _ (distance-r (vertex p 0) (vertex p 1) (vertex p 2))
     empty (suc (suc (suc v))) h = absurd (omega arith)
 
     -- a triangle that is not on one line is its own candidate (rule 2.19)
@@ -114,7 +117,8 @@ module _ (p : Polygon) (is3 : p .n ≡ 3) where
     triangle-candidate =
         ap (λ (n : ℕ). triplesOf n (isCandidate p)) is3
         ∙ ap (λ (t : Bool). ((when t (triple 0 1 2) ++ []) ++ []) ++ [])
-        (true-candidate p 0 1 2 (three (record { flat = three-flat; a<b = omega arith; b<c = omega arith; c<n = omega arith; proper = proper; empty = empty })) .3)
+        (true-candidate p 0 1 2
+        (three (record { flat = three-flat; a<b = omega arith; b<c = omega arith; c<n = omega arith; proper = proper; empty = empty })) .3)
 
 -- its only tiling
 alone : (w : ℕ) (rows : List (List ℕ)) → best (problemFrom 3 (triple 0 1 2 ∷ []) (w ∷ []) rows) ≡ patch w (0 ∷ [])
@@ -126,7 +130,8 @@ alone w rows = ap (λ (x : ℕ). patch x (0 ∷ [])) (sum w)
 
 -- ---- the one call
 -- where the reader takes the file: 12 where a three of a flat rim that counts has a fourth vertex on its circle
-pub circle-gets-12 : (limit : ℕ) (file : List ℕ) → Bytes file → (t : Tables) → NoneDue (FileDue limit file) → Cocircular (polygonIn limit file) → patchFile limit file t ≡ refused 12 t
+pub circle-gets-12 : (limit : ℕ) (file : List ℕ) → Bytes file → (t : Tables) → NoneDue (FileDue limit file) → Cocircular (polygonIn limit file) →
+    patchFile limit file t ≡ refused 12 t
 circle-gets-12 limit file bytes t none r = refused-first limit file bytes t 12 (twelve-first limit file _ none (on-circle r))
 
 -- and only there: 12 given on a flat rim is that of such a circle
@@ -134,14 +139,18 @@ due-12 : (limit : ℕ) (file : List ℕ) (t : Tables) (p : FilePlace) → CallDu
 due-12 limit file t _ (twelve d) = d
 due-12 limit file t _ (by-reader d) = elim d [ ]
 
-pub twelve-by-circle : (limit : ℕ) (file : List ℕ) → Bytes file → (t : Tables) → numberOf (patchFile limit file t .outcome) ≡ 12 → Flat (polygonIn limit file) → Cocircular (polygonIn limit file)
-twelve-by-circle limit file bytes t e f = let g = given-first limit file bytes t 11 e in flat-twelve (polygonIn limit file) f (due-12 limit file t (g .place) (g .is-due))
+pub twelve-by-circle : (limit : ℕ) (file : List ℕ) → Bytes file → (t : Tables) → numberOf (patchFile limit file t .outcome) ≡ 12 →
+    Flat (polygonIn limit file) → Cocircular (polygonIn limit file)
+twelve-by-circle limit file bytes t e f =
+    let g = given-first limit file bytes t 11 e in
+    flat-twelve (polygonIn limit file) f (due-12 limit file t (g .place) (g .is-due))
 
 module _ (limit : ℕ) (file : List ℕ) (bytes : Bytes file) (t : Tables) (none-due : NoneDue (CallDue limit file t)) where
   abbrev rim : Polygon
   rim = polygonIn limit file
 
-  outcome-by : {a : Answer} → best (problemIn rim) ≡ a → patchFile limit file t .outcome ≡ settled a (length (candidatesOf rim)) (t .triangles) (t .work) .outcome
+  outcome-by : {a : Answer} → best (problemIn rim) ≡ a →
+      patchFile limit file t .outcome ≡ settled a (length (candidatesOf rim)) (t .triangles) (t .work) .outcome
   outcome-by e =
       ap (λ (x : Patching). x .outcome) (accepted limit file bytes t none-due .call-is)
       ∙ ap (λ (a : Answer). settled a (length (candidatesOf rim)) (t .triangles) (t .work) .outcome) e
@@ -159,6 +168,8 @@ module _ (limit : ℕ) (file : List ℕ) (bytes : Bytes file) (t : Tables) (none
           omega (arith, members (problemIn rim) (valid-job rim v) (k ∷ s) m k (List·Memᴰ·head refl), n)
 
   -- every other triangle gets a patch: itself, at its own weight
-  pub triangle-gets-patch : rim .n ≡ 3 → collinear (vertex rim 0) (vertex rim 1) (vertex rim 2) ≡ false → patchFile limit file t .outcome ≡ Patch 1 (ownWeight rim (triple 0 1 2))
+  pub triangle-gets-patch : rim .n ≡ 3 → collinear (vertex rim 0) (vertex rim 1) (vertex rim 2) ≡ false →
+      patchFile limit file t .outcome ≡ Patch 1 (ownWeight rim (triple 0 1 2))
   triangle-gets-patch is3 proper =
-      outcome-by (ap best (λ i. problemFrom (is3 i) (triangle-candidate rim is3 proper i) (weightsOf rim (triangle-candidate rim is3 proper i)) (rowsOf rim (triangle-candidate rim is3 proper i))) ∙ alone (ownWeight rim (triple 0 1 2)) (rowsOf rim (triple 0 1 2 ∷ [])))
+      outcome-by (ap best (λ i. problemFrom (is3 i) (triangle-candidate rim is3 proper i) (weightsOf rim (triangle-candidate rim is3 proper i))
+      (rowsOf rim (triangle-candidate rim is3 proper i))) ∙ alone (ownWeight rim (triple 0 1 2)) (rowsOf rim (triple 0 1 2 ∷ [])))

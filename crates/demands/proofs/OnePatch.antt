@@ -55,20 +55,24 @@ module _ (p : Polygon) (valid : ValidPolygon p) (s t : Tables) where
 
   -- the triangles of a patch are candidates
   below : {total : ℕ} {l : List ℕ} → Optimal (problemIn p) total l → (k : ℕ) → List·Memᴰ k l → k < length (candidatesOf p)
-  below {total} {l} o k m = let b = handed-back (problemIn p) (valid-job p valid) total l o in members (problemIn p) (valid-job p valid) (b .right .set) (b .right .tiles) k (b .once .only k m)
+  below {total} {l} o k m =
+      let b = handed-back (problemIn p) (valid-job p valid) total l o in
+      members (problemIn p) (valid-job p valid) (b .right .set) (b .right .tiles) k (b .once .only k m)
 
   same-answer : (a : Answer) → ((total : ℕ) (l : List ℕ) → a ≡ patch total l → Optimal (problemIn p) total l) → SamePatch (answered a s) (answered a t)
   unfolding answered
   same-answer none o = same-empty None refl (answered none s .left) (answered none t .left)
   same-answer (patch total l) o =
       let e = part-patch l (s .triangles) total in
-      let within : (k : ℕ) → List·Memᴰ k (handedBack (answered (patch total l) s)) → k < length (candidatesOf p) = λ k m. below (o total l refl) k (subst (λ (x : List ℕ). List·Memᴰ k x) e m) in
+      let within : (k : ℕ) → List·Memᴰ k (handedBack (answered (patch total l) s)) → k < length (candidatesOf p) =
+      λ k m. below (o total l refl) k (subst (λ (x : List ℕ). List·Memᴰ k x) e m) in
       record {
         outcome = refl;
         total = refl;
         triangles = e ∙ sym (part-patch l (t .triangles) total);
         vertices = λ k m. filled-alike (candidatesOf p) (s .candidates) (t .candidates) [] (within k m);
-        weights = λ k m. filled-alike (weightsIn p) (s .weights) (t .weights) 0 (subst (λ (n : ℕ). k < n) (sym (length-map (candidatesOf p) (ownWeight p))) (within k m));
+        weights = λ k m. filled-alike (weightsIn p) (s .weights) (t .weights) 0
+            (subst (λ (n : ℕ). k < n) (sym (length-map (candidatesOf p) (ownWeight p))) (within k m));
       }
 
   same-patched : SamePatch (patched p s) (patched p t)
@@ -89,11 +93,14 @@ module _ (limit : ℕ) (file : List ℕ) where
   none-again g n = record { none = λ p k d. n .none p k (due-again g d) }
 
   -- one file, one patch
-  pub file-fixes-patch : Bytes file → (s t : Tables) → LongEnough limit file s → LongEnough limit file t → SamePatch (patchFile limit file s) (patchFile limit file t)
+  pub file-fixes-patch : Bytes file → (s t : Tables) → LongEnough limit file s → LongEnough limit file t →
+      SamePatch (patchFile limit file s) (patchFile limit file t)
   file-fixes-patch bytes s t h g = by (first-or-none limit file bytes s)
     where
       by : ((k : ℕ) × First (CallDue limit file s) k) ⊎ NoneDue (CallDue limit file s) → SamePatch (patchFile limit file s) (patchFile limit file t)
-      by (inl (k, f)) = rw (refused-first limit file bytes s k f, refused-first limit file bytes t k (first-again h g f)) (same-empty (Refused (refusal k)) refl s t)
+      by (inl (k, f)) =
+          rw (refused-first limit file bytes s k f, refused-first limit file bytes t k (first-again h g f))
+          (same-empty (Refused (refusal k)) refl s t)
       by (inr n) =
           let a = accepted limit file bytes s n in
           let b = accepted limit file bytes t (none-again g n) in

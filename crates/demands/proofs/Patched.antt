@@ -40,7 +40,8 @@ module _ (p : Polygon) (t : Tables) {x : Patching} (e : x ≡ patched p t) where
 
     pub patched-demand3 : Demand3 (problemIn p) (answerIn x)
     patched-demand3 =
-        subst (λ (a : Answer). Demand3 (problemIn p) a) (sym (ap answerIn e ∙ settled-states (best (problemIn p)) (length (candidatesOf p)) (t .triangles) (t .work)))
+        subst (λ (a : Answer). Demand3 (problemIn p) a)
+        (sym (ap answerIn e ∙ settled-states (best (problemIn p)) (length (candidatesOf p)) (t .triangles) (t .work)))
         (demand3 (problemIn p) (valid-job p v))
 
     pub patched-demand3-of-tables : RightOfTables p x

@@ -43,7 +43,8 @@ module _ (limit : ℕ) (file : List ℕ) (t : Tables) where
   then-13 : own ≡ 0 → fileNumber limit file t ≡ cond (tablesShort (polygonOf file) t) 13 0
   then-13 e = by (reader.numberDue limit file) e
     where
-      by : (j : ℕ) → firstDue j (numberDue false (polygonOf file)) ≡ 0 → firstDue j (polygonNumber (polygonOf file) t) ≡ cond (tablesShort (polygonOf file) t) 13 0
+      by : (j : ℕ) → firstDue j (numberDue false (polygonOf file)) ≡ 0 →
+          firstDue j (polygonNumber (polygonOf file) t) ≡ cond (tablesShort (polygonOf file) t) 13 0
       by zero e = due-13 (polygonOf file) (tablesShort (polygonOf file) t) e
       by (suc j) e = absurd (omega (arith, e))
 
@@ -75,7 +76,9 @@ module _ (limit : ℕ) (file : List ℕ) (t : Tables) where
 
     -- a table that is shorter: 13
     pub shorter-13 : TooShort needed t → patchFile limit file t ≡ refused 13 t
-    shorter-13 s = call-is (then-13 (sized .none-due) ∙ ap (λ (b : Bool). cond b 13 0) (true-short (polygonOf file) t (subst (λ (n : Places). TooShort n t) (sym (sized .places-are)) s)))
+    shorter-13 s =
+        call-is (then-13 (sized .none-due)
+        ∙ ap (λ (b : Bool). cond b 13 0) (true-short (polygonOf file) t (subst (λ (n : Places). TooShort n t) (sym (sized .places-are)) s)))
 
     -- no table is shorter: a patch or 'none'
     pub enough-taken : (TooShort needed t → ⊥) → Taken (patchFile limit file t .outcome)
@@ -97,7 +100,9 @@ module _ (limit : ℕ) (file : List ℕ) (t : Tables) where
 
         by : Truth (tablesShort (polygonOf file) t) → TooShort needed t
         by (holds s) = subst (λ (n : Places). TooShort n t) (sized .places-are) (short-true (polygonOf file) t s)
-        by (fails s) = absurd (untaken (enough-taken (λ h. true-not-false (true-short (polygonOf file) t (subst (λ (n : Places). TooShort n t) (sym (sized .places-are)) h)) s)) n)
+        by (fails s) =
+            absurd (untaken (enough-taken
+            (λ h. true-not-false (true-short (polygonOf file) t (subst (λ (n : Places). TooShort n t) (sym (sized .places-are)) h)) s)) n)
 
     -- tables of exactly these sizes are enough
     pub exact-taken : length (t .triangles) ≡ needed .triangles → length (t .candidates) ≡ needed .candidates → length (t .weights) ≡ needed .candidates →

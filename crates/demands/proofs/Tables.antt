@@ -34,18 +34,21 @@ filled-hold p v candidates weights rows =
       counted = ap length of-candidates;
       rows-counted = ap length of-rows;
       further-candidates = drop-at cs (drop (length cs) candidates) (length cs) refl;
-      further-weights = drop-at (weightsOf p cs) (drop (length (weightsOf p cs)) weights) (length cs) (sym same-count) ∙ ap (λ (k : ℕ). drop k weights) (sym same-count);
+      further-weights = drop-at (weightsOf p cs) (drop (length (weightsOf p cs)) weights) (length cs) (sym same-count)
+          ∙ ap (λ (k : ℕ). drop k weights) (sym same-count);
       further-rows = drop-at (rowsOf p cs) (drop (length (rowsOf p cs)) rows) (length (rowsOf p cs)) refl;
     }
 
 -- the finder's call, where it finds the lists
 pub find-hold : (p : Polygon) (candidates : List (List ℕ)) (weights : List ℕ) (rows : List (List ℕ)) (count row-count : ℕ) →
     findCall p candidates weights rows .answer ≡ Lists count row-count →
-    TablesHold p count row-count candidates weights rows (findCall p candidates weights rows .candidates) (findCall p candidates weights rows .weights) (findCall p candidates weights rows .rows)
+    TablesHold p count row-count candidates weights rows (findCall p candidates weights rows .candidates)
+    (findCall p candidates weights rows .weights) (findCall p candidates weights rows .rows)
 find-hold p candidates weights rows count row-count e = by (findNumber p candidates weights rows) refl e
   where
     by : (k : ℕ) → findNumber p candidates weights rows ≡ k → findBy k p candidates weights rows .answer ≡ Lists count row-count →
-        TablesHold p count row-count candidates weights rows (findBy k p candidates weights rows .candidates) (findBy k p candidates weights rows .weights) (findBy k p candidates weights rows .rows)
+        TablesHold p count row-count candidates weights rows (findBy k p candidates weights rows .candidates)
+        (findBy k p candidates weights rows .weights) (findBy k p candidates weights rows .rows)
     by (suc k) n d = absurd (let z : _≡_ {A = ℕ} 0 1 = cc in omega arith)
     by zero n d =
         let v : ValidPolygon p = code-valid p (clear p (shortTables p candidates weights rows) n .code) in

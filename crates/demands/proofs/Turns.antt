@@ -32,7 +32,8 @@ use Rattle.demands.proofs.Polygons.{valid, call-is}
 
 module _ (job : Job) where
   -- an answer of which demand 3 holds is the answer
-  right-answer : WellFormed (job .n) (job .candidates) (job .weights) (job .rows) → (a : Answer) → Demand3 (problemOf job) a → (total : ℕ) (l : List ℕ) → a ≡ patch total l →
+  right-answer : WellFormed (job .n) (job .candidates) (job .weights) (job .rows) → (a : Answer) →
+      Demand3 (problemOf job) a → (total : ℕ) (l : List ℕ) → a ≡ patch total l →
       TurnByTurn (problemOf job) l
   right-answer ok a d total l e =
       turn-by-turn (job .n) (job .candidates) (job .weights) (job .rows) ok total l (sym (demand3-unique (problemOf job) (ok .valid) a d) ∙ e)

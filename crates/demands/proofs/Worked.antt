@@ -36,7 +36,8 @@ use Rattle.dihedrals.specs.Dihedrals.{rowsOf}
 use Rattle.weights.specs.Weights.{weightsOf}
 use Rattle.jobs.specs.Job.{ascends, candidateFits, namesPair, rowFits, listsCode, jobCode}
 use Rattle.finder.specs.Finding.{short, numberDue}
-use Rattle.triangulation.specs.Triangulations.{Problem, Answer, best, patch, bestKey, key, isTriangulation, totalWeight, preorderFrom, countBetween, countOutside}
+use Rattle.triangulation.specs.Triangulations.{Problem, Answer, best, patch, bestKey, key, isTriangulation}
+use Rattle.triangulation.specs.Triangulations.{totalWeight, preorderFrom, countBetween, countOutside}
 use Rattle.triangulation.specs.Problems.{problemFrom}
 use Rattle.triangulator.specs.Call.{settled, triangulated}
 use Rattle.validation.specs.Validation.{named, isTiling, listTotal, listCode}
@@ -51,7 +52,9 @@ rimWith normals = record {
   n = 4;
   «area_factor» = 1;
   «bend_factor» = 1;
-  vertices = filled (point (pos 0) (pos 0) (pos 0) ∷ point (pos 8) (pos 0) (pos 0) ∷ point (pos 8) (pos 8) (pos 6) ∷ point (pos 0) (pos 8) (pos 0) ∷ []) (replicate maxVertices origin);
+  vertices =
+      filled (point (pos 0) (pos 0) (pos 0) ∷ point (pos 8) (pos 0) (pos 0) ∷ point (pos 8) (pos 8) (pos 6) ∷ point (pos 0) (pos 8) (pos 0) ∷ [])
+      (replicate maxVertices origin);
   normals = filled normals (replicate maxVertices noNormal);
 }
 
@@ -72,19 +75,23 @@ job weights = problemFrom 4 triplesP weights rowsP
 
 -- what is read of the bytes
 number-P : reader.numberDue maxVertices fileP ≡ 0
-unfolding ofBits upFrom someFrom finite numerator denominator negative inRange roundEighths repeatedVertex layoutOf lengthWrong recordAt numbersCode vertexOf normalIn link metBefore heightBefore linkCode positionCode codeFrom endFrom reader.fileCode reader.numberDue
+unfolding ofBits upFrom someFrom finite numerator denominator negative inRange roundEighths repeatedVertex layoutOf lengthWrong recordAt
+    numbersCode vertexOf normalIn link metBefore heightBefore linkCode positionCode codeFrom endFrom reader.fileCode reader.numberDue
 number-P = refl
 
 polygon-P : polygonOf fileP ≡ rimWith none
-unfolding ofBits upFrom someFrom finite numerator denominator negative inRange roundEighths layoutOf recordAt numbersCode vertexOf normalIn link metBefore heightBefore endFrom
+unfolding ofBits upFrom someFrom finite numerator denominator negative inRange roundEighths layoutOf recordAt
+    numbersCode vertexOf normalIn link metBefore heightBefore endFrom
 polygon-P = refl
 
 number-N : reader.numberDue maxVertices fileN ≡ 0
-unfolding ofBits upFrom someFrom finite numerator denominator negative inRange roundEighths repeatedVertex layoutOf lengthWrong recordAt numbersCode vertexOf normalIn link metBefore heightBefore linkCode positionCode codeFrom endFrom reader.fileCode reader.numberDue
+unfolding ofBits upFrom someFrom finite numerator denominator negative inRange roundEighths repeatedVertex layoutOf lengthWrong recordAt
+    numbersCode vertexOf normalIn link metBefore heightBefore linkCode positionCode codeFrom endFrom reader.fileCode reader.numberDue
 number-N = refl
 
 polygon-N : polygonOf fileN ≡ rimWith slopes
-unfolding ofBits upFrom someFrom finite numerator denominator negative inRange roundEighths layoutOf recordAt numbersCode vertexOf normalIn link metBefore heightBefore endFrom
+unfolding ofBits upFrom someFrom finite numerator denominator negative inRange roundEighths layoutOf recordAt
+    numbersCode vertexOf normalIn link metBefore heightBefore endFrom
 polygon-N = refl
 
 -- the number due on the polygon, its weights, and the best tiling
@@ -133,7 +140,9 @@ module _ (normals : List Normal) where
   enough : tablesShort (rimWith normals) lentP ≡ false
   unfolding tablesShort
   enough =
-      ap (λ (c : List (List ℕ)). either (short 3 2) (either (short 5 (length c)) (either (short 5 (length c)) (either (short 5 (length c)) (short 3 (length (rowsOf (rimWith normals) c))))))) candidates-are
+      ap (λ (c : List (List ℕ)). either (short 3 2)
+      (either (short 5 (length c)) (either (short 5 (length c)) (either (short 5 (length c)) (short 3 (length (rowsOf (rimWith normals) c)))))))
+      candidates-are
       ∙ ap (λ (r : List (List ℕ)). short 3 (length r)) rows-of
 
 -- the call's answer from an answer to the job and the three lists
@@ -154,7 +163,8 @@ module _ (normals : List Normal) {w : List ℕ} (weighs : weightsOf (rimWith nor
   job-is i = problemFrom 4 (candidates-are normals i) (weights-are i) (rows-are i)
 
   -- a file that gives it, and the best tiling
-  module _ (file : List ℕ) {a : Answer} (number : reader.numberDue maxVertices file ≡ 0) (reads : polygonOf file ≡ rimWith normals) (code : codeOf (rimWith normals) ≡ 0) (is-best : best (job w) ≡ a) where
+  module _ (file : List ℕ) {a : Answer} (number : reader.numberDue maxVertices file ≡ 0) (reads : polygonOf file ≡ rimWith normals)
+      (code : codeOf (rimWith normals) ≡ 0) (is-best : best (job w) ≡ a) where
     none-due : fileNumber maxVertices file lentP ≡ 0
     unfolding numberDue
     none-due =
@@ -180,13 +190,20 @@ abbrev rims : List Case
 rims = take 6 (drop 3 worked)
 
 rims-hold : map (λ c. c .computed) rims ≡ map (λ c. c .expected) rims
-unfolding patchPolygon tablesShort numberDue codeOf repeatedVertex verticesCodeFrom upFrom everyFrom someFrom orientOf circumcentreOf distanceInPlane countsInPlane isCountedThree isFlat isCandidate cocircular degenerate hangs lengthOf rootDigits ratioOf bendOf sumBelow bestKey key isTriangulation totalWeight preorderFrom countBetween countOutside
+unfolding patchPolygon tablesShort numberDue codeOf repeatedVertex verticesCodeFrom upFrom everyFrom someFrom orientOf circumcentreOf
+    distanceInPlane countsInPlane isCountedThree isFlat isCandidate cocircular degenerate hangs lengthOf rootDigits ratioOf
+    bendOf sumBelow bestKey key isTriangulation totalWeight preorderFrom countBetween countOutside
 rims-hold = refl
 
 -- ---- the list
 others-hold : map (λ c. c .computed) (drop 9 worked) ≡ map (λ c. c .expected) (drop 9 worked)
-unfolding gridNumberOf ofBits finite numerator denominator negative inRange roundEighths triangulated judged judgeCode listCode listTotal isTiling named jobCode listsCode everyFrom candidateFits ascends before rowFits namesPair hangs rowBefore bestKey key isTriangulation totalWeight preorderFrom countBetween countOutside rootDigits lengthOf ratioOf bendOf
+unfolding gridNumberOf ofBits finite numerator denominator negative inRange roundEighths triangulated judged judgeCode listCode
+    listTotal isTiling named jobCode listsCode everyFrom candidateFits ascends before rowFits namesPair hangs rowBefore bestKey
+    key isTriangulation totalWeight preorderFrom countBetween countOutside rootDigits lengthOf ratioOf bendOf
 others-hold = refl
 
 pub worked-hold : map (λ c. c .computed) worked ≡ map (λ c. c .expected) worked
-worked-hold = λ i. of-file (file-P i) ∷ of-tilings ((ap (λ (p : Polygon). withTotals (problemIn p)) polygon-P ∙ ap withTotals (job-is none weights-P) ∙ tilings-P) i) ∷ of-file (file-N i) ∷ (rims-hold i ++ others-hold i)
+worked-hold =
+    λ i. of-file (file-P i)
+    ∷ of-tilings ((ap (λ (p : Polygon). withTotals (problemIn p)) polygon-P ∙ ap withTotals (job-is none weights-P) ∙ tilings-P) i)
+    ∷ of-file (file-N i) ∷ (rims-hold i ++ others-hold i)

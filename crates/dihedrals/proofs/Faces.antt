@@ -42,7 +42,11 @@ module _ {p : Polygon} {t : List ℕ} {a b c : ℕ} (r : Read p t a b c) where
   c<limit = omega (arith, r .c-is, r .corners .c<n, r .valid .most)
 
   pub on-grid : (PointOnGrid (vertexAt (p .vertices) a)) × (PointOnGrid (vertexAt (p .vertices) b)) × (PointOnGrid (vertexAt (p .vertices) c))
-  on-grid = (r .valid .on-grid a (omega (arith, r .a-is, r .corners .a<n)), r .valid .on-grid b (omega (arith, r .b-is, r .corners .b<n)), r .valid .on-grid c (omega (arith, r .c-is, r .corners .c<n)))
+  on-grid = (
+    r .valid .on-grid a (omega (arith, r .a-is, r .corners .a<n)),
+    r .valid .on-grid b (omega (arith, r .b-is, r .corners .b<n)),
+    r .valid .on-grid c (omega (arith, r .c-is, r .corners .c<n)),
+  )
 
   -- the normal as it is computed
   pub normal-is : {n : Vector} → n ≡ normalOf (vertexAt (p .vertices) a) (vertexAt (p .vertices) b) (vertexAt (p .vertices) c) → n ≡ faceNormal p t
@@ -52,7 +56,8 @@ pub length-at : (p : Polygon) (cs : List (List ℕ)) (i : ℕ) → i < length cs
 length-at p cs i h = map-at (λ t. lengthOf (faceNormal p t)) cs [] 0 i h
 
 -- the bend with a candidate can be computed
-pub face-measured : {p : Polygon} {cs : List (List ℕ)} (s : ProperCandidates p cs) (i : ℕ) → i < length cs → {n : Vector} {m : ℕ} → n ≡ faceNormal p (entryAt cs i) → m ≡ lengthOf (faceNormal p (entryAt cs i)) → Measured n m
+pub face-measured : {p : Polygon} {cs : List (List ℕ)} (s : ProperCandidates p cs) (i : ℕ) → i < length cs → {n : Vector} {m : ℕ} →
+    n ≡ faceNormal p (entryAt cs i) → m ≡ lengthOf (faceNormal p (entryAt cs i)) → Measured n m
 face-measured {p} {cs} s i h {n} {m} en em = record {
   within = within-as en (face-within (s .valid) (s .corners i h));
   is = em ∙ ap lengthOf (sym en);
@@ -60,5 +65,6 @@ face-measured {p} {cs} s i h {n} {m} en em = record {
 }
 
 -- the lengths in the first places of a table
-pub first-lengths : (p : Polygon) (cs : List (List ℕ)) (table : List ℕ) {lengths : List ℕ} → lengths ≡ filled (lengthsOf p cs) table → take (length cs) lengths ≡ lengthsOf p cs
+pub first-lengths : (p : Polygon) (cs : List (List ℕ)) (table : List ℕ) {lengths : List ℕ} → lengths ≡ filled (lengthsOf p cs) table →
+    take (length cs) lengths ≡ lengthsOf p cs
 first-lengths p cs table e = taken (lengthsOf p cs) table (sym (length-map cs (λ t. lengthOf (faceNormal p t)))) e

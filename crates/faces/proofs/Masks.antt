@@ -22,7 +22,8 @@ other-bit c z h = go (c - z) refl
     go zero e = ap (λ (n : ℕ). n % 2) (div-eq-of-lt (pow-lt {i = c} {j = z} (omega arith)))
     go (suc d) e =
         let s : c ≡ suc d + z = omega arith in
-        ap (λ (n : ℕ). n / 2 ^ z % 2) (ap (λ (n : ℕ). 2 ^ n) s ∙ pow-add 2 (suc d) z) ∙ ap (λ (n : ℕ). n % 2) (shl-shr (2 ^ suc d) z) ∙ ap (λ (n : ℕ). n % 2) (sym (one-mul (2 ^ suc d))) ∙ shifted-even 1 d
+        ap (λ (n : ℕ). n / 2 ^ z % 2) (ap (λ (n : ℕ). 2 ^ n) s ∙ pow-add 2 (suc d) z) ∙ ap (λ (n : ℕ). n % 2) (shl-shr (2 ^ suc d) z)
+        ∙ ap (λ (n : ℕ). n % 2) (sym (one-mul (2 ^ suc d))) ∙ shifted-even 1 d
 
 or-bits : (p q : ℕ) → p < 2 → (b : Bool) → (b ≡ true → q ≡ 1) → (b ≡ false → q ≡ 0) → eqb (bitOr p q) 1 ≡ either b (eqb p 1)
 or-bits zero q h true e f = ap (λ (n : ℕ). eqb n 1) (or-zero-l q ∙ e refl)

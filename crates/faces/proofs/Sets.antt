@@ -34,8 +34,11 @@ same-triple {a} {b} {c} {x} {y} {z} e = both-true (eq-eqb a x (e .0)) (both-true
 
 pub triple-same : {a b c x y z : ℕ} → sameTriple a b c x y z ≡ true → (a ≡ x) × (b ≡ y) × (c ≡ z)
 triple-same {a} {b} {c} {x} {y} {z} e =
-    let t = both-right (eqb a x) (both (eqb b y) (eqb c z)) e in
-    (eqb-true a x (both-left (eqb a x) (both (eqb b y) (eqb c z)) e), eqb-true b y (both-left (eqb b y) (eqb c z) t), eqb-true c z (both-right (eqb b y) (eqb c z) t))
+    let t = both-right (eqb a x) (both (eqb b y) (eqb c z)) e in (
+      eqb-true a x (both-left (eqb a x) (both (eqb b y) (eqb c z)) e),
+      eqb-true b y (both-left (eqb b y) (eqb c z) t),
+      eqb-true c z (both-right (eqb b y) (eqb c z) t),
+    )
 
 -- a triple put in
 pub put-in : (masks : List ℕ) {a b x y z : ℕ} (c : ℕ) → length masks ≡ pairCount → a < maxVertices → b < maxVertices → Vertices x y z →
@@ -43,7 +46,8 @@ pub put-in : (masks : List ℕ) {a b x y z : ℕ} (c : ℕ) → length masks ≡
 unfolding has
 put-in masks {a} {b} {x} {y} {z} c l ha hb k = go (truth (eqb (pairAt x y) (pairAt a b)))
   where
-    go : Truth (eqb (pairAt x y) (pairAt a b)) → hasVertex (getD (withTriple masks a b c) (pairAt x y) 0) z ≡ either (sameTriple a b c x y z) (hasVertex (getD masks (pairAt x y) 0) z)
+    go : Truth (eqb (pairAt x y) (pairAt a b)) →
+        hasVertex (getD (withTriple masks a b c) (pairAt x y) 0) z ≡ either (sameTriple a b c x y z) (hasVertex (getD masks (pairAt x y) 0) z)
     go (holds e) =
         let f : pairAt x y ≡ pairAt a b = eqb-true (pairAt x y) (pairAt a b) e in
         let s = same-pair ha hb (k .first) (k .second) f in
@@ -54,10 +58,14 @@ put-in masks {a} {b} {x} {y} {z} c l ha hb k = go (truth (eqb (pairAt x y) (pair
         ∙ sym (λ i. either (both (eq-eqb a x (s .0) i) (both (eq-eqb b y (s .1) i) (eqb c z))) (hasVertex v z))
         ∙ ap (λ (i : ℕ). either (sameTriple a b c x y z) (hasVertex (getD masks i 0) z)) (sym f)
     go (fails e) =
-        ap (λ (m : ℕ). hasVertex m z) (getD-set-other masks (pairAt a b) (pairAt x y) (withVertex (getD masks (pairAt a b) 0) c) 0 (eqb-false (pairAt x y) (pairAt a b) e))
-        ∙ ap (λ (t : Bool). either t (hasVertex (getD masks (pairAt x y) 0) z)) (sym (not-true-false (sameTriple a b c x y z) (λ s. let t = triple-same {a = a} {b = b} {c = c} {x = x} {y = y} {z = z} s in eqb-false (pairAt x y) (pairAt a b) e (omega (arith, t .0, t .1)))))
+        ap (λ (m : ℕ). hasVertex m z)
+        (getD-set-other masks (pairAt a b) (pairAt x y) (withVertex (getD masks (pairAt a b) 0) c) 0 (eqb-false (pairAt x y) (pairAt a b) e))
+        ∙ ap (λ (t : Bool). either t (hasVertex (getD masks (pairAt x y) 0) z))
+        (sym (not-true-false (sameTriple a b c x y z) (λ s. let t = triple-same {a = a} {b = b} {c = c} {x = x} {y = y} {z = z} s in
+        eqb-false (pairAt x y) (pairAt a b) e (omega (arith, t .0, t .1)))))
 
-module _ (masks : List ℕ) {a b c d x y z : ℕ} (long : length masks ≡ pairCount) (ha : a < maxVertices) (hb : b < maxVertices) (hc : c < maxVertices) (hd : d < maxVertices) (k : Vertices x y z) where
+module _ (masks : List ℕ) {a b c d x y z : ℕ} (long : length masks ≡ pairCount) (ha : a < maxVertices) (hb : b < maxVertices)
+    (hc : c < maxVertices) (hd : d < maxVertices) (k : Vertices x y z) where
   -- the faces of a four put in
   pub faces-in : has (withFaces masks a b c d) x y z ≡ either (isFace a b c d x y z) (has masks x y z)
   unfolding isFace

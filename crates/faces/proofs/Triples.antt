@@ -44,17 +44,20 @@ module _ {A : Type 0} (n : ℕ) (f : ℕ → ℕ → ℕ → List A) where
 abbrev pub listed : (ℕ → ℕ → ℕ → Bool) → ℕ → ℕ → ℕ → List (List ℕ)
 listed P a b c = when (P a b c) (triple a b c)
 
-pub next-listed : (n : ℕ) (P : ℕ → ℕ → ℕ → Bool) (a b c : ℕ) {t : Bool} → c < n → t ≡ P a b c → left3 n (listed P) a b c ≡ when t (triple a b c) ++ left3 n (listed P) a b (c + 1)
+pub next-listed : (n : ℕ) (P : ℕ → ℕ → ℕ → Bool) (a b c : ℕ) {t : Bool} → c < n → t ≡ P a b c →
+    left3 n (listed P) a b c ≡ when t (triple a b c) ++ left3 n (listed P) a b (c + 1)
 next-listed n P a b c h e = next3 n (listed P) a b c h ∙ ap (λ (t : Bool). when t (triple a b c) ++ left3 n (listed P) a b (c + 1)) (sym e)
 
 -- what the listed triples give, one after the other
-pub flat-triples : {A : Type 0} (f : List ℕ → List A) (n : ℕ) (P : ℕ → ℕ → ℕ → Bool) → flatMap f (triplesOf n P) ≡ left1 n (λ a b c. cond (P a b c) (f (triple a b c)) []) 0
+pub flat-triples : {A : Type 0} (f : List ℕ → List A) (n : ℕ) (P : ℕ → ℕ → ℕ → Bool) →
+    flatMap f (triplesOf n P) ≡ left1 n (λ a b c. cond (P a b c) (f (triple a b c)) []) 0
 flat-triples f n P =
     flat-over f 0 n _ ∙ over-same 0 n _ _ (λ a l m.
     flat-over f (a + 1) n _ ∙ over-same (a + 1) n _ _ (λ b l m.
     flat-over f (b + 1) n _ ∙ over-same (b + 1) n _ _ (λ c l m. flat-when f (P a b c) (triple a b c))))
 
-pub left-lengths : {A B : Type 0} (n : ℕ) (f : ℕ → ℕ → ℕ → List A) (g : ℕ → ℕ → ℕ → List B) → ((a b c : ℕ) → a < b → b < c → c < n → length (f a b c) ≡ length (g a b c)) → length (left1 n f 0) ≡ length (left1 n g 0)
+pub left-lengths : {A B : Type 0} (n : ℕ) (f : ℕ → ℕ → ℕ → List A) (g : ℕ → ℕ → ℕ → List B) →
+    ((a b c : ℕ) → a < b → b < c → c < n → length (f a b c) ≡ length (g a b c)) → length (left1 n f 0) ≡ length (left1 n g 0)
 left-lengths n f g h =
     over-lengths _ _ 0 n (λ a l m. over-lengths _ _ (a + 1) n (λ b l′ m′. over-lengths _ _ (b + 1) n (λ c l″ m″.
     h a b c (omega arith) (omega arith) m″)))

@@ -53,14 +53,16 @@ module _ (p : Polygon) (cs : List (List ℕ)) where
   pub hinge-row : (o i : ℕ) → o < length cs → i < length cs → Hangs (entryAt cs i) (entryAt cs o) → List·Memᴰ (rowAt p cs o i) (rowsOf p cs)
   hinge-row o i h k e =
       over-put 0 (length cs) o (rowsOn p cs) (rowAt p cs o i) (omega arith) h
-      (over-put 0 (length cs) i (λ i. when (hangs (entryAt cs i) (entryAt cs o)) (rowAt p cs o i)) (rowAt p cs o i) (omega arith) k (when-put (rowAt p cs o i) (true-hangs (entryAt cs i) (entryAt cs o) e)))
+      (over-put 0 (length cs) i (λ i. when (hangs (entryAt cs i) (entryAt cs o)) (rowAt p cs o i)) (rowAt p cs o i)
+      (omega arith) k (when-put (rowAt p cs o i) (true-hangs (entryAt cs i) (entryAt cs o) e)))
 
   pub rows-ascend : Ascending RowBefore (rowsOf p cs)
   rows-ascend =
       over-ascending 0 (length cs) (rowsOn p cs)
       (λ o. over-ascending 0 (length cs) (λ i. when (hangs (entryAt cs i) (entryAt cs o)) (rowAt p cs o i))
       (λ i. when-ascending (hangs (entryAt cs i) (entryAt cs o)) (rowAt p cs o i))
-      (λ i j x y h mx my. within o i j x y h (when-member (hangs (entryAt cs i) (entryAt cs o)) (rowAt p cs o i) x mx .1) (when-member (hangs (entryAt cs j) (entryAt cs o)) (rowAt p cs o j) y my .1)))
+      (λ i j x y h mx my. within o i j x y h (when-member (hangs (entryAt cs i) (entryAt cs o)) (rowAt p cs o i) x mx .1)
+      (when-member (hangs (entryAt cs j) (entryAt cs o)) (rowAt p cs o j) y my .1)))
       (λ o u x y h mx my. by-outer (omega (arith, of-outer o x mx, of-outer u y my)))
     where
       within : (o i j : ℕ) (x y : List ℕ) → i < j → x ≡ rowAt p cs o i → y ≡ rowAt p cs o j → RowBefore x y
@@ -95,7 +97,11 @@ module _ (p : Polygon) (v : ValidPolygon p) where
 
   pub weights-allowed : lists.Weights (candidatesOf p) (weightsOf p (candidatesOf p)) (rowsOf p (candidatesOf p))
   weights-allowed = record {
-    own = λ i h. let o = candidates-in-order .ordered i h in subst (λ (w : ℕ). w ≤ maxWeight) (sym (weight-at p (candidatesOf p) i h)) (own-weight-bound p (entryAt (candidatesOf p) i) (o .a-b) (o .b-c) (o .c-n) v);
+    own = λ i h. let o = candidates-in-order .ordered i h in subst (λ (w : ℕ). w ≤ maxWeight) (sym (weight-at p (candidatesOf p) i h))
+        (own-weight-bound p (entryAt (candidatesOf p) i) (o .a-b) (o .b-c) (o .c-n) v);
     of-row = λ k h. let f = row-hinge p (candidatesOf p) (entryAt (rowsOf p (candidatesOf p)) k) (entry-member (rowsOf p (candidatesOf p)) [] k h) in
-        subst (λ (w : ℕ). w ≤ maxWeight) (sym (ap rowWeight (f .is))) (le-trans (bend-weight-bound (v .bend-factor) (bend-bound (dotOf (faceNormal p (entryAt (candidatesOf p) (f .i))) (faceNormal p (entryAt (candidatesOf p) (f .o)))) (lengthOf (faceNormal p (entryAt (candidatesOf p) (f .i)))) (lengthOf (faceNormal p (entryAt (candidatesOf p) (f .o)))))) (lit≤ tt));
+        subst (λ (w : ℕ). w ≤ maxWeight) (sym (ap rowWeight (f .is)))
+        (le-trans (bend-weight-bound (v .bend-factor)
+        (bend-bound (dotOf (faceNormal p (entryAt (candidatesOf p) (f .i))) (faceNormal p (entryAt (candidatesOf p) (f .o))))
+        (lengthOf (faceNormal p (entryAt (candidatesOf p) (f .i)))) (lengthOf (faceNormal p (entryAt (candidatesOf p) (f .o)))))) (lit≤ tt));
   }

@@ -27,11 +27,13 @@ use Rattle.finder.specs.declared.Sizes.the-variants as variants
 use Rattle.finder.specs.declared.Sizes.{Sizes}
 use Rattle.finder.specs.Sizes.{placesIn, duePlaces, sizesBy, sizesOf}
 use Rattle.finder.specs.Sizes as sizes
-use Rattle.finder.specs.Finding.{Finding, finding, valuesOf, dueValues, short, shortTables, shortBeside, numberDue, findBy, findNumber, besideNumber, findBesideCall}
+use Rattle.finder.specs.Finding.{Finding, finding, valuesOf, dueValues, short, shortTables, shortBeside}
+use Rattle.finder.specs.Finding.{numberDue, findBy, findNumber, besideNumber, findBesideCall}
 use Rattle.finder.specs.Filling.{placesFor, fillOr13}
 
 -- one test after the other, as one
-one-test : {A : Type 0} (a b c d e : Bool) (x y : A) → cond a x (cond b x (cond c x (cond d x (cond e x y)))) ≡ cond (either (either a b) (either c (either d e))) x y
+one-test : {A : Type 0} (a b c d e : Bool) (x y : A) →
+    cond a x (cond b x (cond c x (cond d x (cond e x y)))) ≡ cond (either (either a b) (either c (either d e))) x y
 one-test true b c d e x y = refl
 one-test false true c d e x y = refl
 one-test false false true d e x y = refl
@@ -90,9 +92,11 @@ module _ (p : Polygon) where
   sizes-refused zero m e h = absurd (h refl)
   sizes-refused (suc k) m e h = ap (λ (r : Refusal). variants.Refused r) m ∙ ap (λ (k : ℕ). sizesBy k p) e
 
-  pub sizes-known : {places : Places} {found : List (List ℕ)} → numberDue false p ≡ 0 → found ≡ candidatesOf p → places ≡ placesFor (p .n) found → Known places ≡ sizesOf p
+  pub sizes-known : {places : Places} {found : List (List ℕ)} → numberDue false p ≡ 0 → found ≡ candidatesOf p →
+      places ≡ placesFor (p .n) found → Known places ≡ sizesOf p
   sizes-known {places} {found} e f g =
-      ap (λ (x : Places). Known x) (g ∙ ap (placesFor (p .n)) f ∙ ap (λ (m : ℕ). record { triangles = p .n - 2; candidates = length (candidatesOf p); rows = m }) (sym (row-count p (candidatesOf p))))
+      ap (λ (x : Places). Known x) (g ∙ ap (placesFor (p .n)) f
+      ∙ ap (λ (m : ℕ). record { triangles = p .n - 2; candidates = length (candidatesOf p); rows = m }) (sym (row-count p (candidatesOf p))))
       ∙ ap (λ (k : ℕ). sizesBy k p) (sym e)
 
 -- the number and the places of a sizing call, by the number due
@@ -109,7 +113,8 @@ sizes-values p k e = (e, (ap sizes.numberOf e ∙ number k, ap placesIn e ∙ pl
 
 -- ---- the answer and the tables
 -- the number and the counts of an answer, by the number due
-found-values : (p : Polygon) (k : ℕ) (candidates : List (List ℕ)) (weights : List ℕ) (rows : List (List ℕ)) → valuesOf (findBy k p candidates weights rows .answer) ≡ dueValues k p
+found-values : (p : Polygon) (k : ℕ) (candidates : List (List ℕ)) (weights : List ℕ) (rows : List (List ℕ)) →
+    valuesOf (findBy k p candidates weights rows .answer) ≡ dueValues k p
 found-values p zero candidates weights rows = refl
 found-values p (suc k) candidates weights rows = refl
 
@@ -123,24 +128,30 @@ module _ (p : Polygon) (trianglePlaces workPlaces : ℕ) (candidates : List (Lis
   find-refused zero m e h = absurd (h refl)
   find-refused (suc k) m e h =
       ap (λ (r : Refusal). finding (Refused r) candidates weights rows) m
-      ∙ ap (λ (k : ℕ). findBy k p candidates weights rows) (due-first p (suc k) (either (shortBeside p trianglePlaces workPlaces) (shortTables p candidates weights rows)) e h)
+      ∙ ap (λ (k : ℕ). findBy k p candidates weights rows)
+      (due-first p (suc k) (either (shortBeside p trianglePlaces workPlaces) (shortTables p candidates weights rows)) e h)
 
-  pub filled-is : numberDue false p ≡ 0 → fillOr13 p (candidatesOf p) trianglePlaces workPlaces candidates weights rows ≡ findBesideCall p trianglePlaces workPlaces candidates weights rows
+  pub filled-is : numberDue false p ≡ 0 → fillOr13 p (candidatesOf p) trianglePlaces workPlaces candidates weights rows
+      ≡ findBesideCall p trianglePlaces workPlaces candidates weights rows
   unfolding fillOr13
   filled-is e =
-      one-test (short trianglePlaces (p .n - 2)) (short workPlaces (length (candidatesOf p))) (short (length candidates) (length (candidatesOf p))) (short (length weights) (length (candidatesOf p))) (short (length rows) (length (rowsOf p (candidatesOf p)))) (finding (Refused (refusal 13)) candidates weights rows) _
+      one-test (short trianglePlaces (p .n - 2)) (short workPlaces (length (candidatesOf p))) (short (length candidates) (length (candidatesOf p)))
+      (short (length weights) (length (candidatesOf p))) (short (length rows) (length (rowsOf p (candidatesOf p))))
+      (finding (Refused (refusal 13)) candidates weights rows) _
       ∙ by tooShort
       ∙ ap (λ (k : ℕ). findBy k p candidates weights rows) (sym (due-13 p tooShort e))
     where
       tooShort : Bool
       tooShort = either (shortBeside p trianglePlaces workPlaces) (shortTables p candidates weights rows)
 
-      by : (b : Bool) → cond b (finding (Refused (refusal 13)) candidates weights rows) (findBy 0 p candidates weights rows) ≡ findBy (cond b 13 0) p candidates weights rows
+      by : (b : Bool) → cond b (finding (Refused (refusal 13)) candidates weights rows) (findBy 0 p candidates weights rows)
+          ≡ findBy (cond b 13 0) p candidates weights rows
       by true = refl
       by false = refl
 
 -- two tables of enough places beside the finder's change nothing
-pub beside-enough : (p : Polygon) (candidates : List (List ℕ)) (weights : List ℕ) (rows : List (List ℕ)) → besideNumber p (p .n) maxTriples candidates weights rows ≡ findNumber p candidates weights rows
+pub beside-enough : (p : Polygon) (candidates : List (List ℕ)) (weights : List ℕ) (rows : List (List ℕ)) →
+    besideNumber p (p .n) maxTriples candidates weights rows ≡ findNumber p candidates weights rows
 unfolding numberDue
 beside-enough p candidates weights rows = go (truth (eqb (codeOf p) 0))
   where
@@ -148,5 +159,6 @@ beside-enough p candidates weights rows = go (truth (eqb (codeOf p) 0))
     go (fails e) = no _ _ e ∙ sym (no _ _ e)
     go (holds e) =
         let v = code-valid p (eqb-true (codeOf p) 0 e) in
-        let enough : shortBeside p (p .n) maxTriples ≡ false = no _ _ (le-ltb (p .n) (p .n - 2) (omega arith)) ∙ le-ltb maxTriples (length (candidatesOf p)) (triples-bound (p .n) (isCandidate p) (v .most)) in
+        let enough : shortBeside p (p .n) maxTriples ≡ false = no _ _ (le-ltb (p .n) (p .n - 2) (omega arith))
+        ∙ le-ltb maxTriples (length (candidatesOf p)) (triples-bound (p .n) (isCandidate p) (v .most)) in
         ap (λ (t : Bool). numberDue (either t (shortTables p candidates weights rows)) p) enough

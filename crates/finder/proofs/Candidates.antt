@@ -94,7 +94,9 @@ module _ (p : Polygon) (v : ValidPolygon p) where
   module _ (a b c d : ℕ) (ha : a < p .n) (hb : b < p .n) (hc : c < p .n) (hd : d < p .n) (e : counts p a b c d ≡ true) where
     solid-four : coplanar (vertex p a) (vertex p b) (vertex p c) (vertex p d) ≡ false
     unfolding counts
-    solid-four = not-true _ (both-left (not (coplanar (vertex p a) (vertex p b) (vertex p c) (vertex p d))) (every 0 (p .n) (λ w. not (insideFour p a b c d w))) e)
+    solid-four =
+        not-true _
+        (both-left (not (coplanar (vertex p a) (vertex p b) (vertex p c) (vertex p d))) (every 0 (p .n) (λ w. not (insideFour p a b c d w))) e)
 
     face-length : (x y z : ℕ) → isFace a b c d x y z ≡ true → HasLength x y z
     unfolding isFace
@@ -115,7 +117,8 @@ module _ (p : Polygon) (v : ValidPolygon p) where
   unfolding isFaceOfFour
   face-of-four-length x y z e =
       let f = four-found (p .n) (λ a b c d. both (isFace a b c d x y z) (counts p a b c d)) e in
-      face-length (f .a) (f .b) (f .c) (f .d) (omega (arith, f .a<b, f .b<c, f .c<d, f .d<n)) (omega (arith, f .b<c, f .c<d, f .d<n)) (omega (arith, f .c<d, f .d<n)) (f .d<n)
+      face-length (f .a) (f .b) (f .c) (f .d) (omega (arith, f .a<b, f .b<c, f .c<d, f .d<n))
+      (omega (arith, f .b<c, f .c<d, f .d<n)) (omega (arith, f .c<d, f .d<n)) (f .d<n)
       (both-right (isFace (f .a) (f .b) (f .c) (f .d) x y z) (counts p (f .a) (f .b) (f .c) (f .d)) (f .holds-of))
       x y z (both-left (isFace (f .a) (f .b) (f .c) (f .d) x y z) (counts p (f .a) (f .b) (f .c) (f .d)) (f .holds-of))
 
@@ -131,7 +134,8 @@ module _ (p : Polygon) (v : ValidPolygon p) where
   counted-three-length x y z e =
       let f = three-found (p .n) (λ a b c. both (sameTriple a b c x y z) (countsInPlane p a b c)) e in
       same-face (f .a) (f .b) (f .c) x y z (both-left (sameTriple (f .a) (f .b) (f .c) x y z) (countsInPlane p (f .a) (f .b) (f .c)) (f .holds-of))
-      (three-length (f .a) (f .b) (f .c) (omega (arith, f .a<b, f .b<c, f .c<n)) (omega (arith, f .b<c, f .c<n)) (f .c<n) (both-right (sameTriple (f .a) (f .b) (f .c) x y z) (countsInPlane p (f .a) (f .b) (f .c)) (f .holds-of)))
+      (three-length (f .a) (f .b) (f .c) (omega (arith, f .a<b, f .b<c, f .c<n)) (omega (arith, f .b<c, f .c<n)) (f .c<n)
+      (both-right (sameTriple (f .a) (f .b) (f .c) x y z) (countsInPlane p (f .a) (f .b) (f .c)) (f .holds-of)))
 
   candidate-length : (x y z : ℕ) → isCandidate p x y z ≡ true → HasLength x y z
   unfolding isCandidate
@@ -150,5 +154,6 @@ module _ (p : Polygon) (v : ValidPolygon p) where
       b<n = omega (arith, ap vertexB (t .is), t .b<c, t .c<n);
       c<n = omega (arith, ap vertexC (t .is), t .c<n);
     };
-    normals = λ i h. let t = candidate-at i h in subst (λ (s : List ℕ). 0 < lengthOf (faceNormal p s)) (sym (t .is)) (candidate-length (t .a) (t .b) (t .c) (t .holds-of));
+    normals = λ i h. let t = candidate-at i h in
+        subst (λ (s : List ℕ). 0 < lengthOf (faceNormal p s)) (sym (t .is)) (candidate-length (t .a) (t .b) (t .c) (t .holds-of));
   }

@@ -76,6 +76,7 @@ apex = point (pos 0) (pos 0) (pos 16)
 abbrev below : GridPoint
 below = point (pos 2) (pos 2) (pos 4)
 
-own-side : (strictlyInside p0 p1 p3 apex below ≡ true) × (coplanar p0 p1 p3 below ≡ false) × (strictlyInside p0 p1 p3 below apex ≡ false) × (strictlyInside p0 p1 p3 below below ≡ false)
+own-side : (strictlyInside p0 p1 p3 apex below ≡ true) × (coplanar p0 p1 p3 below ≡ false)
+    × (strictlyInside p0 p1 p3 below apex ≡ false) × (strictlyInside p0 p1 p3 below below ≡ false)
 unfolding orientOf centreOf distanceOf
 own-side = (refl, refl, refl, refl)

@@ -51,7 +51,9 @@ module _ (o : ℤ) (b v : Vector) (p : GridPoint) where
   distances-power = ring known distancesE ((con (pos 4) :* var 0) :* (var 0 :* dotE (vec 4) (vec 4) :- dotE (vec 1) (vec 4))) tt
 
   pub distances-opposite : distances ≡ (pos 4 *ℤ (pos 0 -ℤ o)) *ℤ ((pos 0 -ℤ o) *ℤ squareOf v -ℤ dotOf (opposite b) v)
-  distances-opposite = ring known distancesE ((con (pos 4) :* (con (pos 0) :- var 0)) :* ((con (pos 0) :- var 0) :* dotE (vec 4) (vec 4) :- dotE (oppositeE (vec 1)) (vec 4))) tt
+  distances-opposite =
+      ring known distancesE
+      ((con (pos 4) :* (con (pos 0) :- var 0)) :* ((con (pos 0) :- var 0) :* dotE (vec 4) (vec 4) :- dotE (oppositeE (vec 1)) (vec 4))) tt
 
 -- ---- corners
 
@@ -75,7 +77,8 @@ module _ (u v t : Vector) where
 
 -- the sphere goes through the four (rule 2.2): the corners q, r, s are as far from the centre as p
 module _ (p q r s : GridPoint) where
-  at-corner : (w : GridPoint) → orientOf p q r s *ℤ squareOf (differenceOf w p) -ℤ dotOf (centreOf p q r s) (differenceOf w p) ≡ pos 0 → distanceOf p q r s w ≡ distanceOf p q r s p
+  at-corner : (w : GridPoint) → orientOf p q r s *ℤ squareOf (differenceOf w p) -ℤ dotOf (centreOf p q r s) (differenceOf w p) ≡ pos 0 →
+      distanceOf p q r s w ≡ distanceOf p q r s p
   unfolding distanceOf
   at-corner w h =
       let o = orientOf p q r s in
@@ -102,7 +105,8 @@ module _ (p q r s : GridPoint) where
 -- a point, c / k as seen from the first corner, as far from a corner u as from the first
 pub equidistant : (k : ℤ) (u c : Vector) → (k ≡ pos 0 → ⊥) → squareOf (minus (scaledBy k u) c) ≡ squareOf c → k *ℤ squareOf u ≡ pos 2 *ℤ dotOf c u
 equidistant k u c h e =
-    sub-zero _ _ (no-divisor k (k *ℤ squareOf u -ℤ pos 2 *ℤ dotOf c u) h (ring values doubledE (dotE byE byE :- dotE (vec 4) (vec 4)) tt ∙ sub-self (squareOf (minus (scaledBy k u) c)) (squareOf c) e))
+    sub-zero _ _ (no-divisor k (k *ℤ squareOf u -ℤ pos 2 *ℤ dotOf c u) h
+    (ring values doubledE (dotE byE byE :- dotE (vec 4) (vec 4)) tt ∙ sub-self (squareOf (minus (scaledBy k u) c)) (squareOf c) e))
   where
     values : List ℤ
     values = k ∷ u .x ∷ u .y ∷ u .z ∷ c .x ∷ c .y ∷ c .z ∷ []

@@ -32,13 +32,21 @@ module _ (u v t : Vector) where
   centre-swap-uv =
       let a = centreE (vec 3) (vec 0) (vec 6) in
       let b = oppositeE (centreE (vec 0) (vec 3) (vec 6)) in
-      λ i. record { x = ring (ofVectors u v t) (a .X) (b .X) tt i; y = ring (ofVectors u v t) (a .Y) (b .Y) tt i; z = ring (ofVectors u v t) (a .Z) (b .Z) tt i }
+      λ i. record {
+        x = ring (ofVectors u v t) (a .X) (b .X) tt i;
+        y = ring (ofVectors u v t) (a .Y) (b .Y) tt i;
+        z = ring (ofVectors u v t) (a .Z) (b .Z) tt i;
+      }
 
   centre-swap-vt : centre u t v ≡ opposite (centre u v t)
   centre-swap-vt =
       let a = centreE (vec 0) (vec 6) (vec 3) in
       let b = oppositeE (centreE (vec 0) (vec 3) (vec 6)) in
-      λ i. record { x = ring (ofVectors u v t) (a .X) (b .X) tt i; y = ring (ofVectors u v t) (a .Y) (b .Y) tt i; z = ring (ofVectors u v t) (a .Z) (b .Z) tt i }
+      λ i. record {
+        x = ring (ofVectors u v t) (a .X) (b .X) tt i;
+        y = ring (ofVectors u v t) (a .Y) (b .Y) tt i;
+        z = ring (ofVectors u v t) (a .Z) (b .Z) tt i;
+      }
 
 module _ (p q r s : GridPoint) where
   pub orient-swap-qr : orientOf p r q s ≡ pos 0 -ℤ orientOf p q r s
@@ -52,13 +60,15 @@ module _ (p q r s : GridPoint) where
   pub distance-swap-qr : (w : GridPoint) → distanceOf p r q s w ≡ distanceOf p q r s w
   unfolding distanceOf centreOf
   distance-swap-qr w =
-      (λ i. squareOf (minus (scaledBy (pos 2 *ℤ orient-swap-qr i) (differenceOf w p)) (centre-swap-uv (differenceOf q p) (differenceOf r p) (differenceOf s p) i)))
+      (λ i. squareOf (minus (scaledBy (pos 2 *ℤ orient-swap-qr i) (differenceOf w p))
+      (centre-swap-uv (differenceOf q p) (differenceOf r p) (differenceOf s p) i)))
       ∙ distance-opposite (orientOf p q r s) (centreOf p q r s) (differenceOf w p)
 
   pub distance-swap-rs : (w : GridPoint) → distanceOf p q s r w ≡ distanceOf p q r s w
   unfolding distanceOf centreOf
   distance-swap-rs w =
-      (λ i. squareOf (minus (scaledBy (pos 2 *ℤ orient-swap-rs i) (differenceOf w p)) (centre-swap-vt (differenceOf q p) (differenceOf r p) (differenceOf s p) i)))
+      (λ i. squareOf (minus (scaledBy (pos 2 *ℤ orient-swap-rs i) (differenceOf w p))
+      (centre-swap-vt (differenceOf q p) (differenceOf r p) (differenceOf s p) i)))
       ∙ distance-opposite (orientOf p q r s) (centreOf p q r s) (differenceOf w p)
 
   -- the first two corners
@@ -80,8 +90,13 @@ module _ (p q r s : GridPoint) where
   unfolding centreOf orientOf
   centre-swap-pq =
       let a = centreAtE (vec 3) (vec 0) (vec 6) (vec 9) in
-      let b = plusE (oppositeE (centreAtE (vec 0) (vec 3) (vec 6) (vec 9))) (scaledE (con (pos 2) :* orientAtE (vec 0) (vec 3) (vec 6) (vec 9)) (minusE (vec 3) (vec 0))) in
-      λ i. record { x = ring (ofPoints p q r s) (a .X) (b .X) tt i; y = ring (ofPoints p q r s) (a .Y) (b .Y) tt i; z = ring (ofPoints p q r s) (a .Z) (b .Z) tt i }
+      let b = plusE (oppositeE (centreAtE (vec 0) (vec 3) (vec 6) (vec 9)))
+      (scaledE (con (pos 2) :* orientAtE (vec 0) (vec 3) (vec 6) (vec 9)) (minusE (vec 3) (vec 0))) in
+      λ i. record {
+        x = ring (ofPoints p q r s) (a .X) (b .X) tt i;
+        y = ring (ofPoints p q r s) (a .Y) (b .Y) tt i;
+        z = ring (ofPoints p q r s) (a .Z) (b .Z) tt i;
+      }
 
 distance-shift : (o : ℤ) (c : Vector) (p q w : GridPoint) →
     squareOf (minus (scaledBy (pos 2 *ℤ (pos 0 -ℤ o)) (differenceOf w q)) (plus (opposite c) (scaledBy (pos 2 *ℤ o) (differenceOf q p))))
@@ -108,8 +123,12 @@ module _ (p q r s : GridPoint) where
 
   pub position-swap-qr : (w : GridPoint) → positionOf p r q s w ≡ positionOf p q r s w
   unfolding positionOf
-  position-swap-qr w = λ i. cond (ltZ (distance-swap-qr p q r s w i) (distance-swap-qr p q r s p i)) Inside (cond (equal (distance-swap-qr p q r s w i) (distance-swap-qr p q r s p i)) On Outside)
+  position-swap-qr w =
+      λ i. cond (ltZ (distance-swap-qr p q r s w i) (distance-swap-qr p q r s p i)) Inside
+      (cond (equal (distance-swap-qr p q r s w i) (distance-swap-qr p q r s p i)) On Outside)
 
   pub position-swap-rs : (w : GridPoint) → positionOf p q s r w ≡ positionOf p q r s w
   unfolding positionOf
-  position-swap-rs w = λ i. cond (ltZ (distance-swap-rs p q r s w i) (distance-swap-rs p q r s p i)) Inside (cond (equal (distance-swap-rs p q r s w i) (distance-swap-rs p q r s p i)) On Outside)
+  position-swap-rs w =
+      λ i. cond (ltZ (distance-swap-rs p q r s w i) (distance-swap-rs p q r s p i)) Inside
+      (cond (equal (distance-swap-rs p q r s w i) (distance-swap-rs p q r s p i)) On Outside)

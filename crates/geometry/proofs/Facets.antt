@@ -40,7 +40,8 @@ module _ (n k s w t : Vector) (l m o : ℤ) where
   three-powers =
       ring values
       (dotE (vec 0) (vec 6) :* powerE (vec 12) (var 17) (vec 9) (var 16))
-      (dotE (vec 0) (vec 12) :* powerE (vec 6) (var 15) (vec 9) (var 16) :+ dotE (vec 0) (vec 9) :* powerE (vec 12) (var 17) (vec 6) (var 15) :- dotE (vec 0) (vec 3) :* orientE (vec 6) (vec 12) (vec 9)) tt
+      (dotE (vec 0) (vec 12) :* powerE (vec 6) (var 15) (vec 9) (var 16) :+ dotE (vec 0) (vec 9) :* powerE (vec 12) (var 17) (vec 6) (var 15)
+      :- dotE (vec 0) (vec 3) :* orientE (vec 6) (vec 12) (vec 9)) tt
 
 -- ---- the pencil of a triangle
 
@@ -50,7 +51,9 @@ module _ (u v : Vector) where
 
   -- it lies in the plane of u and v
   right-angle : dotOf (crossOf u v) weighted ≡ pos 0
-  right-angle = ring (ofVectors u v v) (dotE (crossE (vec 0) (vec 3)) (minusE (scaledE (dotE (vec 0) (vec 0)) (vec 3)) (scaledE (dotE (vec 3) (vec 3)) (vec 0)))) (con (pos 0)) tt
+  right-angle =
+      ring (ofVectors u v v)
+      (dotE (crossE (vec 0) (vec 3)) (minusE (scaledE (dotE (vec 0) (vec 0)) (vec 3)) (scaledE (dotE (vec 3) (vec 3)) (vec 0)))) (con (pos 0)) tt
 
 module _ (p q r : GridPoint) where
   -- orientation times power: negative strictly inside
@@ -68,9 +71,12 @@ module _ (p q r : GridPoint) where
   unfolding orientOf
   orient-is s = triple-product (differenceOf q p) (differenceOf r p) (differenceOf s p)
 
-  power-is : (s w : GridPoint) → power (crossOf (differenceOf q p) (differenceOf r p)) (weighted (differenceOf q p) (differenceOf r p)) (differenceOf s p) (squareOf (differenceOf s p)) (differenceOf w p) (squareOf (differenceOf w p)) ≡ powerAt s w
+  power-is : (s w : GridPoint) → power (crossOf (differenceOf q p) (differenceOf r p)) (weighted (differenceOf q p) (differenceOf r p))
+      (differenceOf s p) (squareOf (differenceOf s p)) (differenceOf w p) (squareOf (differenceOf w p)) ≡ powerAt s w
   unfolding centreOf
-  power-is s w = λ i. orient-is s i *ℤ squareOf (differenceOf w p) -ℤ dotOf (pencil-centre (differenceOf q p) (differenceOf r p) (differenceOf s p) i) (differenceOf w p)
+  power-is s w =
+      λ i. orient-is s i *ℤ squareOf (differenceOf w p)
+      -ℤ dotOf (pencil-centre (differenceOf q p) (differenceOf r p) (differenceOf s p) i) (differenceOf w p)
 
   -- the law of three spheres of one pencil
   pencil-powers : (s w t : GridPoint) → orientOf p q r s *ℤ powerAt t w ≡ orientOf p q r t *ℤ powerAt s w +ℤ orientOf p q r w *ℤ powerAt t s
@@ -119,10 +125,16 @@ module _ (p q r s w : GridPoint) where
       go false true = refl
       go false false = refl
 
-  pub refuted-is : refutedBy (pencilOf (liftOf p q) (liftOf p r)) (liftOf p s) (liftOf p w) ≡ true → (separates p q r s w ≡ true) × (strictlyInside p q r s w ≡ true)
-  refuted-is e = go (separates p q r s w) refl (sym (ap (λ (t : Bool). cond t (isInside (positionBy (sphereOf (pencilOf (liftOf p q) (liftOf p r)) (liftOf p s)) (liftOf p w))) false) separates-is) ∙ e)
+  pub refuted-is : refutedBy (pencilOf (liftOf p q) (liftOf p r)) (liftOf p s) (liftOf p w) ≡ true →
+      (separates p q r s w ≡ true) × (strictlyInside p q r s w ≡ true)
+  refuted-is e =
+      go (separates p q r s w) refl
+      (sym (ap (λ (t : Bool). cond t (isInside (positionBy (sphereOf (pencilOf (liftOf p q) (liftOf p r)) (liftOf p s)) (liftOf p w))) false)
+      separates-is) ∙ e)
     where
-      go : (t : Bool) → separates p q r s w ≡ t → cond t (isInside (positionBy (sphereOf (pencilOf (liftOf p q) (liftOf p r)) (liftOf p s)) (liftOf p w))) false ≡ true → (separates p q r s w ≡ true) × (strictlyInside p q r s w ≡ true)
+      go : (t : Bool) → separates p q r s w ≡ t →
+          cond t (isInside (positionBy (sphereOf (pencilOf (liftOf p q) (liftOf p r)) (liftOf p s)) (liftOf p w))) false ≡ true →
+          (separates p q r s w ≡ true) × (strictlyInside p q r s w ≡ true)
       go true h e = (h, sym told-inside ∙ sym (ap isInside (position-is p q r s w (separates-solid h))) ∙ e)
       go false h e = true≢false (sym e)
 

@@ -16,7 +16,11 @@ pub coordinate : {c : ℤ} → OnGrid c → AtMost 1000 c
 coordinate h = record { size = h .size }
 
 pub within-difference : {p q : GridPoint} → PointOnGrid p → PointOnGrid q → Within maxDifference (differenceOf p q)
-within-difference h k = record { in-x = at-most-sub (coordinate (h .x)) (coordinate (k .x)); in-y = at-most-sub (coordinate (h .y)) (coordinate (k .y)); in-z = at-most-sub (coordinate (h .z)) (coordinate (k .z)) }
+within-difference h k = record {
+  in-x = at-most-sub (coordinate (h .x)) (coordinate (k .x));
+  in-y = at-most-sub (coordinate (h .y)) (coordinate (k .y));
+  in-z = at-most-sub (coordinate (h .z)) (coordinate (k .z));
+}
 
 module _ {m n : ℕ} {u v : Vector} (h : Within m u) (k : Within n v) where
   pub within-plus : Within (m + n) (plus u v)

@@ -14,11 +14,15 @@ use Rattle.grid.proofs.HalfStep.{in-range-on-grid}
 -- the three answers
 pub value-is : (v : Float) → finite v ≡ true → inRange v ≡ true → gridNumberOf v ≡ Value (roundEighths v)
 unfolding gridNumberOf
-value-is v f r = ap (λ (t : Bool). cond t (cond (inRange v) (Value (roundEighths v)) OutOfRange) NotFinite) f ∙ ap (λ (t : Bool). cond t (Value (roundEighths v)) OutOfRange) r
+value-is v f r =
+    ap (λ (t : Bool). cond t (cond (inRange v) (Value (roundEighths v)) OutOfRange) NotFinite) f
+    ∙ ap (λ (t : Bool). cond t (Value (roundEighths v)) OutOfRange) r
 
 pub out-of-range-is : (v : Float) → finite v ≡ true → inRange v ≡ false → gridNumberOf v ≡ OutOfRange
 unfolding gridNumberOf
-out-of-range-is v f r = ap (λ (t : Bool). cond t (cond (inRange v) (Value (roundEighths v)) OutOfRange) NotFinite) f ∙ ap (λ (t : Bool). cond t (Value (roundEighths v)) OutOfRange) r
+out-of-range-is v f r =
+    ap (λ (t : Bool). cond t (cond (inRange v) (Value (roundEighths v)) OutOfRange) NotFinite) f
+    ∙ ap (λ (t : Bool). cond t (Value (roundEighths v)) OutOfRange) r
 
 pub not-finite-is : (v : Float) → finite v ≡ false → gridNumberOf v ≡ NotFinite
 unfolding gridNumberOf

@@ -56,7 +56,8 @@ pub apart : (x y : ℕ) → (x + natAbs (pos x -ℤ pos y) ≡ y) ⊎ (y + natAb
 apart x zero = inr (omega arith)
 apart x (suc y) = by (ltb x (suc y)) (ltb-true x (suc y)) (ltb-false x (suc y))
   where
-    by : (t : Bool) → (t ≡ true → x < suc y) → (t ≡ false → suc y ≤ x) → let d = natAbs (cond t (negsuc (suc y - suc x)) (pos (x - suc y))) in (x + d ≡ suc y) ⊎ (suc y + d ≡ x)
+    by : (t : Bool) → (t ≡ true → x < suc y) → (t ≡ false → suc y ≤ x) →
+        let d = natAbs (cond t (negsuc (suc y - suc x)) (pos (x - suc y))) in (x + d ≡ suc y) ⊎ (suc y + d ≡ x)
     by true h k = let l = h refl in inl (omega arith)
     by false h k = let l = k refl in inr (omega arith)
 
@@ -146,7 +147,10 @@ in-range-on-grid v h =
     let a = numerator v in
     let b = denominator v in
     let r : a ≤ 1000 * b = leb-true a (1000 * b) h in
-    record { size = le-trans (le-of-eq (natAbs-signed (negative v) (nearestEven a b))) (nearest-mono a b 1000 1 (denominator-pos v) (zero-lt-suc 0) (le-trans (le-of-eq (mul-one a)) r)) }
+    record {
+      size = le-trans (le-of-eq (natAbs-signed (negative v) (nearestEven a b)))
+          (nearest-mono a b 1000 1 (denominator-pos v) (zero-lt-suc 0) (le-trans (le-of-eq (mul-one a)) r));
+    }
 
 -- rule 1.10: that of minus zero is 0
 pub minus-zero : gridNumberOf (fin true 0 (pos 0)) ≡ Value (pos 0)

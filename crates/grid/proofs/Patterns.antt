@@ -2,7 +2,8 @@
 use mathlib.Core.Path.{_≡_, refl, sym, ap, _∙_, subst}
 use mathlib.Core.Logic.{inl, inr}
 use Prim.Native.Nat.{ℕ, zero, suc, _+_, _*_, _/_, _%_, _^_, _≤_, _<_}
-use native.Mathlib.Nat.{le-of-lt, le-trans, le-of-eq, lt-of-lt-of-le, lt-of-le-of-lt, lt-of-not-le, eq-or-lt-of-le, mul-one, mul-assoc, mul-le-mul-left, mul-le-mul-right, mul-lt-mul-of-pos-right, pow-succ'}
+use native.Mathlib.Nat.{le-of-lt, le-trans, le-of-eq, lt-of-lt-of-le, lt-of-le-of-lt, lt-of-not-le, eq-or-lt-of-le}
+use native.Mathlib.Nat.{mul-one, mul-assoc, mul-le-mul-left, mul-le-mul-right, mul-lt-mul-of-pos-right, pow-succ'}
 use native.Mathlib.Omega.{arith}
 use mathlib.Core.Bool.{Bool, true, false, cond}
 use lib.Dec.{T, leb, eqb}
@@ -56,7 +57,9 @@ digits-order a b h e = omega arith
 pub units-lt : (a b : ℕ) → a < b → units a < units b
 units-lt a b h =
     elim (eq-or-lt-of-le (fields-le a b h)) [
-      | inl e ↦ subst (λ (x : ℕ). units a < significand x (b % 8388608) * 2 ^ exponent x) e (mul-lt-mul-of-pos-right (significand-mono (a / 8388608) (a % 8388608) (b % 8388608) (digits-order a b h e)) (pow-pos (exponent (a / 8388608))))
+      | inl e ↦ subst (λ (x : ℕ). units a < significand x (b % 8388608) * 2 ^ exponent x) e
+          (mul-lt-mul-of-pos-right (significand-mono (a / 8388608) (a % 8388608) (b % 8388608) (digits-order a b h e))
+          (pow-pos (exponent (a / 8388608))))
       | inr l ↦ bigger (a / 8388608) (a % 8388608) (b / 8388608) (b % 8388608) (digits-lt a) l
     ]
 

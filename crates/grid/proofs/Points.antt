@@ -73,5 +73,6 @@ past-x p h k = sym (ap (λ (t : Bool). both t (both (coordinateOnGrid (p .y)) (c
 pub out-by-y : (p : GridPoint) {r s : Bool} → r ≡ coordinateOnGrid (p .x) → r ≡ true → s ≡ coordinateOnGrid (p .y) → s ≡ false → false ≡ pointOnGrid p
 out-by-y p h k l m = sym (ap (λ (t : Bool). both t (coordinateOnGrid (p .z))) (sym l ∙ m)) ∙ past-x p h k
 
-pub by-z : (p : GridPoint) {r s q : Bool} → r ≡ coordinateOnGrid (p .x) → r ≡ true → s ≡ coordinateOnGrid (p .y) → s ≡ true → q ≡ coordinateOnGrid (p .z) → q ≡ pointOnGrid p
+pub by-z : (p : GridPoint) {r s q : Bool} → r ≡ coordinateOnGrid (p .x) → r ≡ true → s ≡ coordinateOnGrid (p .y) →
+    s ≡ true → q ≡ coordinateOnGrid (p .z) → q ≡ pointOnGrid p
 by-z p h k l m n = n ∙ sym (ap (λ (t : Bool). both t (coordinateOnGrid (p .z))) (sym l ∙ m)) ∙ past-x p h k

@@ -1,7 +1,8 @@
 -- The product of a finite f32 by 8.0: exact, or an infinity; and the range and the grid number from its pattern. Assumes nothing.
 use mathlib.Core.Path.{_≡_, refl, sym, ap, _∙_, subst}
 use Prim.Native.Nat.{ℕ, zero, suc, _+_, _-_, _*_, _/_, _%_, _^_, _≤_, _<_, compare}
-use native.Mathlib.Nat.{le-of-lt, le-trans, le-of-eq, lt-of-le-of-lt, lt-of-lt-of-le, mul-one, mul-comm, mul-assoc, mul-right-comm, mul-le-mul-left, mul-le-mul-right, mul-lt-mul-of-pos-left, mul-pos, zero-lt-suc, le-div-iff-mul-le, div-le-of-le-mul, mul-div-cancel}
+use native.Mathlib.Nat.{le-of-lt, le-trans, le-of-eq, lt-of-le-of-lt, lt-of-lt-of-le, mul-one, mul-comm, mul-assoc, mul-right-comm, mul-le-mul-left}
+use native.Mathlib.Nat.{mul-le-mul-right, mul-lt-mul-of-pos-left, mul-pos, zero-lt-suc, le-div-iff-mul-le, div-le-of-le-mul, mul-div-cancel}
 use native.Mathlib.Omega.{arith}
 use mathlib.Core.Bool.{Bool, true, false, not, cond}
 use borrow.Author.Tests.{le-leb, lt-leb, le-ltb, ltb-true, ltb-false}
@@ -61,7 +62,8 @@ core-over s p k K h =
     let whole : 2 ^ (277 - k) * 2 ^ k ≡ 2 ^ 277 = sym (pow-add 2 (277 - k) k) ∙ ap (λ (j : ℕ). 2 ^ j) (back 277 k K) in
     let most : 2 ^ (277 - k) ≤ q =
     le-div-iff-mul-le (mul-pos (pow-pos 149) (pow-pos k)) .1
-    (le-trans (le-of-eq (ap (λ (n : ℕ). 2 ^ (277 - k) * n) (mul-comm (2 ^ 149) (2 ^ k)) ∙ sym (mul-assoc (2 ^ (277 - k)) (2 ^ k) (2 ^ 149)) ∙ ap (λ (n : ℕ). n * 2 ^ 149) whole)) (mul-le-mul-right (2 ^ 149) h)) in
+    (le-trans (le-of-eq (ap (λ (n : ℕ). 2 ^ (277 - k) * n) (mul-comm (2 ^ 149) (2 ^ k)) ∙ sym (mul-assoc (2 ^ (277 - k)) (2 ^ k) (2 ^ 149))
+    ∙ ap (λ (n : ℕ). n * 2 ^ 149) whole)) (mul-le-mul-right (2 ^ 149) h)) in
     let o = compare (p * 2 ^ 149 % u * 2) u in
     units-over s (nearest q o) k (le-trans (le-of-eq (sym whole)) (mul-le-mul-right (2 ^ k) (le-trans most (nearest-ge q o))))
 
@@ -101,7 +103,8 @@ mul-no-nan (fin u m e) (fin v n d) s t a b h k =
     let j = size (num / den) - 24 in
     units-no-nan (unlike u v) (nearest (num / (den * 2 ^ j)) (compare (num % (den * 2 ^ j) * 2) (den * 2 ^ j))) j
 
-pub product-no-nan : (x : Float) (k : ℕ) → T (fits binary32 x) → toBits binary32 x % 2147483648 < 2139095040 → k % 2147483648 < 2139095040 → T (not (isNan (mul binary32 x (ofBits binary32 k))))
+pub product-no-nan : (x : Float) (k : ℕ) → T (fits binary32 x) → toBits binary32 x % 2147483648 < 2139095040 → k % 2147483648 < 2139095040 →
+    T (not (isNan (mul binary32 x (ofBits binary32 k))))
 product-no-nan x k f h l =
     let b = toBits binary32 x in
     mul-no-nan x (ofBits binary32 k) (leb 2147483648 b) (leb 2147483648 k) (units (b % 2147483648)) (units (k % 2147483648)) (own-bits x f h) (bits-value k l)
@@ -158,7 +161,8 @@ module _ (x : Float) (f : T (fits binary32 x)) (finite : toBits binary32 x % 214
   pub too-far : 1148846080 < c → OutOfRange ≡ gridNumberOf x
   too-far r =
       sym (grid-value x s (units a) (2 ^ 149) (pow-pos 149) held
-      ∙ ap (λ (t : Bool). cond t (Value (signed s (nearestEven (8 * units a) (2 ^ 149)))) OutOfRange) (lt-leb (8 * units a) (1000 * 2 ^ 149) (by (ltb a 2113929216) (ltb-true a 2113929216) (ltb-false a 2113929216))))
+      ∙ ap (λ (t : Bool). cond t (Value (signed s (nearestEven (8 * units a) (2 ^ 149)))) OutOfRange)
+      (lt-leb (8 * units a) (1000 * 2 ^ 149) (by (ltb a 2113929216) (ltb-true a 2113929216) (ltb-false a 2113929216))))
     where
       by : (t : Bool) → (t ≡ true → a < 2113929216) → (t ≡ false → 2113929216 ≤ a) → 1000 * 2 ^ 149 < 8 * units a
       by true h k = lt-of-lt-of-le (units-lt 1148846080 c r) (le-of-eq (product-same (h refl) .1))

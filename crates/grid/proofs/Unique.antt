@@ -25,7 +25,8 @@ module _ (a b : ℕ) (B : 0 < b) where
     even : 2 * far n ≡ b → n % 2 ≡ 0
 
   -- numbers n and m = n + 1 + k at most half a step away: k is 0, and both are exactly half a step away
-  neighbours : (nb kb mb d e : ℕ) → mb ≡ nb + (b + kb) → 2 * d ≤ b → 2 * e ≤ b → (nb + d ≡ a) ⊎ (a + d ≡ nb) → (mb + e ≡ a) ⊎ (a + e ≡ mb) → (kb ≡ 0) × (2 * d ≡ b) × (2 * e ≡ b)
+  neighbours : (nb kb mb d e : ℕ) → mb ≡ nb + (b + kb) → 2 * d ≤ b → 2 * e ≤ b → (nb + d ≡ a) ⊎ (a + d ≡ nb) → (mb + e ≡ a) ⊎ (a + e ≡ mb) →
+      (kb ≡ 0) × (2 * d ≡ b) × (2 * e ≡ b)
   neighbours nb kb mb d e m p q (inl u) (inl v) = absurd (omega arith)
   neighbours nb kb mb d e m p q (inl u) (inr v) = (omega arith, omega arith, omega arith)
   neighbours nb kb mb d e m p q (inr u) (inl v) = absurd (omega arith)
@@ -33,7 +34,8 @@ module _ (a b : ℕ) (B : 0 < b) where
 
   no-later : (n k : ℕ) → Allowed n → Allowed (n + suc k) → ⊥
   no-later n k p q =
-      let t = neighbours (n * b) (k * b) ((n + suc k) * b) (far n) (far (n + suc k)) (add-mul n (suc k) b ∙ ap (λ (x : ℕ). n * b + x) (suc-mul k b ∙ add-comm (k * b) b))
+      let t = neighbours (n * b) (k * b) ((n + suc k) * b) (far n) (far (n + suc k))
+      (add-mul n (suc k) b ∙ ap (λ (x : ℕ). n * b + x) (suc-mul k b ∙ add-comm (k * b) b))
       (p .near) (q .near) (apart (n * b) a) (apart ((n + suc k) * b) a) in
       by k (t .0) (p .even (t .1)) (q .even (t .2))
     where
@@ -104,5 +106,6 @@ module _ (v : Float) where
       by : Truth (ltb (2 * distance h v) b) → distance (roundEighths v) v ≤ distance h v
       by (holds l) =
           let k = ltb-true (2 * distance h v) b l in
-          le-of-eq (ap (λ (z : ℤ). distance z v) (sym (only-number f h (record { near = omega (arith, k) }) (record { even = λ t. absurd (omega (arith, k, t)) }))))
+          le-of-eq (ap (λ (z : ℤ). distance z v)
+          (sym (only-number f h (record { near = omega (arith, k) }) (record { even = λ t. absurd (omega (arith, k, t)) }))))
       by (fails l) = let k = ltb-false (2 * distance h v) b l in let s = half-step v f .near in omega (arith, k, s)

@@ -32,7 +32,9 @@ differ x h e = omega arith
 fields-odd : (s : Bool) (e t : ℕ) → e < 255 → ofFields binary32 s e t ≡ odd 24 s (significand e t) (exponent e) 149
 unfolding ofFields
 fields-odd s zero t h = refl
-fields-odd s (suc e) t h = cond-no (eqb (suc e) 255) (cond (eqb t 0) (inf s) nan) (odd 24 s (8388608 + t) e 149) (not-T (eqb (suc e) 255) (λ (u : T (eqb (suc e) 255)). differ e h (eqb→eq (suc e) 255 u)))
+fields-odd s (suc e) t h =
+    cond-no (eqb (suc e) 255) (cond (eqb t 0) (inf s) nan) (odd 24 s (8388608 + t) e 149)
+    (not-T (eqb (suc e) 255) (λ (u : T (eqb (suc e) 255)). differ e h (eqb→eq (suc e) 255 u)))
 
 digits-same : (b : ℕ) → b % 2147483648 % 8388608 ≡ b % 8388608
 digits-same b = omega arith
@@ -44,7 +46,8 @@ pub bits-value : (b : ℕ) → b % 2147483648 < 2139095040 → HasValue (ofBits 
 bits-value b h =
     let a = b % 2147483648 in
     subst (λ (x : Float). HasValue x (leb 2147483648 b) (units a) (2 ^ 149))
-    (sym (ofBits-is b ∙ ap (λ (t : ℕ). ofFields binary32 (leb 2147483648 b) (a / 8388608) t) (sym (digits-same b)) ∙ fields-odd (leb 2147483648 b) (a / 8388608) (a % 8388608) (field-in a h)))
+    (sym (ofBits-is b ∙ ap (λ (t : ℕ). ofFields binary32 (leb 2147483648 b) (a / 8388608) t) (sym (digits-same b))
+    ∙ fields-odd (leb 2147483648 b) (a / 8388608) (a % 8388608) (field-in a h)))
     (odd-sign 24 (leb 2147483648 b) (significand (a / 8388608) (a % 8388608)) (exponent (a / 8388608)) 149)
 
 -- ---- one value has one sign and one number of units

@@ -29,7 +29,9 @@ negation-cast z h l = subst Unsigned (sym (toZ-ofZ (negation-fits z h l))) (nega
 
 -- from zero on
 pub cast-fits : (n : ℤ) → mag n < 2 ^ 63 → ltZ (toZ w64 (ofZ w64 n)) (pos 0) ≡ false → Unsigned (toZ w64 (ofZ w64 n))
-cast-fits n f h = let e = sym (toZ-ofZ {w = w64} {z = n} (record { sfits = f })) in subst Unsigned e (by n f (subst (λ (z : ℤ). ltZ z (pos 0) ≡ false) (sym e) h))
+cast-fits n f h =
+    let e = sym (toZ-ofZ {w = w64} {z = n} (record { sfits = f })) in
+    subst Unsigned e (by n f (subst (λ (z : ℤ). ltZ z (pos 0) ≡ false) (sym e) h))
   where
     by : (n : ℤ) → mag n < 2 ^ 63 → ltZ n (pos 0) ≡ false → Unsigned n
     by (pos n) f h = (tt, record { fits = omega arith })

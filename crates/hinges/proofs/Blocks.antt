@@ -19,15 +19,21 @@ use Rattle.hinges.specs.Hinges.{innersOn, innersAt, endingIn, Sorted}
 module _ (t u : List ℕ) where
   pub hangs-other : (vertexA t ≡ vertexA u → ⊥) → (vertexA t ≡ vertexB u → ⊥) → hangs t u ≡ false
   unfolding hangs
-  hangs-other h k = (λ i. either (both (ne-eqb (vertexA t) (vertexA u) h i) (eqb (vertexC t) (vertexB u))) (both (ne-eqb (vertexA t) (vertexB u) k i) (eqb (vertexC t) (vertexC u))))
+  hangs-other h k =
+      (λ i. either (both (ne-eqb (vertexA t) (vertexA u) h i) (eqb (vertexC t) (vertexB u)))
+      (both (ne-eqb (vertexA t) (vertexB u) k i) (eqb (vertexC t) (vertexC u))))
 
   pub hangs-first : vertexA t ≡ vertexA u → (vertexA t ≡ vertexB u → ⊥) → hangs t u ≡ eqb (vertexC t) (vertexB u)
   unfolding hangs
-  hangs-first h k = (λ i. either (both (eq-eqb (vertexA t) (vertexA u) h i) (eqb (vertexC t) (vertexB u))) (both (ne-eqb (vertexA t) (vertexB u) k i) (eqb (vertexC t) (vertexC u)))) ∙ either-no (eqb (vertexC t) (vertexB u))
+  hangs-first h k =
+      (λ i. either (both (eq-eqb (vertexA t) (vertexA u) h i) (eqb (vertexC t) (vertexB u)))
+      (both (ne-eqb (vertexA t) (vertexB u) k i) (eqb (vertexC t) (vertexC u)))) ∙ either-no (eqb (vertexC t) (vertexB u))
 
   pub hangs-second : (vertexA t ≡ vertexA u → ⊥) → vertexA t ≡ vertexB u → hangs t u ≡ eqb (vertexC t) (vertexC u)
   unfolding hangs
-  hangs-second h k = (λ i. either (both (ne-eqb (vertexA t) (vertexA u) h i) (eqb (vertexC t) (vertexB u))) (both (eq-eqb (vertexA t) (vertexB u) k i) (eqb (vertexC t) (vertexC u))))
+  hangs-second h k =
+      (λ i. either (both (ne-eqb (vertexA t) (vertexA u) h i) (eqb (vertexC t) (vertexB u)))
+      (both (eq-eqb (vertexA t) (vertexB u) k i) (eqb (vertexC t) (vertexC u))))
 
 module _ (cs : List (List ℕ)) (o la ha lb hb : ℕ)
     (h : vertexA (entryAt cs o) < vertexB (entryAt cs o))
@@ -36,7 +42,8 @@ module _ (cs : List (List ℕ)) (o la ha lb hb : ℕ)
   abbrev pub found : ℕ → List ℕ
   found i = when (hangs (entryAt cs i) (entryAt cs o)) i
 
-  outside : (i : ℕ) → i < length cs → (vertexA (entryAt cs i) ≡ vertexA (entryAt cs o) → ⊥) → (vertexA (entryAt cs i) ≡ vertexB (entryAt cs o) → ⊥) → found i ≡ []
+  outside : (i : ℕ) → i < length cs → (vertexA (entryAt cs i) ≡ vertexA (entryAt cs o) → ⊥) →
+      (vertexA (entryAt cs i) ≡ vertexB (entryAt cs o) → ⊥) → found i ≡ []
   outside i l p q = ap (λ (b : Bool). when b i) (hangs-other (entryAt cs i) (entryAt cs o) p q)
 
   -- the candidates that hang on o
@@ -49,11 +56,18 @@ module _ (cs : List (List ℕ)) (o la ha lb hb : ℕ)
       let o2 : ha ≤ lb = start-order cs ea sb (omega arith) in
       let o3 : lb ≤ hb = start-order cs sb eb (omega arith) in
       let o4 : hb ≤ n = eb .within in
-      let before : over 0 la found ≡ [] = over-empty found 0 la (λ i l m. let u = sa .below i m in outside i (omega arith) (λ e. omega (arith, u)) (λ e. omega (arith, u))) in
-      let between : over ha lb found ≡ [] = over-empty found ha lb (λ i l m. let u = ea .above i l (omega arith) in let v = sb .below i m in outside i (omega arith) (λ e. omega (arith, u)) (λ e. omega (arith, v))) in
-      let after : over hb n found ≡ [] = over-empty found hb n (λ i l m. let u = eb .above i l m in outside i m (λ e. omega (arith, u)) (λ e. omega (arith, u))) in
-      let first : over la ha found ≡ endingIn cs la ha b = over-same la ha found _ (λ i l m. let u = sa .above i l (omega arith) in let v = ea .below i m in ap (λ (t : Bool). when t i) (hangs-first (entryAt cs i) (entryAt cs o) (omega (arith, u, v)) (λ e. omega (arith, v)))) in
-      let second : over lb hb found ≡ endingIn cs lb hb (vertexC (entryAt cs o)) = over-same lb hb found _ (λ i l m. let u = sb .above i l (omega arith) in let v = eb .below i m in ap (λ (t : Bool). when t i) (hangs-second (entryAt cs i) (entryAt cs o) (λ e. omega (arith, u)) (omega (arith, u, v)))) in
+      let before : over 0 la found ≡ [] =
+      over-empty found 0 la (λ i l m. let u = sa .below i m in outside i (omega arith) (λ e. omega (arith, u)) (λ e. omega (arith, u))) in
+      let between : over ha lb found ≡ [] = over-empty found ha lb (λ i l m. let u = ea .above i l (omega arith) in
+      let v = sb .below i m in outside i (omega arith) (λ e. omega (arith, u)) (λ e. omega (arith, v))) in
+      let after : over hb n found ≡ [] =
+      over-empty found hb n (λ i l m. let u = eb .above i l m in outside i m (λ e. omega (arith, u)) (λ e. omega (arith, u))) in
+      let first : over la ha found ≡ endingIn cs la ha b =
+      over-same la ha found _ (λ i l m. let u = sa .above i l (omega arith) in let v = ea .below i m in
+      ap (λ (t : Bool). when t i) (hangs-first (entryAt cs i) (entryAt cs o) (omega (arith, u, v)) (λ e. omega (arith, v)))) in
+      let second : over lb hb found ≡ endingIn cs lb hb (vertexC (entryAt cs o)) =
+      over-same lb hb found _ (λ i l m. let u = sb .above i l (omega arith) in let v = eb .below i m in
+      ap (λ (t : Bool). when t i) (hangs-second (entryAt cs i) (entryAt cs o) (λ e. omega (arith, u)) (omega (arith, u, v)))) in
       over-split found 0 la n (omega arith) (omega arith)
       ∙ (λ i. before i ++ over la n found)
       ∙ over-split found la ha n o1 (omega arith)
@@ -71,7 +85,9 @@ module _ (cs : List (List ℕ)) (o e lo hi : ℕ) (s : BlockStart cs (getD (entr
   on-edge i = when (sameEdge (vertexA (entryAt cs i)) (vertexC (entryAt cs i)) (getD (entryAt cs o) e 0) (getD (entryAt cs o) (e + 1) 0)) i
 
   other-edge : (i : ℕ) → (vertexA (entryAt cs i) ≡ getD (entryAt cs o) e 0 → ⊥) → on-edge i ≡ []
-  other-edge i h = ap (λ (b : Bool). when (both b (eqb (vertexC (entryAt cs i)) (getD (entryAt cs o) (e + 1) 0))) i) (ne-eqb (vertexA (entryAt cs i)) (getD (entryAt cs o) e 0) h)
+  other-edge i h =
+      ap (λ (b : Bool). when (both b (eqb (vertexC (entryAt cs i)) (getD (entryAt cs o) (e + 1) 0))) i)
+      (ne-eqb (vertexA (entryAt cs i)) (getD (entryAt cs o) e 0) h)
 
   pub edge-block : innersAt cs o e ≡ endingIn cs lo hi (getD (entryAt cs o) (e + 1) 0)
   edge-block =
@@ -79,7 +95,10 @@ module _ (cs : List (List ℕ)) (o e lo hi : ℕ) (s : BlockStart cs (getD (entr
       let order : lo ≤ hi = start-order cs s t (omega arith) in
       let before : over 0 lo on-edge ≡ [] = over-empty on-edge 0 lo (λ i l m. let u = s .below i m in other-edge i (λ z. omega (arith, u))) in
       let after : over hi n on-edge ≡ [] = over-empty on-edge hi n (λ i l m. let u = t .above i l m in other-edge i (λ z. omega (arith, u))) in
-      let inside : over lo hi on-edge ≡ endingIn cs lo hi (getD (entryAt cs o) (e + 1) 0) = over-same lo hi on-edge _ (λ i l m. let u = s .above i l (omega (arith, t .within)) in let v = t .below i m in ap (λ (b : Bool). when (both b (eqb (vertexC (entryAt cs i)) (getD (entryAt cs o) (e + 1) 0))) i) (eq-eqb (vertexA (entryAt cs i)) (getD (entryAt cs o) e 0) (omega (arith, u, v)))) in
+      let inside : over lo hi on-edge ≡ endingIn cs lo hi (getD (entryAt cs o) (e + 1) 0) =
+      over-same lo hi on-edge _ (λ i l m. let u = s .above i l (omega (arith, t .within)) in let v = t .below i m in
+      ap (λ (b : Bool). when (both b (eqb (vertexC (entryAt cs i)) (getD (entryAt cs o) (e + 1) 0))) i)
+      (eq-eqb (vertexA (entryAt cs i)) (getD (entryAt cs o) e 0) (omega (arith, u, v)))) in
       over-split on-edge 0 lo n (omega arith) (s .within)
       ∙ (λ i. before i ++ over lo n on-edge)
       ∙ over-split on-edge lo hi n order (t .within)

@@ -183,7 +183,9 @@ module _ (ρ : List ℤ) where
 
   mulP-is : (p q : Poly) → evalP ρ (mulP p q) ≡ evalP ρ p *ℤ evalP ρ q
   mulP-is nil q = sym (zero-*ℤ (evalP ρ q))
-  mulP-is (mon c m p) q = mulM-is c m q (mulP p q) ∙ ap (λ (x : ℤ). (c *ℤ evalM ρ m) *ℤ evalP ρ q +ℤ x) (mulP-is p q) ∙ sym (distrib-r (c *ℤ evalM ρ m) (evalP ρ p) (evalP ρ q))
+  mulP-is (mon c m p) q =
+      mulM-is c m q (mulP p q) ∙ ap (λ (x : ℤ). (c *ℤ evalM ρ m) *ℤ evalP ρ q +ℤ x) (mulP-is p q)
+      ∙ sym (distrib-r (c *ℤ evalM ρ m) (evalP ρ p) (evalP ρ q))
 
   norm-is : (e : E) → evalP ρ (norm e) ≡ eval ρ e
   norm-is (var i) = +ℤ-idr _ ∙ one-mul _ ∙ mul-one (nth ρ i)

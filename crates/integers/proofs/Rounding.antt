@@ -2,7 +2,8 @@
 use mathlib.Core.Path.{_≡_, refl, sym, _∙_, ap, subst}
 use mathlib.Core.Bool.{Bool, true, false, not, cond}
 use Prim.Native.Nat.{ℕ, zero, suc, _+_, _*_, _-_, _/_, _%_, _^_, _≤_, _<_}
-use native.Mathlib.Nat.{div-mul-le-self, lt-div-mul-add, div-add-mod', div-eq-of-lt-le, mod-lt, div-le-self, mod-le, add-zero, le-trans, le-antisymm, pow-suc, mul-le-mul-left, mul-le-mul-right}
+use native.Mathlib.Nat.{div-mul-le-self, lt-div-mul-add, div-add-mod', div-eq-of-lt-le, mod-lt, div-le-self}
+use native.Mathlib.Nat.{mod-le, add-zero, le-trans, le-antisymm, pow-suc, mul-le-mul-left, mul-le-mul-right}
 use native.Mathlib.Decide.{decLe}
 use native.Mathlib.Omega.{arith}
 use lib.Dec.{T, ltb, leb, lt→ltb, le→leb, leb→le, nleb→lt, lit≤}
@@ -66,7 +67,8 @@ positive-divisor (negsuc b) h = absurd (h .lt)
 
 pub quotient-at-most : (n : ℤ) (b : ℕ) {m : ℕ} → AtMost m n → AtMost m (quotZ n (pos b))
 quotient-at-most (pos a) b h = record { size = le-trans (div-le-self a b) (h .size) }
-quotient-at-most (negsuc a) b {m} h = record { size = subst (λ (x : ℕ). x ≤ m) (sym (natAbs-neg (pos (suc a / b)))) (le-trans (div-le-self (suc a) b) (h .size)) }
+quotient-at-most (negsuc a) b {m} h =
+    record { size = subst (λ (x : ℕ). x ≤ m) (sym (natAbs-neg (pos (suc a / b)))) (le-trans (div-le-self (suc a) b) (h .size)) }
 
 pub remainder-at-most : (n : ℤ) (b : ℕ) {m : ℕ} → AtMost m n → AtMost m (remZ n (pos b))
 remainder-at-most (pos a) b h = record { size = le-trans (mod-le a b) (h .size) }
@@ -107,7 +109,8 @@ floor-div-high (negsuc a) k h = subst (λ (z : ℤ). negsuc a <ℤ (z *ℤ pos k
   where
     one-more : (q : ℕ) → negsuc q +ℤ pos 1 ≡ negℤ (pos q)
     one-more zero = refl
-    one-more (suc q) = ap (λ (b : Bool). cond b (negsuc (suc (suc q) - 2)) (pos (1 - suc (suc q)))) (lt-ltb 1 (suc (suc q)) (omega arith)) ∙ ap negsuc (omega arith)
+    one-more (suc q) =
+        ap (λ (b : Bool). cond b (negsuc (suc (suc q) - 2)) (pos (1 - suc (suc q)))) (lt-ltb 1 (suc (suc q)) (omega arith)) ∙ ap negsuc (omega arith)
 
     at : (q : ℕ) → q * k ≤ a → negsuc a <ℤ (negℤ (pos q) *ℤ pos k)
     at zero l = record { lt = tt }

@@ -12,7 +12,8 @@ use Rattle.lists.proofs.Choice.{true-not-false, both-left, both-right, not-fals
 use Rattle.terms.specs.Limits.{minVertices, maxVertices, countFits}
 use Rattle.terms.proofs.Order.{first-unique, verdict-first, verdict-given, verdict-zero, verdict-none}
 use Rattle.jobs.specs.Job.{Job, enough, candidatesFit, rowsFit, jobCode}
-use Rattle.jobs.specs.Due.{JobPlace, JobDue, few-vertices, many-vertices, few-triangles, little-work, few-weights, no-triangle, candidate-not-after, no-pair, row-not-after, heavy, heavy-row, FirstDue, Accepted}
+use Rattle.jobs.specs.Due.{JobPlace, JobDue, few-vertices, many-vertices, few-triangles, little-work, few-weights}
+use Rattle.jobs.specs.Due.{no-triangle, candidate-not-after, no-pair, row-not-after, heavy, heavy-row, FirstDue, Accepted}
 use Rattle.jobs.proofs.Order.{true-before, true-row-before}
 use Rattle.jobs.proofs.Lists.{Candidates, Rows, Weights, true-ascends, true-names, candidates-true, rows-true, weights-true}
 use Rattle.jobs.proofs.Failing.{placesFit, weightTests, Fails, fails-14, fails-13, fails-15, fails-16, fails-17, due-fails, fails-due}
@@ -126,4 +127,5 @@ module _ (job : Job) (tp wp : ℕ) where
 pub accepted-beside : (job : Job) (tp wp wp′ : ℕ) → Accepted job tp wp → length (job .candidates) ≤ wp′ → Accepted job (job .n - 2) wp′
 accepted-beside job tp wp wp′ a h =
     let f = fitting job tp wp (accepted-zero job tp wp a) in
-    fitting-accepted job (job .n - 2) wp′ (record { at-least = f .at-least; at-most = f .at-most; triangle-room = omega arith; work-room = h; lists = f .lists })
+    fitting-accepted job (job .n - 2) wp′
+    (record { at-least = f .at-least; at-most = f .at-most; triangle-room = omega arith; work-room = h; lists = f .lists })

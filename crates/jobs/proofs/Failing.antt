@@ -15,7 +15,8 @@ use Rattle.lists.proofs.Ranges.{every-at}
 use Rattle.terms.specs.Limits.{minVertices, maxVertices, countFits, maxWeight}
 use Rattle.terms.specs.Entries.{entryAt, outer, inner, vertexA, vertexB, vertexC, rowWeight, before, rowBefore}
 use Rattle.jobs.specs.Job.{Job, enough, ascends, candidateFits, candidatesFit, namesPair, rowFits, rowsFit, weightsFit, rowWeightsFit}
-use Rattle.jobs.specs.Due.{JobPlace, count, tables, lists, JobDue, few-vertices, many-vertices, few-triangles, little-work, few-weights, no-triangle, candidate-not-after, no-pair, row-not-after, heavy, heavy-row}
+use Rattle.jobs.specs.Due.{JobPlace, count, tables, lists, JobDue, few-vertices, many-vertices, few-triangles, little-work}
+use Rattle.jobs.specs.Due.{few-weights, no-triangle, candidate-not-after, no-pair, row-not-after, heavy, heavy-row}
 
 -- a number below a bound at which a test fails
 record Some (bound : ℕ) (P : ℕ → Bool) : Type 0 where
@@ -114,11 +115,15 @@ module _ (job : Job) (tp wp : ℕ) where
   due-fails (no-pair i h e) = fails-16 (fails-every (length rows) (rowFits candidates rows) i h (no _ _ e))
   due-fails (row-not-after i h e) = fails-16 (fails-every (length rows) (rowFits candidates rows) (i + 1) h (row-fails i e))
   due-fails (heavy i h e) = fails-17 (no _ _ (fails-every (length candidates) (λ i. leb (getD weights i 0) maxWeight) i h (lt-leb _ _ e)))
-  due-fails (heavy-row i h e) = fails-17 (both-no (weightsFit weights (length candidates)) (fails-every (length rows) (λ i. leb (rowWeight (entryAt rows i)) maxWeight) i h (lt-leb _ _ e)))
+  due-fails (heavy-row i h e) =
+      fails-17 (both-no (weightsFit weights (length candidates))
+      (fails-every (length rows) (λ i. leb (rowWeight (entryAt rows i)) maxWeight) i h (lt-leb _ _ e)))
 
   -- ---- what fails is due
   due-14 : countFits n ≡ false → D count 14
-  due-14 e = ⊎-elim (λ f. few-vertices (leb-false minVertices n f)) (λ f. many-vertices (leb-false n maxVertices f)) (both-fails (leb minVertices n) (leb n maxVertices) e)
+  due-14 e =
+      ⊎-elim (λ f. few-vertices (leb-false minVertices n f)) (λ f. many-vertices (leb-false n maxVertices f))
+      (both-fails (leb minVertices n) (leb n maxVertices) e)
 
   due-13 : placesFit ≡ false → D tables 13
   due-13 e =
@@ -132,7 +137,8 @@ module _ (job : Job) (tp wp : ℕ) where
       let s = every-fails (length candidates) (candidateFits n candidates) e in
       let i = s .at in
       ⊎-elim (λ f. no-triangle i (s .below) f)
-      (λ f. candidate-not-after (i - 1) (omega (arith, s .below, f .0)) (ap (λ j. before (entryAt candidates (i - 1)) (entryAt candidates j)) (omega (arith, f .0)) ∙ f .1))
+      (λ f. candidate-not-after (i - 1) (omega (arith, s .below, f .0))
+      (ap (λ j. before (entryAt candidates (i - 1)) (entryAt candidates j)) (omega (arith, f .0)) ∙ f .1))
       (split i (own i) (before (entryAt candidates (i - 1)) (entryAt candidates i)) (s .is))
 
   due-16 : rowsFit candidates rows ≡ false → D lists 16

@@ -36,7 +36,8 @@ module _ (job : Job) (tp wp : ℕ) where
       (unless (candidatesFit n candidates) 15 (unless (rowsFit candidates rows) 16 (unless (weightTests job tp wp) 17 0))))
   unfolding jobCode listsCode
   by-tests =
-      ap (λ x. unless (countFits n) 14 (unless (enough (n - 2) tp) 13 x)) (unless-both (enough (length candidates) wp) (enough (length candidates) (length weights)) 13 _)
+      ap (λ x. unless (countFits n) 14 (unless (enough (n - 2) tp) 13 x))
+      (unless-both (enough (length candidates) wp) (enough (length candidates) (length weights)) 13 _)
       ∙ ap (unless (countFits n) 14) (unless-both (enough (n - 2) tp) _ 13 _)
 
   -- ---- what fails before each number, where the tests before it hold

@@ -118,6 +118,8 @@ module _ (candidates rows : List (List ℕ)) where
 module _ (candidates : List (List ℕ)) (weights : List ℕ) (rows : List (List ℕ)) where
   pub weights-true : both (weightsFit weights (length candidates)) (rowWeightsFit rows) ≡ true → Weights candidates weights rows
   weights-true e = record {
-    own = λ i h. leb-true _ _ (every-at 0 (length candidates) (λ i. leb (getD weights i 0) maxWeight) (both-left (weightsFit weights (length candidates)) (rowWeightsFit rows) e) i (omega arith) h);
-    of-row = λ i h. leb-true _ _ (every-at 0 (length rows) (λ i. leb (rowWeight (entryAt rows i)) maxWeight) (both-right (weightsFit weights (length candidates)) (rowWeightsFit rows) e) i (omega arith) h);
+    own = λ i h. leb-true _ _ (every-at 0 (length candidates) (λ i. leb (getD weights i 0) maxWeight)
+        (both-left (weightsFit weights (length candidates)) (rowWeightsFit rows) e) i (omega arith) h);
+    of-row = λ i h. leb-true _ _ (every-at 0 (length rows) (λ i. leb (rowWeight (entryAt rows i)) maxWeight)
+        (both-right (weightsFit weights (length candidates)) (rowWeightsFit rows) e) i (omega arith) h);
   }

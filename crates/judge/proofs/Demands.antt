@@ -47,7 +47,8 @@ module _ (job : Job) where
     call = judged job list stated work
 
     -- the call, by its number
-    pub by-code : {k : ℕ} → judgeCode job list stated (length work) ≡ k → judged job list stated work ≡ settled k (excessOver (best problem) stated) (length (job .candidates)) work
+    pub by-code : {k : ℕ} → judgeCode job list stated (length work) ≡ k →
+        judged job list stated work ≡ settled k (excessOver (best problem) stated) (length (job .candidates)) work
     unfolding judged
     by-code e = ap (λ (k : ℕ). settled k (excessOver (best problem) stated) (length (job .candidates)) work) e
 
@@ -62,17 +63,20 @@ module _ (job : Job) where
         by (suc k) f = absurd (not-both (sym e ∙ number-is f))
 
     -- of an accepted problem the judge accepts exactly those lists that are a tiling without repeats and have the stated total (rules 3.13, 4.36)
-    pub accepts-when : JobAccepted job (length work) → Acceptable problem list stated → (excess : ℕ) × (judged job list stated work .judgement ≡ judgement.Accepted excess)
+    pub accepts-when : JobAccepted job (length work) → Acceptable problem list stated →
+        (excess : ℕ) × (judged job list stated work .judgement ≡ judgement.Accepted excess)
     accepts-when a l = (excessOver (best problem) stated, ap (λ (r : Result). r .judgement) (by-code (accepts-zero job list stated (length work) a l)))
 
-    pub accepts-only-when : (excess : ℕ) → judged job list stated work .judgement ≡ judgement.Accepted excess → JobAccepted job (length work) × Acceptable problem list stated
+    pub accepts-only-when : (excess : ℕ) → judged job list stated work .judgement ≡ judgement.Accepted excess →
+        JobAccepted job (length work) × Acceptable problem list stated
     accepts-only-when excess e = zero-accepts job list stated (length work) (accepted-code excess e)
 
     -- then its answer is how far the total is above the least, 0 exactly when no tiling costs less (rule 3.14), and it leaves zeros (rule 3.9)
     pub accepted-excess : (excess : ℕ) → judged job list stated work .judgement ≡ judgement.Accepted excess → Excess problem stated excess
     accepted-excess excess e =
         let o = accepts-only-when excess e in
-        let x : call .judgement ≡ judgement.Accepted (excessOver (best problem) stated) = ap (λ (r : Result). r .judgement) (by-code (accepted-code excess e)) in
+        let x : call .judgement ≡ judgement.Accepted (excessOver (best problem) stated) =
+        ap (λ (r : Result). r .judgement) (by-code (accepted-code excess e)) in
         subst (Excess problem stated) (ap excessOf (sym x ∙ e)) (excess-is problem (valid (o .0)) (o .1 .set) (o .1 .tiling .tiles) stated (o .1 .total))
 
     pub accepted-work : (excess : ℕ) → judged job list stated work .judgement ≡ judgement.Accepted excess
@@ -94,10 +98,12 @@ module _ (job : Job) where
             subst (λ (i : ℕ). FirstDue job list stated (length work) i) q (code-due job list stated (length work) j e)
 
   -- the order of the list never matters (rule 3.13)
-  pub order-never-matters : (list list′ : List ℕ) (stated : ℕ) (work : List ℕ) → SameNumbers list list′ → judged job list stated work ≡ judged job list′ stated work
+  pub order-never-matters : (list list′ : List ℕ) (stated : ℕ) (work : List ℕ) → SameNumbers list list′ →
+      judged job list stated work ≡ judged job list′ stated work
   unfolding judged judgeCode
   order-never-matters list list′ stated work h =
-      ap (λ (k : ℕ). settled (firstDue (codeWithoutTriangles job (length work)) k) (excessOver (best problem) stated) (length (job .candidates)) work) (same-code problem list list′ stated h)
+      ap (λ (k : ℕ). settled (firstDue (codeWithoutTriangles job (length work)) k) (excessOver (best problem) stated) (length (job .candidates)) work)
+      (same-code problem list list′ stated h)
 
   -- a patch as the caller is handed it is accepted with excess 0 (rules 3.8, 3.14)
   pub handed-accepted : (total : ℕ) (part work : List ℕ) → JobAccepted job (length work) → HandedBack problem total part

@@ -66,7 +66,8 @@ module _ (job : Job) (list : List ℕ) (stated workPlaces : ℕ) where
     unfolding listCode
     list-verdict =
         verdict-unless judged-list 20 (isTiling problem list) _ before-21 (λ e. no-tiling (λ set t. true-not-false (is-tiling problem list t) e))
-        (λ t. verdict-unless judged-list 21 (eqb stated (listTotal problem list)) _ (before-22 t) (λ e. other-total (eqb-false stated (listTotal problem list) e))
+        (λ t. verdict-unless judged-list 21 (eqb stated (listTotal problem list)) _ (before-22 t)
+        (λ e. other-total (eqb-false stated (listTotal problem list) e))
         (λ e. none-due (record { none = nothing t e }) refl))
 
   -- ---- the number is the first due, or 0 where none is

@@ -20,7 +20,9 @@ module _ (job : Problem) (good : ValidProblem job) (s : List ℕ) (tiles : Trian
     where
       go : (a : Answer) → best job ≡ a → Known a
       go none e = absurd (demand3 job good .none-is e s tiles)
-      go (patch least triangles) e = let o = demand3 job good .patch-is least triangles e in known least triangles (record { set = o .set; tiles = o .tiles; weight = o .weight; lowest = o .lowest })
+      go (patch least triangles) e =
+          let o = demand3 job good .patch-is least triangles e in
+          known least triangles (record { set = o .set; tiles = o .tiles; weight = o .weight; lowest = o .lowest })
 
   -- the excess of a tiling's total
   pub excess-is : (stated : ℕ) → stated ≡ totalWeight job s → Excess job stated (excessOver (best job) stated)
@@ -36,7 +38,8 @@ module _ (job : Problem) (good : ValidProblem job) (s : List ℕ) (tiles : Trian
       }
 
   -- the dynamic programme returns the least total: the code's difference is the excess
-  pub excess-by-cost : (stated : ℕ) → stated ≡ totalWeight job s → (costOf (bestKey job) ≤ stated) × (stated - costOf (bestKey job) ≡ excessOver (best job) stated)
+  pub excess-by-cost : (stated : ℕ) → stated ≡ totalWeight job s →
+      (costOf (bestKey job) ≤ stated) × (stated - costOf (bestKey job) ≡ excessOver (best job) stated)
   excess-by-cost stated e = go (bestKey job) least-known
     where
       go : (k : List ℕ) → Known (answerOf k) → (costOf k ≤ stated) × (stated - costOf k ≡ excessOver (answerOf k) stated)

@@ -48,7 +48,8 @@ module _ (job : Job) (list : List ℕ) (stated workPlaces : ℕ) where
   pub no-tiling-code : JobAccepted job workPlaces → ((set : List ℕ) → IsTiling problem list set → ⊥) → code ≡ 21
   unfolding judgeCode listCode
   no-tiling-code a h =
-      due-on (listCode problem list stated) (accepted-zero job (job .n - 2) workPlaces a) ∙ no _ _ (not-true-false _ (λ t. h (named problem list) (tiling-is problem list t)))
+      due-on (listCode problem list stated) (accepted-zero job (job .n - 2) workPlaces a)
+      ∙ no _ _ (not-true-false _ (λ t. h (named problem list) (tiling-is problem list t)))
 
   pub other-total-code : JobAccepted job workPlaces → (set : List ℕ) → IsTiling problem list set → stated ≢ totalWeight problem set → code ≡ 22
   unfolding judgeCode listCode

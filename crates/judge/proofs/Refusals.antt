@@ -86,8 +86,15 @@ module _ (job : Job) (list : List ℕ) (stated : ℕ) (work : List ℕ) where
   given-22 e =
       let f : FirstDue job list stated (length work) 22 = given-first job list stated work 22 e in
       let a = job-accepted (omega arith) f in
-      let t = tiling (truth (isTiling problem list)) (λ h. none-before-list (omega arith) f judged-list 21 (by-number (omega arith)) (no-tiling h)) in
-      (a, (named problem list, t, λ (q : stated ≡ totalWeight problem (named problem list)). ⊎-elim (λ d. absurd (omega (arith, d .0))) (λ d. d .1 (q ∙ sym (total-of problem list t))) (of-list (f .is-due) a)))
+      let t = tiling (truth (isTiling problem list)) (λ h. none-before-list (omega arith) f judged-list 21 (by-number (omega arith)) (no-tiling h)) in (
+        a,
+        (
+          named problem list,
+          t,
+          λ (q : stated ≡ totalWeight problem (named problem list)).
+              ⊎-elim (λ d. absurd (omega (arith, d .0))) (λ d. d .1 (q ∙ sym (total-of problem list t))) (of-list (f .is-due) a),
+        ),
+      )
     where
       tiling : Truth (isTiling problem list) → (((set : List ℕ) → IsTiling problem list set → ⊥) → ⊥) → IsTiling problem list (named problem list)
       tiling (holds t) h = tiling-is problem list t

@@ -19,7 +19,8 @@ use Rattle.triangulation.proofs.PartsToSets.{upFrom-mem}
 use Rattle.triangulation.proofs.Least.{subset-mem}
 use Rattle.triangulation.proofs.Demand3.{SameMembers, same-subset}
 use Rattle.validation.specs.Validation.{times, distinctCandidates, named, isTiling, listTotal, listCode}
-use Rattle.validation.proofs.Naming.{Names, times-mem, mem-times, times-turned, names-test, test-names, named-mem, mem-named, named-subset, tiling-names, tiling-tiles, names-tiling}
+use Rattle.validation.proofs.Naming.{Names, times-mem, mem-times, times-turned, names-test, test-names, named-mem}
+use Rattle.validation.proofs.Naming.{mem-named, named-subset, tiling-names, tiling-tiles, names-tiling}
 use Rattle.judge.specs.Demands.{IsTiling, Acceptable, SameNumbers}
 
 -- where no two places hold the same, each number stands once at most
@@ -76,7 +77,9 @@ module _ (job : Problem) (list : List ℕ) where
 
   pub acceptable-zero : (stated : ℕ) → Acceptable job list stated → listCode job list stated ≡ 0
   unfolding listCode
-  acceptable-zero stated a = ap (λ b. unless b 21 (unless (eqb stated (listTotal job list)) 22 0)) (is-tiling (a .tiling)) ∙ ap (λ b. unless b 22 0) (eq-eqb _ _ (a .total ∙ sym (total-of (a .tiling))))
+  acceptable-zero stated a =
+      ap (λ b. unless b 21 (unless (eqb stated (listTotal job list)) 22 0)) (is-tiling (a .tiling))
+      ∙ ap (λ b. unless b 22 0) (eq-eqb _ _ (a .total ∙ sym (total-of (a .tiling))))
 
 -- ---- the order of a list
 keep-same : (p q : ℕ → Bool) → ((k : ℕ) → p k ≡ q k) → (s : List ℕ) → keep p s ≡ keep q s
@@ -99,7 +102,9 @@ module _ (job : Problem) where
     where
       go : Truth (distinctCandidates (job .size) list) → distinctCandidates (job .size) list ≡ distinctCandidates (job .size) list′
       go (holds e) = e ∙ sym (names-test (job .size) list′ (same-names list list′ h (test-names (job .size) list e)))
-      go (fails e) = e ∙ sym (not-true-false _ (λ t. true-not-false (names-test (job .size) list (same-names list′ list (λ k. sym (h k)) (test-names (job .size) list′ t))) e))
+      go (fails e) =
+          e ∙ sym (not-true-false _
+          (λ t. true-not-false (names-test (job .size) list (same-names list′ list (λ k. sym (h k)) (test-names (job .size) list′ t))) e))
 
   -- lists with the same numbers get the same number
   pub same-code : (list list′ : List ℕ) (stated : ℕ) → SameNumbers list list′ → listCode job list stated ≡ listCode job list′ stated

@@ -26,7 +26,8 @@ unfolding sameResult
 same-result r = rw (eq-eqb (numberOf (r .judgement)) _ refl, eq-eqb (excessOf (r .judgement)) _ refl, same-list (r .work))
 
 pub wrong-calls-fail : (k : Call) → List·Memᴰ k wrongCalls → k .leaves ≡ judgedOn (k .direct) (k .list) (k .stated) → ⊥
-unfolding anyOf sameResult sameList judged judgeCode listCode listTotal isTiling named jobCode listsCode everyFrom candidateFits ascends before rowFits namesPair hangs rowBefore bestKey key isTriangulation totalWeight preorderFrom countBetween countOutside
+unfolding anyOf sameResult sameList judged judgeCode listCode listTotal isTiling named jobCode listsCode everyFrom candidateFits ascends
+    before rowFits namesPair hangs rowBefore bestKey key isTriangulation totalWeight preorderFrom countBetween countOutside
 wrong-calls-fail k m e = false≢true (sym none-right ∙ any-of isRight wrongCalls k m (rw e (same-result (judgedOn (k .direct) (k .list) (k .stated)))))
   where
     isRight : Call → Bool

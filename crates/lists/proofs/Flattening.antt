@@ -41,7 +41,9 @@ module _ {A B : Type 0} (f : A → List B) where
   over-entries l d = ap (λ (k : ℕ). upFrom (λ i. f (getD l i d)) 0 k) (omega arith) ∙ up-entries l d
 
 -- what the entries give in two parts
-pub flat-sum : {A B C D : Type 0} (f : A → List B) (g : A → List C) (h : A → List D) → ((x : A) → length (f x) ≡ length (g x) + length (h x)) → (l : List A) → length (flatMap f l) ≡ length (flatMap g l) + length (flatMap h l)
+pub flat-sum : {A B C D : Type 0} (f : A → List B) (g : A → List C) (h : A → List D) → ((x : A) → length (f x) ≡ length (g x) + length (h x)) →
+    (l : List A) → length (flatMap f l) ≡ length (flatMap g l) + length (flatMap h l)
 unfolding flatMap
 flat-sum f g h e [] = refl
-flat-sum f g h e (x ∷ l) = omega (arith, length-append (f x) (flatMap f l), length-append (g x) (flatMap g l), length-append (h x) (flatMap h l), e x, flat-sum f g h e l)
+flat-sum f g h e (x ∷ l) =
+    omega (arith, length-append (f x) (flatMap f l), length-append (g x) (flatMap g l), length-append (h x) (flatMap h l), e x, flat-sum f g h e l)

@@ -1,7 +1,8 @@
 -- What stands in a list made in order, and in which order. Assumes nothing.
 use mathlib.Core.Path.{_≡_, refl, sym, subst}
 use mathlib.Core.Bool.{Bool, true, false}
-use mathlib.Core.List.{List, [], _∷_, _++_, List·Memᴰ, List·Memᴰ·head, List·Memᴰ·tail, List·Memᴰ·not-nil, List·Memᴰ·cases-cons, List·Memᴰ·append-cases, List·Memᴰ·eq-of-singleton, Memᴰ·append-left, Memᴰ·append-right}
+use mathlib.Core.List.{List, [], _∷_, _++_, List·Memᴰ, List·Memᴰ·head, List·Memᴰ·tail, List·Memᴰ·not-nil, List·Memᴰ·cases-cons}
+use mathlib.Core.List.{List·Memᴰ·append-cases, List·Memᴰ·eq-of-singleton, Memᴰ·append-left, Memᴰ·append-right}
 use mathlib.Core.Logic.{⊎-elim}
 use Prim.Native.Nat.{ℕ, zero, suc, _+_, _-_, _≤_, _<_}
 use native.Mathlib.Omega.{arith}
@@ -25,7 +26,9 @@ module _ {A : Type 0} where
       (List·Memᴰ·append-cases (f lo) m)
 
   pub over-member : (lo hi : ℕ) (f : ℕ → List A) (x : A) → List·Memᴰ x (over lo hi f) → Within lo hi f x
-  over-member lo hi f x m = let r = up-member f lo (hi - lo) x m in record { at = r .at; low = r .low; high = omega (arith, r .low, r .high); member = r .member }
+  over-member lo hi f x m =
+      let r = up-member f lo (hi - lo) x m in
+      record { at = r .at; low = r .low; high = omega (arith, r .low, r .high); member = r .member }
 
   up-put : (f : ℕ → List A) (lo k i : ℕ) (x : A) → lo ≤ i → i < lo + k → List·Memᴰ x (f i) → List·Memᴰ x (upFrom f lo k)
   unfolding upFrom
@@ -69,20 +72,23 @@ module _ {A : Type 0} where
     empty : Ascending R []
     more : {x : A} {l : List A} → ((y : A) → List·Memᴰ y l → R x y) → Ascending R l → Ascending R (x ∷ l)
 
-  ascending-append : {R : A → A → Type 0} (s : List A) {t : List A} → Ascending R s → Ascending R t → ((x y : A) → List·Memᴰ x s → List·Memᴰ y t → R x y) → Ascending R (s ++ t)
+  ascending-append : {R : A → A → Type 0} (s : List A) {t : List A} → Ascending R s → Ascending R t →
+      ((x y : A) → List·Memᴰ x s → List·Memᴰ y t → R x y) → Ascending R (s ++ t)
   ascending-append [] hs ht h = ht
   ascending-append {R} (x ∷ s) {t} (more hx hs) ht h =
       more (λ y m. ⊎-elim (λ k. hx y k) (λ k. h x y (List·Memᴰ·head refl) k) (List·Memᴰ·append-cases s m))
       (ascending-append s hs ht (λ u v m k. h u v (List·Memᴰ·tail m) k))
 
-  up-ascending : {R : A → A → Type 0} (f : ℕ → List A) (lo k : ℕ) → ((i : ℕ) → Ascending R (f i)) → ((i j : ℕ) (x y : A) → i < j → List·Memᴰ x (f i) → List·Memᴰ y (f j) → R x y) → Ascending R (upFrom f lo k)
+  up-ascending : {R : A → A → Type 0} (f : ℕ → List A) (lo k : ℕ) → ((i : ℕ) → Ascending R (f i)) →
+      ((i j : ℕ) (x y : A) → i < j → List·Memᴰ x (f i) → List·Memᴰ y (f j) → R x y) → Ascending R (upFrom f lo k)
   unfolding upFrom
   up-ascending f lo zero hf h = empty
   up-ascending f lo (suc k) hf h =
       ascending-append (f lo) (hf lo) (up-ascending f (suc lo) k hf h)
       (λ x y m n. let w = up-member f (suc lo) k y n in h lo (w .at) x y (omega (arith, w .low)) m (w .member))
 
-  pub over-ascending : {R : A → A → Type 0} (lo hi : ℕ) (f : ℕ → List A) → ((i : ℕ) → Ascending R (f i)) → ((i j : ℕ) (x y : A) → i < j → List·Memᴰ x (f i) → List·Memᴰ y (f j) → R x y) → Ascending R (over lo hi f)
+  pub over-ascending : {R : A → A → Type 0} (lo hi : ℕ) (f : ℕ → List A) → ((i : ℕ) → Ascending R (f i)) →
+      ((i j : ℕ) (x y : A) → i < j → List·Memᴰ x (f i) → List·Memᴰ y (f j) → R x y) → Ascending R (over lo hi f)
   over-ascending lo hi f hf h = up-ascending f lo (hi - lo) hf h
 
   pub when-ascending : {R : A → A → Type 0} (b : Bool) (x : A) → Ascending R (when b x)

@@ -20,7 +20,9 @@ module _ {A : Type 0} where
       z : lo ≡ lo + 0
       z = omega arith
   up-split f lo (suc j) k =
-      ap (λ (m : ℕ). upFrom f lo m) e ∙ ap (λ (l : List A). f lo ++ l) (up-split f (suc lo) j k ∙ ap (λ (m : ℕ). upFrom f (suc lo) j ++ upFrom f m k) d) ∙ sym (append-assoc (f lo) (upFrom f (suc lo) j) (upFrom f (lo + suc j) k))
+      ap (λ (m : ℕ). upFrom f lo m) e
+      ∙ ap (λ (l : List A). f lo ++ l) (up-split f (suc lo) j k ∙ ap (λ (m : ℕ). upFrom f (suc lo) j ++ upFrom f m k) d)
+      ∙ sym (append-assoc (f lo) (upFrom f (suc lo) j) (upFrom f (lo + suc j) k))
     where
       e : suc j + k ≡ suc (j + k)
       e = omega arith

@@ -15,7 +15,13 @@ module _ {A : Type 0} (f : ℕ → List A) (size : ℕ) where
   unfolding upFrom
   up-pieces lo zero h = sym (mul-zero size)
   up-pieces lo (suc k) h =
-      omega (arith, length-append (f lo) (upFrom f (suc lo) k), h lo (omega arith) (omega arith), up-pieces (suc lo) k (λ i l m. h i (omega arith) (omega arith)), mul-suc size k)
+      omega (
+        arith,
+        length-append (f lo) (upFrom f (suc lo) k),
+        h lo (omega arith) (omega arith),
+        up-pieces (suc lo) k (λ i l m. h i (omega arith) (omega arith)),
+        mul-suc size k,
+      )
 
   pub pieces-length : (lo hi : ℕ) → ((i : ℕ) → lo ≤ i → i < hi → length (f i) ≡ size) → length (over lo hi f) ≡ size * (hi - lo)
   pieces-length lo hi h = up-pieces lo (hi - lo) (λ i l m. h i l (omega arith))

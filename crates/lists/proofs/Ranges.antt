@@ -9,7 +9,8 @@ use native.Mathlib.Numerals.{add-one}
 use native.Mathlib.Omega.{arith}
 use lib.ListN.{length, getD, length-append}
 use Rattle.lists.specs.Lists.{upFrom, over, when, both, either, everyFrom, every, someFrom, some}
-use Rattle.lists.proofs.Choice.{true-not-false, both-left, both-right, both-true, either-left, either-cases, either-neither, not-false-true, not-true-false}
+use Rattle.lists.proofs.Choice.{true-not-false, both-left, both-right, both-true, either-left}
+use Rattle.lists.proofs.Choice.{either-cases, either-neither, not-false-true, not-true-false}
 
 module _ {A : Type 0} where
   up-step : (f : ℕ → List A) (lo k m : ℕ) → k ≡ suc m → upFrom f lo k ≡ f lo ++ upFrom f (lo + 1) m

@@ -24,11 +24,13 @@ module _ {A : Type 0} where
   pub start : (total o : List A) → length total ≤ length o → Writing total total o 0 o 0
   start total o h = record { done = refl; room = h; kept = refl; more = le-refl 0; long = refl; within = omega arith }
 
-  pub turn : {total rest rest′ out₀ out : List A} {count₀ count : ℕ} → rest ≡ rest′ → Writing total rest out₀ count₀ out count → Writing total rest′ out₀ count₀ out count
+  pub turn : {total rest rest′ out₀ out : List A} {count₀ count : ℕ} → rest ≡ rest′ → Writing total rest out₀ count₀ out count →
+      Writing total rest′ out₀ count₀ out count
   turn {total} {out₀ = o} {out = p} {count₀ = a} {count = b} e s = subst (λ (r : List A). Writing total r o a p b) e s
 
   -- into a loop inside
-  pub enter : {total rest rest′ out₀ out : List A} {count₀ count : ℕ} → rest ≡ rest′ → Writing total rest out₀ count₀ out count → Writing total rest′ out count out count
+  pub enter : {total rest rest′ out₀ out : List A} {count₀ count : ℕ} → rest ≡ rest′ → Writing total rest out₀ count₀ out count →
+      Writing total rest′ out count out count
   enter {out = o} {count = n} e s = turn e (record { done = s .done; room = s .room; kept = refl; more = le-refl n; long = refl; within = s .within })
 
   drop-more : (a b : ℕ) (x y : List A) → a ≤ b → drop a x ≡ drop a y → drop b x ≡ drop b y
@@ -37,7 +39,8 @@ module _ {A : Type 0} where
       sym (drop-drop (b - a) a x ∙ ap (λ (n : ℕ). drop n x) w) ∙ ap (λ (l : List A). drop (b - a) l) e ∙ drop-drop (b - a) a y ∙ ap (λ (n : ℕ). drop n y) w
 
   -- out of it again
-  pub leave : {total rest rest′ rest″ o₀ o o′ : List A} {n₀ n n′ : ℕ} → rest′ ≡ rest″ → Writing total rest o₀ n₀ o n → Writing total rest′ o n o′ n′ → Writing total rest″ o₀ n₀ o′ n′
+  pub leave : {total rest rest′ rest″ o₀ o o′ : List A} {n₀ n n′ : ℕ} → rest′ ≡ rest″ → Writing total rest o₀ n₀ o n → Writing total rest′ o n o′ n′ →
+      Writing total rest″ o₀ n₀ o′ n′
   leave {o₀ = x} {o = y} {n = n} {n′ = m} e s t = turn e (record {
     done = t .done;
     room = t .room;
@@ -60,9 +63,11 @@ module _ {A : Type 0} where
   push {total} {rest} {o₀} {o} {n₀} {n} {x} s =
       let h : n < length o = place s in
       record {
-        done = ap (λ (m : ℕ). take m (set o n x) ++ rest) (add-one n) ∙ ap (λ (l : List A). l ++ rest) (take-suc-set o n x h) ∙ append-assoc (take n o) (x ∷ []) rest ∙ s .done;
+        done = ap (λ (m : ℕ). take m (set o n x) ++ rest) (add-one n) ∙ ap (λ (l : List A). l ++ rest) (take-suc-set o n x h)
+            ∙ append-assoc (take n o) (x ∷ []) rest ∙ s .done;
         room = le-trans (s .room) (omega (arith, length-set o n x));
-        kept = ap (λ (m : ℕ). drop m (set o n x)) (add-one n) ∙ drop-set-lt (suc n) o n x (omega arith) ∙ drop-more n (suc n) o o₀ (omega arith) (s .kept) ∙ ap (λ (m : ℕ). drop m o₀) (sym (add-one n));
+        kept = ap (λ (m : ℕ). drop m (set o n x)) (add-one n) ∙ drop-set-lt (suc n) o n x (omega arith)
+            ∙ drop-more n (suc n) o o₀ (omega arith) (s .kept) ∙ ap (λ (m : ℕ). drop m o₀) (sym (add-one n));
         more = le-trans (s .more) (omega arith);
         long = length-set o n x ∙ s .long;
         within = omega (arith, length-set o n x);
@@ -70,7 +75,8 @@ module _ {A : Type 0} where
 
   -- where ways meet: the table and the count are said to be those of the way taken
   pub moved : {total rest o₀ o o′ : List A} {n₀ n n′ : ℕ} → o ≡ o′ → n ≡ n′ → Writing total rest o₀ n₀ o′ n′ → Writing total rest o₀ n₀ o n
-  moved {total} {rest} {o₀} {o} {o′} {n₀} {n} {n′} e d s = subst (λ (x : List A). Writing total rest o₀ n₀ x n) (sym e) (subst (λ (k : ℕ). Writing total rest o₀ n₀ o′ k) (sym d) s)
+  moved {total} {rest} {o₀} {o} {o′} {n₀} {n} {n′} e d s =
+      subst (λ (x : List A). Writing total rest o₀ n₀ x n) (sym e) (subst (λ (k : ℕ). Writing total rest o₀ n₀ o′ k) (sym d) s)
 
   -- all is written
   pub all : {total o₀ o : List A} {n₀ n : ℕ} → Writing total [] o₀ n₀ o n → (n ≡ length total) × (o ≡ filled total o₀)

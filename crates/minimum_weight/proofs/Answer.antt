@@ -21,7 +21,9 @@ module _ (n : ℕ) (candidates : List (List ℕ)) (weights : List ℕ) (rows : L
 
   -- a total is far below 2^63
   pub answer-light : (bestKey jobHere ≡ []) ⊎ (costOf (bestKey jobHere) < noTotal)
-  answer-light = ⊎-elim (λ e. inl (answer-whole ∙ e)) (λ (q : costOf (bestUnder jobHere n (length candidates) 0 (n - 1)) ≤ maxTotal). inr (omega (arith, ap costOf answer-whole)))
+  answer-light =
+      ⊎-elim (λ e. inl (answer-whole ∙ e))
+      (λ (q : costOf (bestUnder jobHere n (length candidates) 0 (n - 1)) ≤ maxTotal). inr (omega (arith, ap costOf answer-whole)))
       (edge-light jobHere (ok .valid) (ok .bounded) (length candidates) 0 (n - 1) (omega (arith, ok .valid .n3)) (omega (arith, ok .valid .n3)))
 
   pub no-key : noTotal ≤ costOf (bestKey jobHere) → bestKey jobHere ≡ []

@@ -47,7 +47,8 @@ module _ (on : ℕ → Bool) (rk : ℕ → List ℕ) (r : ℕ → ℕ) where
         (below-suc (λ u. on u ≡ true → (y : ℕ) (m : List ℕ) → rk u ≡ y ∷ u ∷ m → (p .cost < y + r u) ⊎ ((p .cost ≡ y + r u) × (p .at ≤ u))) k h
         (λ t y m q. absurd (cons≢nil (sym q ∙ z t))))
 
-    take-it : (k : ℕ) (p : Pick) (x : ℕ) (l : List ℕ) → Picked k p → on k ≡ true → rk k ≡ x ∷ k ∷ l → x + r k < noTotal → x + r k < p .cost → Picked (suc k) (record { cost = x + r k; at = k })
+    take-it : (k : ℕ) (p : Pick) (x : ℕ) (l : List ℕ) → Picked k p → on k ≡ true → rk k ≡ x ∷ k ∷ l → x + r k < noTotal → x + r k < p .cost →
+        Picked (suc k) (record { cost = x + r k; at = k })
     take-it k p x l q o e b c = some x l (omega arith) o e refl b
         (below-suc (λ u. on u ≡ true → (y : ℕ) (m : List ℕ) → rk u ≡ y ∷ u ∷ m → (x + r k < y + r u) ⊎ ((x + r k ≡ y + r u) × (k ≤ u))) k (old q)
         (λ t y m z. inr (ap (λ v. v + r k) (head-eq-of-cons-eq (sym e ∙ z)), omega arith)))
@@ -63,7 +64,8 @@ module _ (on : ℕ → Bool) (rk : ℕ → List ℕ) (r : ℕ → ℕ) where
         (λ t y m z. let g : x ≡ y = head-eq-of-cons-eq (sym q ∙ z) in
         ⊎-elim (λ v. inr (omega arith, omega arith)) (λ v. inl (omega arith)) (eq-or-lt-of-le c)))
 
-    step : (k : ℕ) (p : Pick) → Picked k p → (on k ≡ true → Shape k (rk k)) → (on k ≡ true → d k ≡ costOf (rk k)) → Picked (suc k) (betterOf p k (on k) (d k) (r k))
+    step : (k : ℕ) (p : Pick) → Picked k p → (on k ≡ true → Shape k (rk k)) → (on k ≡ true → d k ≡ costOf (rk k)) →
+        Picked (suc k) (betterOf p k (on k) (d k) (r k))
     unfolding betterOf
     step k p q sh dk = go (on k) refl
       where
@@ -72,16 +74,19 @@ module _ (on : ℕ → Bool) (rk : ℕ → List ℕ) (r : ℕ → ℕ) where
         test true y o (nil z) e f g = absurd (omega (arith, ltb-true (d k) noTotal f, ap costOf z))
         test false y o (nil z) e f g = skip k p q (λ t. z)
         test false y o (cons x l z b) e f g = absurd (omega (arith, ltb-false (d k) noTotal f, ap costOf z))
-        test true true o (cons x l z b) e f g = rw (e ∙ ap costOf z) (take-it k p x l q o z (omega (arith, light k)) (omega (arith, ltb-true (d k + r k) (p .cost) g, ap costOf z)))
+        test true true o (cons x l z b) e f g =
+            rw (e ∙ ap costOf z) (take-it k p x l q o z (omega (arith, light k)) (omega (arith, ltb-true (d k + r k) (p .cost) g, ap costOf z)))
         test true false o (cons x l z b) e f g = leave k p x l q o z (omega (arith, light k)) (omega (arith, ltb-false (d k + r k) (p .cost) g, ap costOf z))
 
         go : (b : Bool) → on k ≡ b → Picked (suc k) (betterOf p k b (d k) (r k))
         go false e = skip k p q (λ t. absurd (false≢true (sym e ∙ t)))
         go true e = test (ltb (d k) noTotal) (ltb (d k + r k) (p .cost)) e (sh e) (dk e) refl refl
 
-    pub picked : (k : ℕ) → ((u : ℕ) → u < k → on u ≡ true → Shape u (rk u)) → ((u : ℕ) → u < k → on u ≡ true → d u ≡ costOf (rk u)) → Picked k (pickBelow on d r k)
+    pub picked : (k : ℕ) → ((u : ℕ) → u < k → on u ≡ true → Shape u (rk u)) → ((u : ℕ) → u < k → on u ≡ true → d u ≡ costOf (rk u)) →
+        Picked k (pickBelow on d r k)
     picked zero sh dk = none refl (λ u l. absurd (omega arith))
-    picked (suc k) sh dk = step k (pickBelow on d r k) (picked k (λ u l. sh u (omega arith)) (λ u l. dk u (omega arith))) (sh k (omega arith)) (dk k (omega arith))
+    picked (suc k) sh dk =
+        step k (pickBelow on d r k) (picked k (λ u l. sh u (omega arith)) (λ u l. dk u (omega arith))) (sh k (omega arith)) (dk k (omega arith))
 
 least-nil : (ks : List (List ℕ)) → ((y : List ℕ) → List·Memᴰ y ks → y ≡ []) → least ks ≡ []
 least-nil [] h = refl
@@ -125,7 +130,9 @@ module _ (job : Problem) (good : ValidProblem job) (bound : Bounded job) (t i j 
       go y (image u m q) = let d = these-in u m in q ∙ ap (addRow (job .row t u)) (h u (d .0) (d .1))
   found p (some x l a o e c b h) =
       let z : bestUnder job (job .n) t i j ≡ keyOf (p .at) = edge-least job good t i j far ∙ least-is (map keyOf these) (keyOf (p .at))
-      (Memᴰ·map keyOf (mem-keep (longEdge job i j) (p .at) (numbersFrom 0 (job .size)) (mem-upFrom 0 (job .size) (p .at) (omega arith) (omega arith)) o)) (λ y m. go y (map-mem keyOf y these m)) in
+      (Memᴰ·map keyOf
+      (mem-keep (longEdge job i j) (p .at) (numbersFrom 0 (job .size)) (mem-upFrom 0 (job .size) (p .at) (omega arith) (omega arith)) o))
+      (λ y m. go y (map-mem keyOf y these m)) in
       let d = both-eq (job .a (p .at)) i (job .c (p .at)) j o in
       record { cost = c ∙ sym (ap costOf (z ∙ ap (addRow (job .row t (p .at))) e)); at = λ f b. (a, d .0, d .1, z) }
     where
@@ -135,14 +142,17 @@ module _ (job : Problem) (good : ValidProblem job) (bound : Bounded job) (t i j 
 
   pub found-below : (d : ℕ → ℕ) → ((u : ℕ) → u < job .size → longEdge job i j u ≡ true → d u ≡ costOf (bestFrom job (job .n) u))
       → Found job t i j (pickBelow (longEdge job i j) d (job .row t) (job .size))
-  found-below d h = found _ (picked (longEdge job i j) (bestFrom job (job .n)) (job .row t) d (bound .row-light t) (job .size) (λ u l o. root-shape job good bound u l) h)
+  found-below d h =
+      found _
+      (picked (longEdge job i j) (bestFrom job (job .n)) (job .row t) d (bound .row-light t) (job .size) (λ u l o. root-shape job good bound u l) h)
 
 module _ (n : ℕ) (candidates : List (List ℕ)) (weights : List ℕ) (rows : List (List ℕ)) (ok : WellFormed n candidates weights rows) where
   abbrev jobHere : Problem
   jobHere = problemFrom n candidates weights rows
 
   -- the best candidate on an edge that is no rim edge (i, i + 1) starts what the recursion has beneath it
-  pub found-far : (work : List ℕ) (t i j : ℕ) → ReadyAt jobHere work i j → j ≢ i + 1 → (p : Pick) → p ≡ pickUnder candidates work rows t i j → Found jobHere t i j p
+  pub found-far : (work : List ℕ) (t i j : ℕ) → ReadyAt jobHere work i j → j ≢ i + 1 → (p : Pick) →
+      p ≡ pickUnder candidates work rows t i j → Found jobHere t i j p
   unfolding pickUnder
   found-far work t i j h far p e = rw e (found-below jobHere (ok .valid) (ok .bounded) t i j far (λ k. getD work k 0)
       (λ u l o. let d = both-eq (jobHere .a u) i (jobHere .c u) j o in h u l (d .0) (d .1)))
@@ -184,8 +194,10 @@ module _ (job : Problem) (good : ValidProblem job) (bound : Bounded job) where
   pub found-cost : (t i j : ℕ) (p : Pick) → i < j → j < job .n → Found job t i j p → Cost (p .cost)
   found-cost t i j p h k f = light-cost _ (p .cost) (f .cost) (edge-Light t i j h k)
 
-  pub root-cost : (u x y z : ℕ) → u < job .size → x ≡ costOf (bestUnder job (job .n) u (job .a u) (job .b u)) → y ≡ costOf (bestUnder job (job .n) u (job .b u) (job .c u))
+  pub root-cost : (u x y z : ℕ) → u < job .size → x ≡ costOf (bestUnder job (job .n) u (job .a u) (job .b u))
+      → y ≡ costOf (bestUnder job (job .n) u (job .b u) (job .c u))
       → z ≡ joinCost (job .weight u) x y → z ≡ costOf (bestFrom job (job .n) u)
   unfolding bestFrom bestUnder
   root-cost u x y z h p q e = e ∙ ap₂ (joinCost (job .weight u)) p q
-      ∙ join-is (job .weight u) u _ _ (edge-Light u (job .a u) (job .b u) (good .ab u h) (omega (arith, good .bc u h, good .cn u h))) (edge-Light u (job .b u) (job .c u) (good .bc u h) (good .cn u h))
+      ∙ join-is (job .weight u) u _ _ (edge-Light u (job .a u) (job .b u) (good .ab u h) (omega (arith, good .bc u h, good .cn u h)))
+      (edge-Light u (job .b u) (job .c u) (good .bc u h) (good .cn u h))

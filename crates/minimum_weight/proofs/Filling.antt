@@ -39,12 +39,20 @@ module _ (job : Problem) (before : List ℕ) where
     pub ready : (u : ℕ) → u < job .size → (high ≤ u) ⊎ ((low ≤ u) × (u < t)) → Ready job work u
 
   pub filling-start : {low high : ℕ} {work : List ℕ} → low ≤ high → Filled job before high work → Filling low high low work
-  filling-start h f = record { long = f .long; kept = f .kept; start = omega arith; end = h; ready = λ u l w. ⊎-elim (λ k. f .ready u l k) (λ k. absurd (omega arith)) w }
+  filling-start h f = record {
+    long = f .long;
+    kept = f .kept;
+    start = omega arith;
+    end = h;
+    ready = λ u l w. ⊎-elim (λ k. f .ready u l k) (λ k. absurd (omega arith)) w;
+  }
 
   pub filling-end : {low high t : ℕ} {work : List ℕ} → high ≤ t → Filling low high t work → Filled job before low work
-  filling-end {low} {high} {t} h f = record { long = f .long; kept = f .kept; ready = λ u l k. f .ready u l (⊎-elim inl (λ (m : u < high). inr (k, omega arith)) (order high u)) }
+  filling-end {low} {high} {t} h f =
+      record { long = f .long; kept = f .kept; ready = λ u l k. f .ready u l (⊎-elim inl (λ (m : u < high). inr (k, omega arith)) (order high u)) }
 
-  pub filling-next : {low high t : ℕ} {work : List ℕ} (d : ℕ) → job .size ≤ length before → high ≤ job .size → t < high → d ≡ costOf (bestFrom job (job .n) t) → Filling low high t work
+  pub filling-next : {low high t : ℕ} {work : List ℕ} (d : ℕ) → job .size ≤ length before → high ≤ job .size
+      → t < high → d ≡ costOf (bestFrom job (job .n) t) → Filling low high t work
       → Filling low high (t + 1) (set work t d)
   filling-next {low} {high} {t} {work} d r s h e f = record {
     long = length-set work t d ∙ f .long;
@@ -58,13 +66,17 @@ module _ (job : Problem) (before : List ℕ) where
   }
     where
       same? : (x y : ℕ) → (x ≡ y) ⊎ (x ≢ y)
-      same? x y = ⊎-elim (λ (l : x ≤ y). ⊎-elim (λ q. inl q) (λ (q : x < y). inr (λ (z : x ≡ y). omega arith)) (eq-or-lt-of-le l)) (λ (l : y < x). inr (λ (z : x ≡ y). omega arith)) (order x y)
+      same? x y =
+          ⊎-elim (λ (l : x ≤ y). ⊎-elim (λ q. inl q) (λ (q : x < y). inr (λ (z : x ≡ y). omega arith)) (eq-or-lt-of-le l))
+          (λ (l : y < x). inr (λ (z : x ≡ y). omega arith)) (order x y)
 
-module _ (n : ℕ) (candidates : List (List ℕ)) (weights : List ℕ) (rows : List (List ℕ)) (ok : WellFormed n candidates weights rows) (starts : List ℕ) (blocks : Starts candidates starts) where
+module _ (n : ℕ) (candidates : List (List ℕ)) (weights : List ℕ) (rows : List (List ℕ)) (ok : WellFormed n candidates weights rows)
+    (starts : List ℕ) (blocks : Starts candidates starts) where
   abbrev jobHere : Problem
   jobHere = problemFrom n candidates weights rows
 
-  module _ (before work : List ℕ) (v t : ℕ) (hv : v < maxVertices) (f : Filling jobHere before (getD starts v 0) (getD starts (v + 1) 0) t work) (h : t < getD starts (v + 1) 0) where
+  module _ (before work : List ℕ) (v t : ℕ) (hv : v < maxVertices) (f : Filling jobHere before (getD starts v 0) (getD starts (v + 1) 0) t work)
+      (h : t < getD starts (v + 1) 0) where
     t-there : t < length candidates
     t-there = omega (arith, blocks .at (v + 1) (omega arith) .within)
 
@@ -94,10 +106,20 @@ module _ (n : ℕ) (candidates : List (List ℕ)) (weights : List ℕ) (rows : L
 
   -- before the last block, and after the first
   pub fill-start : (work : List ℕ) → Filled jobHere work (getD starts n 0) work
-  fill-start work = record { long = refl; kept = refl; ready = λ u l k. absurd (omega (arith, blocks .at n (omega (arith, ok .bounded .few)) .above u k l, ok .valid .ab u l, ok .valid .bc u l, ok .valid .cn u l)) }
+  fill-start work = record {
+    long = refl;
+    kept = refl;
+    ready = λ u l k.
+        absurd (omega (arith, blocks .at n (omega (arith, ok .bounded .few)) .above u k l, ok .valid .ab u l, ok .valid .bc u l, ok .valid .cn u l));
+  }
 
   pub fill-end : {before work : List ℕ} {v : ℕ} → v ≤ 0 → Filled jobHere before (getD starts v 0) work → Filled jobHere before 0 work
-  fill-end {v = v} h f = record { long = f .long; kept = f .kept; ready = λ u l k. f .ready u l (⊎-elim (λ m. m) (λ (m : u < getD starts v 0). absurd (omega (arith, blocks .at v (omega arith) .below u m))) (order (getD starts v 0) u)) }
+  fill-end {v = v} h f = record {
+    long = f .long;
+    kept = f .kept;
+    ready = λ u l k. f .ready u l
+        (⊎-elim (λ m. m) (λ (m : u < getD starts v 0). absurd (omega (arith, blocks .at v (omega arith) .below u m))) (order (getD starts v 0) u));
+  }
 
 module _ (job : Problem) where
   abbrev totalOf : ℕ → ℕ
@@ -114,7 +136,8 @@ module _ (job : Problem) (before : List ℕ) {work : List ℕ} (room : job .size
   pub filled-is : Filled job before 0 work → work ≡ filled (partTotals job) before
   filled-is f =
       let first : take (job .size) work ≡ partTotals job = ext-getD 0 (take (job .size) work) (partTotals job) (long ∙ sym (totals-long job))
-      (λ u h. getD-take (job .size) work u 0 (omega (arith, long)) ∙ f .ready u (omega (arith, long)) (omega arith) ∙ sym (total-at job u (omega (arith, long)))) in
+      (λ u h. getD-take (job .size) work u 0 (omega (arith, long)) ∙ f .ready u (omega (arith, long)) (omega arith)
+      ∙ sym (total-at job u (omega (arith, long)))) in
       sym (take-append-drop (job .size) work) ∙ ap₂ _++_ first (f .kept ∙ ap (λ k. drop k before) (sym (totals-long job)))
     where
       long : length (take (job .size) work) ≡ job .size
@@ -142,5 +165,6 @@ module _ (job : Problem) where
   pub filled-then : {before work new : List ℕ} {low high : ℕ} → Filled job before high work → Filled job work low new → Filled job before low new
   filled-then f g = record { long = g .long ∙ f .long; kept = g .kept ∙ f .kept; ready = g .ready }
 
-  pub filled-down : {before work : List ℕ} (starts : List ℕ) (v : ℕ) → 0 < v → Filled job before (getD starts v 0) work → Filled job work (getD starts (v - 1 + 1) 0) work
+  pub filled-down : {before work : List ℕ} (starts : List ℕ) (v : ℕ) → 0 < v → Filled job before (getD starts v 0) work →
+      Filled job work (getD starts (v - 1 + 1) 0) work
   filled-down starts v h f = let e : v - 1 + 1 ≡ v = omega arith in rw e (filled-again f)

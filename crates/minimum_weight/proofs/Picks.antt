@@ -59,7 +59,8 @@ pick-bounded on d w (suc k) = better-bounded (pickBelow on d w k) k (on k) (d k)
 pub pick-skip : (on : ℕ → Bool) (d w : ℕ → ℕ) (x y : ℕ) → x ≤ y → ((u : ℕ) → x ≤ u → u < y → on u ≡ false) → pickBelow on d w y ≡ pickBelow on d w x
 pick-skip on d w x zero h f = let e : 0 ≡ x = omega arith in ap (pickBelow on d w) e
 pick-skip on d w x (suc y) h f = ⊎-elim (λ e. ap (pickBelow on d w) (sym e))
-    (λ (l : x < suc y). sym (off-edge (pickBelow on d w y) y (on y) (d y) (w y) (f y (omega arith) (omega arith))) ∙ pick-skip on d w x y (omega arith) (λ u a b. f u a (omega arith)))
+    (λ (l : x < suc y). sym (off-edge (pickBelow on d w y) y (on y) (d y) (w y) (f y (omega arith) (omega arith)))
+    ∙ pick-skip on d w x y (omega arith) (λ u a b. f u a (omega arith)))
     (eq-or-lt-of-le h)
 
 module _ (candidates : List (List ℕ)) (starts : List ℕ) (i j : ℕ) (d w : ℕ → ℕ) (b : Starts candidates starts) (h : i < maxVertices) where
@@ -71,9 +72,11 @@ module _ (candidates : List (List ℕ)) (starts : List ℕ) (i j : ℕ) (d w : �
   block-start = sym (pick-skip (onEdge candidates i j) d w 0 (getD starts i 0) (omega arith)
       (λ u x y. no _ _ (ne-eqb (vertexA (entryAt candidates u)) i (λ e. omega (arith, b .at i (omega arith) .below u y)))))
 
-  pub block-next : (p : Pick) (u : ℕ) {q : Pick} → getD starts i 0 ≤ u → u < getD starts (i + 1) 0 → p ≡ pickOf u → q ≡ betterOf p u (eqb (vertexC (entryAt candidates u)) j) (d u) (w u) → q ≡ pickOf (u + 1)
+  pub block-next : (p : Pick) (u : ℕ) {q : Pick} → getD starts i 0 ≤ u → u < getD starts (i + 1) 0 → p ≡ pickOf u →
+      q ≡ betterOf p u (eqb (vertexC (entryAt candidates u)) j) (d u) (w u) → q ≡ pickOf (u + 1)
   block-next p u l m e f =
-      let a : vertexA (entryAt candidates u) ≡ i = le-antisymm (omega (arith, b .at (i + 1) (omega arith) .below u m)) (b .at i (omega arith) .above u l (omega (arith, b .at (i + 1) (omega arith) .within))) in
+      let a : vertexA (entryAt candidates u) ≡ i = le-antisymm (omega (arith, b .at (i + 1) (omega arith) .below u m))
+      (b .at i (omega arith) .above u l (omega (arith, b .at (i + 1) (omega arith) .within))) in
       f ∙ ap (λ x. betterOf x u (eqb (vertexC (entryAt candidates u)) j) (d u) (w u)) e
       ∙ ap (λ on. betterOf (pickOf u) u on (d u) (w u)) (sym (yes _ _ (eq-eqb (vertexA (entryAt candidates u)) i a))) ∙ ap pickOf (sym (add-one u))
 

@@ -12,7 +12,8 @@ use Rattle.minimum_weight.specs.declared.choice.Pick.{Pick}
 use Rattle.minimum_weight.proofs.Edges.{found-edge}
 
 module _ {rows run : List (List ℕ)} {t : ℕ} (r : Run rows t run) (candidates : List (List ℕ)) (work : List ℕ) (i j : ℕ) where
-  pick-same : (k : ℕ) → pickBelow (onEdge candidates i j) (λ k. getD work k 0) (pairWeight run t) k ≡ pickBelow (onEdge candidates i j) (λ k. getD work k 0) (pairWeight rows t) k
+  pick-same : (k : ℕ) → pickBelow (onEdge candidates i j) (λ k. getD work k 0) (pairWeight run t) k
+      ≡ pickBelow (onEdge candidates i j) (λ k. getD work k 0) (pairWeight rows t) k
   pick-same zero = refl
   pick-same (suc k) = rw (pick-same k, r .same k) refl
 
@@ -21,6 +22,8 @@ module _ {rows run : List (List ℕ)} {t : ℕ} (r : Run rows t run) (candidates
   pick-run = ap (cond (eqb j (i + 1)) (record { cost = 0; at = 0 })) (pick-same (length candidates))
 
 -- so the run of t serves for its edges
-pub found-in-run : (n : ℕ) (candidates : List (List ℕ)) (weights : List ℕ) (rows : List (List ℕ)) → WellFormed n candidates weights rows → (work : List ℕ) (t i j : ℕ) {run : List (List ℕ)} → Run rows t run
-    → ReadyAt (problemFrom n candidates weights rows) work i j → (p : Pick) → p ≡ pickAtEdge candidates work run t i j → Found (problemFrom n candidates weights rows) t i j p
+pub found-in-run : (n : ℕ) (candidates : List (List ℕ)) (weights : List ℕ) (rows : List (List ℕ)) → WellFormed n candidates weights rows
+    → (work : List ℕ) (t i j : ℕ) {run : List (List ℕ)} → Run rows t run
+    → ReadyAt (problemFrom n candidates weights rows) work i j → (p : Pick) → p ≡ pickAtEdge candidates work run t i j
+    → Found (problemFrom n candidates weights rows) t i j p
 found-in-run n candidates weights rows ok work t i j r h p e = found-edge n candidates weights rows ok work t i j h p (e ∙ pick-run r candidates work i j)

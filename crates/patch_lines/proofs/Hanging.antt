@@ -69,7 +69,13 @@ module _ (candidates : List (List ℕ)) where
   pub line-same : (weights : List ℕ) (rows rows′ : List (List ℕ)) → ((o i : ℕ) → pairWeight rows o i ≡ pairWeight rows′ o i) →
       (patch : List ℕ) (t : ℕ) → lineOf candidates weights rows patch t ≡ lineOf candidates weights rows′ patch t
   line-same weights rows rows′ h patch t =
-      ap (λ (w : ℕ). record { a = getD (entryAt candidates t) 0 0; b = getD (entryAt candidates t) 1 0; c = getD (entryAt candidates t) 2 0; weight = getD weights t 0; row = w })
+      ap (λ (w : ℕ). record {
+        a = getD (entryAt candidates t) 0 0;
+        b = getD (entryAt candidates t) 1 0;
+        c = getD (entryAt candidates t) 2 0;
+        weight = getD weights t 0;
+        row = w;
+      })
       (under-same rows rows′ h patch t)
 
 -- candidates that are the same where the patch has its triangles
@@ -78,7 +84,8 @@ pub under-members : (candidates candidates′ rows : List (List ℕ)) (patch : L
     rowUnder candidates rows patch t ≡ rowUnder candidates′ rows patch t
 under-members candidates candidates′ rows [] t e h = refl
 under-members candidates candidates′ rows (o ∷ patch) t e h =
-    let rest : rowUnder candidates rows patch t ≡ rowUnder candidates′ rows patch t = under-members candidates candidates′ rows patch t e (λ u m. h u (List·Memᴰ·tail m)) in
+    let rest : rowUnder candidates rows patch t ≡ rowUnder candidates′ rows patch t =
+    under-members candidates candidates′ rows patch t e (λ u m. h u (List·Memᴰ·tail m)) in
     let first : entryAt candidates o ≡ entryAt candidates′ o = h o (List·Memᴰ·head refl) in
     (λ i. cond (hangs (e i) (first i)) (pairWeight rows o t) (rest i))
 

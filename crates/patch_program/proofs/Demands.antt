@@ -74,7 +74,8 @@ module _ (file : List ℕ) (v : ValidPolygon (polygonOf file)) (lent : Tables) (
   good = valid-job p v
 
   abbrev left : List ℕ → List ℕ → Tables
-  left triangles work = tables triangles (filled (candidatesOf p) (lent .candidates)) (filled (weightsIn p) (lent .weights)) (filled (rowsIn p) (lent .rows)) work
+  left triangles work =
+      tables triangles (filled (candidatesOf p) (lent .candidates)) (filled (weightsIn p) (lent .weights)) (filled (rowsIn p) (lent .rows)) work
 
   module _ (triangles work : List ℕ) (size total : ℕ) (many : size ≡ job .n - 2) (h : HandedBack job total (partOf (Patch size total) triangles)) where
     abbrev patch : List ℕ
@@ -172,7 +173,8 @@ module _ (file : List ℕ) (v : ValidPolygon (polygonOf file)) (lent : Tables) (
   of-handed : (o : Outcome) (triangles work : List ℕ) → Handed job (partOf o triangles) o → LinesHold file (patching o (left triangles work))
   of-handed (Patch size total) triangles work (with-patch many h) = of-patch triangles work size total many h
   of-handed None triangles work (with-none e) = empty file None (left triangles work) e refl (λ c x d. let z : _≡_ {A = ℕ} 0 1 = cc in omega arith)
-  of-handed (Refused r) triangles work (with-refusal e) = empty file (Refused r) (left triangles work) e refl (λ c x d. let z : _≡_ {A = ℕ} 0 1 = cc in omega arith)
+  of-handed (Refused r) triangles work (with-refusal e) =
+      empty file (Refused r) (left triangles work) e refl (λ c x d. let z : _≡_ {A = ℕ} 0 1 = cc in omega arith)
 
   of-patched : LinesHold file (patched (polygonOf file) lent)
   of-patched = of-handed _ _ _ (settled-handed job good (length (candidatesOf p)) (lent .triangles) (lent .work))
@@ -185,4 +187,6 @@ lines-hold limit file = by (fileNumber limit file emptyTables) refl emptyTables 
     by : (k : ℕ) → fileNumber limit file emptyTables ≡ k → (lent : Tables) (n : ℕ) → lent .rows ≡ replicate n (triple 0 0 0) →
         (fileNumber limit file emptyTables ≡ 0 → ValidPolygon (polygonOf file)) → LinesHold file (patchBy k (polygonOf file) lent)
     by zero e lent n z v = of-patched file (v e) lent n z
-    by (suc k) e lent n z v = empty file (Refused (refusal (suc k))) lent (part-empty (Refused (refusal (suc k))) (lent .triangles) refl) refl (λ c x d. let z : _≡_ {A = ℕ} 0 1 = cc in omega arith)
+    by (suc k) e lent n z v =
+        empty file (Refused (refusal (suc k))) lent (part-empty (Refused (refusal (suc k))) (lent .triangles) refl) refl
+        (λ c x d. let z : _≡_ {A = ℕ} 0 1 = cc in omega arith)

@@ -12,7 +12,8 @@ use Rattle.lists.proofs.Choice.{Truth, truth, holds, fails, both-right, both-tr
 use Rattle.lists.proofs.Ranges.{every-at}
 use Rattle.terms.specs.Entries.{entryAt, hangs}
 use Rattle.lists.specs.Sums.{only, sum, keep, joined}
-use Rattle.triangulation.specs.Triangulations.{Problem, ValidProblem, longEdge, shortEdge, countBetween, countOutside, isBoundary, edgeOk, isTriangulation, totalWeight, preorderFrom, preorder}
+use Rattle.triangulation.specs.Triangulations.{Problem, ValidProblem, longEdge, shortEdge, countBetween, countOutside}
+use Rattle.triangulation.specs.Triangulations.{isBoundary, edgeOk, isTriangulation, totalWeight, preorderFrom, preorder}
 use Rattle.triangulation.specs.Problems.{pairWeight, problemFrom}
 use Rattle.triangulation.specs.Demand3.{Triangulates}
 use Rattle.triangulation.proofs.Sums.{Mem, count, sum-ext, sum-add, sum-swap, sum-keep, keep-mem, keep-one, keep-none, mem-count}
@@ -102,20 +103,27 @@ module _ (n : ℕ) (candidates : List (List ℕ)) (weights : List ℕ) (rows : L
 
       edge : edgeOk job (isBoundary job (job .a t) (job .c t)) (countBetween job s (job .a t) (job .c t)) (countOutside job s (job .a t) (job .c t)) ≡ true
       unfolding isTriangulation
-      edge = every-at 0 (job .c t) _ (every-at 0 (job .n) _ (h .1) (job .c t) (omega arith) (good .cn t in-size)) (job .a t) (omega arith) (omega (arith, good .ab t in-size, good .bc t in-size))
+      edge =
+          every-at 0 (job .c t) _ (every-at 0 (job .n) _ (h .1) (job .c t) (omega arith) (good .cn t in-size)) (job .a t)
+          (omega arith) (omega (arith, good .ab t in-size, good .bc t in-size))
 
       few-in-set : countOutside job s (job .a t) (job .c t) ≤ 1
-      few-in-set = few-outside job (isBoundary job (job .a t) (job .c t)) (countBetween job s (job .a t) (job .c t)) (countOutside job s (job .a t) (job .c t)) between edge
+      few-in-set =
+          few-outside job (isBoundary job (job .a t) (job .c t)) (countBetween job s (job .a t) (job .c t))
+          (countOutside job s (job .a t) (job .c t)) between edge
 
       none-in-set : isBoundary job (job .a t) (job .c t) ≡ true → countOutside job s (job .a t) (job .c t) ≡ 0
-      none-in-set b = none-outside job (isBoundary job (job .a t) (job .c t)) (countBetween job s (job .a t) (job .c t)) (countOutside job s (job .a t) (job .c t)) b between edge
+      none-in-set b =
+          none-outside job (isBoundary job (job .a t) (job .c t)) (countBetween job s (job .a t) (job .c t))
+          (countOutside job s (job .a t) (job .c t)) b between edge
 
       -- as the test of hanging counts them
       outers : count (on t) (preorder job s) ≡ countOutside job s (job .a t) (job .c t)
       unfolding countOutside
       outers =
           sym (preorder-sum job good s (members job good s h) (h .1) (λ o. only (on t o) 1))
-          ∙ sum-ext (λ o. only (on t o) 1) (λ o. only (shortEdge job (job .a t) (job .c t) o) 1) s (λ o k. ap (λ (b : Bool). only b 1) (hangs-is n candidates weights rows t o))
+          ∙ sum-ext (λ o. only (on t o) 1) (λ o. only (shortEdge job (job .a t) (job .c t) o) 1) s
+          (λ o k. ap (λ (b : Bool). only b 1) (hangs-is n candidates weights rows t o))
 
     in-set : (t : ℕ) → Mem t (preorder job s) → Mem t s
     in-set = preorder-mem job good s (members job good s h) (h .1)
@@ -129,7 +137,8 @@ module _ (n : ℕ) (candidates : List (List ℕ)) (weights : List ℕ) (rows : L
     root-row t rest e =
         let m : Mem t s = in-set t (subst (Mem t) (sym e) (List·Memᴰ·head refl)) in
         let ends = both-eq (job .a t) 0 (job .c t) (job .n - 1) (root job s (job .n) 0 (job .n - 1) t rest e) in
-        let rim : isBoundary job (job .a t) (job .c t) ≡ true = either-right (eqb (job .c t) (job .a t + 1)) _ (both-true (eq-eqb (job .a t) 0 (ends .0)) (eq-eqb (job .c t) (job .n - 1) (ends .1))) in
+        let rim : isBoundary job (job .a t) (job .c t) ≡ true =
+        either-right (eqb (job .c t) (job .a t + 1)) _ (both-true (eq-eqb (job .a t) 0 (ends .0)) (eq-eqb (job .c t) (job .n - 1) (ends .1))) in
         by-first t (preorder job s) ∙ ap (first t) (keep-none (on t) (preorder job s) (outers t m ∙ none-in-set t m rim))
 
     -- the weights of the triangles and their row weights add up to the total
@@ -141,9 +150,12 @@ module _ (n : ℕ) (candidates : List (List ℕ)) (weights : List ℕ) (rows : L
         let pair : ℕ → ℕ → ℕ = λ t o. only (on t o) (pairWeight rows o t) in
         let same : (f : ℕ → ℕ) → sum f s ≡ sum f patch = preorder-sum job good s (members job good s h) (h .1) in
         let per-outer : (o : ℕ) → sum (λ i. only (shortEdge job (job .a i) (job .c i) o) (job .row o i)) s ≡ sum (λ i. pair i o) patch =
-        λ o. sum-ext _ (λ i. pair i o) s (λ i m. ap (λ (b : Bool). only b (pairWeight rows o i)) (sym (hangs-is n candidates weights rows i o))) ∙ same (λ i. pair i o) in
+        λ o. sum-ext _ (λ i. pair i o) s (λ i m. ap (λ (b : Bool). only b (pairWeight rows o i)) (sym (hangs-is n candidates weights rows i o)))
+        ∙ same (λ i. pair i o) in
         sum-add own (rowUnder candidates rows patch) patch
-        ∙ ap (λ (x : ℕ). sum own patch + x) (sum-ext (rowUnder candidates rows patch) (λ t. sum (pair t) patch) patch (λ t m. as-sum t patch (few-outers t m)) ∙ sum-swap pair patch patch)
+        ∙ ap (λ (x : ℕ). sum own patch + x)
+        (sum-ext (rowUnder candidates rows patch) (λ t. sum (pair t) patch) patch (λ t m. as-sum t patch (few-outers t m))
+        ∙ sum-swap pair patch patch)
         ∙ sym (sum-add own (λ o. sum (λ i. pair i o) patch) patch)
         ∙ sym (same (λ o. own o + sum (λ i. pair i o) patch))
         ∙ sym (sum-ext _ (λ o. own o + sum (λ i. pair i o) patch) s (λ o m. ap (λ (x : ℕ). own o + x) (per-outer o)))

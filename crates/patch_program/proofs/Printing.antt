@@ -39,7 +39,11 @@ module _ (limit : ℕ) (file : List ℕ) (lent : Tables) {o : Outcome} {t w k : 
   -- a patch has no more triangles than there are places for lines
   pub few-triangles : trianglesOf o ≤ linePlaces
   few-triangles =
-      omega (arith, ap (λ (v : Values). v .triangles) (file-values limit file lent e .1), by (fileNumber limit file lent) refl (best (problemIn (polygonOf file))))
+      omega (
+        arith,
+        ap (λ (v : Values). v .triangles) (file-values limit file lent e .1),
+        by (fileNumber limit file lent) refl (best (problemIn (polygonOf file))),
+      )
     where
       by : (k : ℕ) → fileNumber limit file lent ≡ k → (a : Answer) → dueValues k (polygonOf file .n) a .triangles ≤ linePlaces
       by (suc k) d a = omega arith
@@ -67,5 +71,9 @@ module _ (limit : ℕ) (file : List ℕ) {o : Outcome} {t w k : List ℕ} {c r :
   printed dv dn dp dl =
       (λ i. record { outcome = o; vertices = dv i; lines = dl i })
       ∙ (λ i. record { outcome = o; vertices = verticesOf o; lines = inPlaces (linesOf c w (take (dn i) r) (dp i)) })
-      ∙ (λ i. record { outcome = o; vertices = verticesOf o; lines = inPlaces (map (λ x. line-same c w (take (rowCount r) r) r same-rows (partOf o t) x i) (partOf o t)) })
+      ∙ (λ i. record {
+        outcome = o;
+        vertices = verticesOf o;
+        lines = inPlaces (map (λ x. line-same c w (take (rowCount r) r) r same-rows (partOf o t) x i) (partOf o t));
+      })
       ∙ ap printoutAfter e

@@ -28,7 +28,9 @@ use Rattle.pipeline.specs.Sizes.{sizesNumber, sizesFile}
 module _ (limit : ℕ) (s : List ℕ) {r : Reading} (e : r ≡ readingOf limit s) where
   read-none : r .status ≡ status.Complete → (j : ℕ) → reader.numberDue limit s ≡ j → reader.numberDue limit s ≡ 0
   read-none d zero n = n
-  read-none d (suc j) n = absurd (let b : status.Complete ≡ status.Refused (refusal (suc j)) = sym d ∙ ap (λ (x : Reading). x .status) e ∙ ap (λ (m : ℕ). answer m (polygonOf s) .status) n in let z : _≡_ {A = ℕ} 0 1 = cc in omega arith)
+  read-none d (suc j) n =
+      absurd (let b : status.Complete ≡ status.Refused (refusal (suc j)) = sym d ∙ ap (λ (x : Reading). x .status) e
+      ∙ ap (λ (m : ℕ). answer m (polygonOf s) .status) n in let z : _≡_ {A = ℕ} 0 1 = cc in omega arith)
 
   read-polygon : r .status ≡ status.Complete → r .polygon ≡ polygonOf s
   read-polygon d = ap (λ (x : Reading). x .polygon) e ∙ ap (λ (m : ℕ). answer m (polygonOf s) .polygon) (read-none d (reader.numberDue limit s) refl)
@@ -37,7 +39,8 @@ module _ (limit : ℕ) (s : List ℕ) {r : Reading} (e : r ≡ readingOf limit s
   first-read d f = ap (λ (m : ℕ). firstDue m (f (polygonOf s))) (read-none d (reader.numberDue limit s) refl) ∙ ap f (sym (read-polygon d))
 
   -- a call by its number: on a refusal, and on a file that is read
-  module _ {A : Type 0} (call : ℕ → Polygon → A) (refuse : Refusal → A) (refuses : (k : ℕ) → call (suc k) (polygonOf s) ≡ refuse (refusal (suc k))) (f : Polygon → ℕ) where
+  module _ {A : Type 0} (call : ℕ → Polygon → A) (refuse : Refusal → A)
+      (refuses : (k : ℕ) → call (suc k) (polygonOf s) ≡ refuse (refusal (suc k))) (f : Polygon → ℕ) where
     by-refusal : {k : Refusal} → r .status ≡ status.Refused k → refuse k ≡ call (firstDue (reader.numberDue limit s) (f (polygonOf s))) (polygonOf s)
     by-refusal {k} d = by (reader.numberDue limit s) refl
       where
@@ -52,19 +55,26 @@ module _ (limit : ℕ) (s : List ℕ) {r : Reading} (e : r ≡ readingOf limit s
             ap refuse c ∙ sym (refuses j) ∙ sym (ap (λ (m : ℕ). call (firstDue m (f (polygonOf s))) (polygonOf s)) n)
 
     by-polygon : r .status ≡ status.Complete → call (f (r .polygon)) (r .polygon) ≡ call (firstDue (reader.numberDue limit s) (f (polygonOf s))) (polygonOf s)
-    by-polygon d = ap (λ (m : ℕ). call m (r .polygon)) (sym (first-read d f)) ∙ ap (call (firstDue (reader.numberDue limit s) (f (polygonOf s)))) (read-polygon d)
+    by-polygon d =
+        ap (λ (m : ℕ). call m (r .polygon)) (sym (first-read d f))
+        ∙ ap (call (firstDue (reader.numberDue limit s) (f (polygonOf s)))) (read-polygon d)
 
 module _ (limit : ℕ) (s : List ℕ) (t : Tables) {r : Reading} where
   pub file-refused : {k : Refusal} → r .status ≡ status.Refused k → r ≡ readingOf limit s → patching (Refused k) t ≡ patchFile limit s t
   unfolding patchFile
-  file-refused d e = by-refusal limit s e (λ (k : ℕ) (p : Polygon). patchBy k p t) (λ (k : Refusal). patching (Refused k) t) (λ k. refl) (λ (p : Polygon). polygonNumber p t) d
+  file-refused d e =
+      by-refusal limit s e (λ (k : ℕ) (p : Polygon). patchBy k p t) (λ (k : Refusal). patching (Refused k) t)
+      (λ k. refl) (λ (p : Polygon). polygonNumber p t) d
 
   pub file-read : {x : Patching} → r .status ≡ status.Complete → r ≡ readingOf limit s → x ≡ patchPolygon (r .polygon) t → x ≡ patchFile limit s t
   unfolding patchFile patchPolygon
-  file-read d e f = f ∙ by-polygon limit s e (λ (k : ℕ) (p : Polygon). patchBy k p t) (λ (k : Refusal). patching (Refused k) t) (λ k. refl) (λ (p : Polygon). polygonNumber p t) d
+  file-read d e f =
+      f ∙ by-polygon limit s e (λ (k : ℕ) (p : Polygon). patchBy k p t) (λ (k : Refusal). patching (Refused k) t)
+      (λ k. refl) (λ (p : Polygon). polygonNumber p t) d
 
 -- the equation of the sizing call gives its number and places
-sized-values : (limit : ℕ) (s : List ℕ) {x : Sizes} → x ≡ sizesFile limit s → (x ≡ sizesFile limit s) × ((numberOf x ≡ sizesNumber limit s) × (placesIn x ≡ duePlaces (sizesNumber limit s) (polygonOf s)))
+sized-values : (limit : ℕ) (s : List ℕ) {x : Sizes} → x ≡ sizesFile limit s →
+    (x ≡ sizesFile limit s) × ((numberOf x ≡ sizesNumber limit s) × (placesIn x ≡ duePlaces (sizesNumber limit s) (polygonOf s)))
 unfolding sizesFile
 sized-values limit s e = sizes-values (polygonOf s) (sizesNumber limit s) e
 
@@ -77,7 +87,8 @@ module _ (limit : ℕ) (s : List ℕ) {r : Reading} where
   pub sizes-read : {x : Sizes} → r .status ≡ status.Complete → r ≡ readingOf limit s → x ≡ sizesOf (r .polygon) →
       (x ≡ sizesFile limit s) × ((numberOf x ≡ sizesNumber limit s) × (placesIn x ≡ duePlaces (sizesNumber limit s) (polygonOf s)))
   unfolding sizesFile
-  sizes-read d e f = sized-values limit s (f ∙ by-polygon limit s e sizesBy (λ (k : Refusal). sizes.Refused k) (λ k. refl) (λ (p : Polygon). numberDue false p) d)
+  sizes-read d e f =
+      sized-values limit s (f ∙ by-polygon limit s e sizesBy (λ (k : Refusal). sizes.Refused k) (λ k. refl) (λ (p : Polygon). numberDue false p) d)
 
 -- ---- the finder's call, by the answer of the reader
 abbrev findAfter : Status → Polygon → List (List ℕ) → List ℕ → List (List ℕ) → Finding

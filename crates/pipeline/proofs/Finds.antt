@@ -32,7 +32,9 @@ module _ (p : Polygon) (triangles : List ℕ) (candidates : List (List ℕ)) (we
   -- the finder's number is that of the call
   number-same : number ≡ polygonNumber p lent
   unfolding tablesShort
-  number-same = ap (λ (b : Bool). numberDue b p) (sym (either-assoc (ltb (length triangles) (p .n - 2)) (ltb (length work) (length (candidatesOf p))) (shortTables p candidates weights rows)))
+  number-same =
+      ap (λ (b : Bool). numberDue b p)
+      (sym (either-assoc (ltb (length triangles) (p .n - 2)) (ltb (length work) (length (candidatesOf p))) (shortTables p candidates weights rows)))
 
   asOutcome : Found → Outcome
   asOutcome (Lists x y) = None
@@ -49,7 +51,8 @@ module _ (p : Polygon) (triangles : List ℕ) (candidates : List (List ℕ)) (we
   unfolding patchPolygon asOutcome asPatching
   find-refused {f} {k} {c} {r} {w} d e = by number (ap (λ (g : Found). finding g c w r) (sym d) ∙ e) ∙ ap (λ (n : ℕ). patchBy n p lent) number-same
     where
-      by : (n : ℕ) → finding (found.Refused k) c w r ≡ findBy n p candidates weights rows → patching (Refused k) (tables triangles c w r work) ≡ patchBy n p lent
+      by : (n : ℕ) → finding (found.Refused k) c w r ≡ findBy n p candidates weights rows →
+          patching (Refused k) (tables triangles c w r work) ≡ patchBy n p lent
       by zero e =
           let f : found.Refused k ≡ Lists (length (candidatesOf p)) (length (rowsIn p)) = ap (λ (g : Finding). g .answer) e in
           absurd (let n : _≡_ {A = ℕ} 0 1 = cc in omega arith)
@@ -64,7 +67,8 @@ module _ (p : Polygon) (triangles : List ℕ) (candidates : List (List ℕ)) (we
     pub weights-are : w ≡ filled (weightsIn p) weights
     pub rows-are : r ≡ filled (rowsIn p) rows
 
-  pub find-lists : {x y : ℕ} {c r : List (List ℕ)} {w : List ℕ} → finding (Lists x y) c w r ≡ findBesideCall p (length triangles) (length work) candidates weights rows →
+  pub find-lists : {x y : ℕ} {c r : List (List ℕ)} {w : List ℕ} →
+      finding (Lists x y) c w r ≡ findBesideCall p (length triangles) (length work) candidates weights rows →
       Lists-found x y c r w
   find-lists {x} {y} {c} {r} {w} e = by number refl e
     where

@@ -70,7 +70,8 @@ module _ (p : Polygon) (triangles : List ℕ) (candidates : List (List ℕ)) (we
         row-places = filled-room (rowsIn p) rows (lists .row-count) (lists .rows-are);
         work-places = omega (arith, lists .count, places .work-room);
         triangle-places = omega (arith, places .triangle-room, v .least);
-        formed = rw (first-candidates, first-weights, first-rows) (well-formed (jobOf (p .n) (candidatesOf p) (weightsIn p) (rowsIn p)) (v .least) (v .most) (lists-accepted p v));
+        formed = rw (first-candidates, first-weights, first-rows)
+            (well-formed (jobOf (p .n) (candidatesOf p) (weightsIn p) (rowsIn p)) (v .least) (v .most) (lists-accepted p v));
       }
 
   pub patched-all : {o : Outcome} {t k : List ℕ} → result o t k ≡ settled (best (problemFrom (p .n) (take x c) (take x w) (take y r))) x triangles work →

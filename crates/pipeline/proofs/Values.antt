@@ -19,7 +19,8 @@ use Rattle.triangulation.proofs.Demand3.{best-length}
 use Rattle.triangulator.specs.declared.Outcome.{Outcome}
 use Rattle.triangulator.specs.Call.{values, valuesOf, answerValues, dueValues, settled}
 use Rattle.triangulator.proofs.Accepting.{well-formed}
-use Rattle.pipeline.specs.Patching.{Tables, Patching, patching, weightsIn, rowsIn, problemIn, tablesShort, patchBy, polygonNumber, patchPolygon, fileNumber, patchFile}
+use Rattle.pipeline.specs.Patching.{Tables, Patching, patching, weightsIn, rowsIn, problemIn, tablesShort}
+use Rattle.pipeline.specs.Patching.{patchBy, polygonNumber, patchPolygon, fileNumber, patchFile}
 use Rattle.pipeline.proofs.Accepted.{lists-accepted}
 
 pub valid-job : (p : Polygon) → ValidPolygon p → triangulations.ValidProblem (problemIn p)

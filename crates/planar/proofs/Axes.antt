@@ -90,7 +90,8 @@ same-circle k {e} a = go (equal (dotOf n e) (pos 0)) refl
     along : Vector → Sphere
     along e = turned (dotOf n e) (plus (crossOf (k .weighted) e) (scaledBy (pos 0) n))
 
-    go : (b : Bool) → equal (dotOf n e) (pos 0) ≡ b → sphereOf k (record { vector = e; square = pos 0 }) ≡ sphereOf k (record { vector = axisAcross n; square = pos 0 })
+    go : (b : Bool) → equal (dotOf n e) (pos 0) ≡ b →
+        sphereOf k (record { vector = e; square = pos 0 }) ≡ sphereOf k (record { vector = axisAcross n; square = pos 0 })
     go true h =
         let zero = zero-along n (axisAcross n) (a .along (equal-yes (dotOf n e) (pos 0) h)) in
         ap (λ (b : Bool). cond b noSphere (along e)) h ∙ sym (ap (λ (b : Bool). cond b noSphere (along (axisAcross n))) (equal-is zero))

@@ -29,12 +29,15 @@ maxPower = 3 * (maxSquare * maxNormal)
 
 -- a determinant of differences and their squares
 module _ {u v t : Vector} (hu : Within maxDifference u) (hv : Within maxDifference v) (ht : Within maxDifference t) where
-  minor : {a b c d : ℤ} → AtMost maxDifference a → AtMost maxDifference b → AtMost maxDifference c → AtMost maxDifference d → AtMost maxNormal (a *ℤ d -ℤ b *ℤ c)
+  minor : {a b c d : ℤ} → AtMost maxDifference a → AtMost maxDifference b → AtMost maxDifference c → AtMost maxDifference d →
+      AtMost maxNormal (a *ℤ d -ℤ b *ℤ c)
   minor ha hb hc hd = at-most-sub (at-most-mul ha hd) (at-most-mul hb hc)
 
-  bounded : {a b c d e f : ℤ} → AtMost maxDifference a → AtMost maxDifference b → AtMost maxDifference c → AtMost maxDifference d → AtMost maxDifference e → AtMost maxDifference f → AtMost maxPower (determinant u v t a b c d e f)
+  bounded : {a b c d e f : ℤ} → AtMost maxDifference a → AtMost maxDifference b → AtMost maxDifference c → AtMost maxDifference d →
+      AtMost maxDifference e → AtMost maxDifference f → AtMost maxPower (determinant u v t a b c d e f)
   bounded ha hb hc hd he hf =
-      at-most-add (at-most-sub (at-most-mul (at-most-dot hu hu) (minor hc hd he hf)) (at-most-mul (at-most-dot hv hv) (minor ha hb he hf))) (at-most-mul (at-most-dot ht ht) (minor ha hb hc hd))
+      at-most-add (at-most-sub (at-most-mul (at-most-dot hu hu) (minor hc hd he hf)) (at-most-mul (at-most-dot hv hv) (minor ha hb he hf)))
+      (at-most-mul (at-most-dot ht ht) (minor ha hb hc hd))
 
   along-bound : (n : Vector) → AtMost maxPower (powerAlong u v t (axisAcross n))
   along-bound n = go (equal (n .x) (pos 0)) (equal (n .y) (pos 0))
@@ -58,7 +61,8 @@ power-turned o c w h = go (ltZ o (pos 0))
     go false = h
 
 -- what `sphere::locate` compares with 0, for points of the grid
-pub power-bound : {p q r w : GridPoint} → PointOnGrid p → PointOnGrid q → PointOnGrid r → PointOnGrid w → AtMost maxPower (powerOf (computedCircle p q r) (liftOf p w))
+pub power-bound : {p q r w : GridPoint} → PointOnGrid p → PointOnGrid q → PointOnGrid r → PointOnGrid w →
+    AtMost maxPower (powerOf (computedCircle p q r) (liftOf p w))
 power-bound {p} {q} {r} {w} hp hq hr hw = go (equal (dotOf (normalOf p q r) (axisAcross (normalOf p q r))) (pos 0))
   where
     u : Vector
@@ -67,7 +71,9 @@ power-bound {p} {q} {r} {w} hp hq hr hw = go (equal (dotOf (normalOf p q r) (axi
     v : Vector
     v = differenceOf r p
 
-    go : (b : Bool) → AtMost maxPower (powerOf (cond b noSphere (turned (dotOf (normalOf p q r) (axisAcross (normalOf p q r))) (seen u v (axisAcross (normalOf p q r)) (differenceOf w p)))) (liftOf p w))
+    go : (b : Bool) → AtMost maxPower
+        (powerOf (cond b noSphere
+        (turned (dotOf (normalOf p q r) (axisAcross (normalOf p q r))) (seen u v (axisAcross (normalOf p q r)) (differenceOf w p)))) (liftOf p w))
     go true = at-most-as (power-none (liftOf p w)) at-most-zero
     go false =
         power-turned (dotOf (normalOf p q r) (axisAcross (normalOf p q r))) (seen u v (axisAcross (normalOf p q r)) (differenceOf w p)) (liftOf p w)

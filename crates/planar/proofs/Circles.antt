@@ -75,7 +75,8 @@ module _ (u v : Vector) where
   power-v = ring values (powerE (vec 3)) (con (pos 0)) tt
 
 module _ (p q r : GridPoint) where
-  at-corner : (w : GridPoint) → squareOf (normalOf p q r) *ℤ squareOf (differenceOf w p) -ℤ dotOf (circumcentreOf p q r) (differenceOf w p) ≡ pos 0 → distanceInPlane p q r w ≡ distanceInPlane p q r p
+  at-corner : (w : GridPoint) → squareOf (normalOf p q r) *ℤ squareOf (differenceOf w p) -ℤ dotOf (circumcentreOf p q r) (differenceOf w p) ≡ pos 0 →
+      distanceInPlane p q r w ≡ distanceInPlane p q r p
   unfolding distanceInPlane
   at-corner w h =
       let s = squareOf (normalOf p q r) in
@@ -110,21 +111,29 @@ module _ (p q r : GridPoint) where
 module _ (u v c : Vector) where
   abbrev spreadE : VectorE
   spreadE =
-      plusE (plusE (scaledE (con (pos 2) :* dotE (vec 6) (vec 0)) (crossE (vec 3) normalE)) (scaledE (con (pos 2) :* dotE (vec 6) (vec 3)) (crossE normalE (vec 0))))
+      plusE (plusE (scaledE (con (pos 2) :* dotE (vec 6) (vec 0)) (crossE (vec 3) normalE))
+      (scaledE (con (pos 2) :* dotE (vec 6) (vec 3)) (crossE normalE (vec 0))))
       (scaledE (dotE normalE (vec 6)) (scaledE (con (pos 2)) normalE))
 
   spread :
       scaledBy (pos 2 *ℤ squareOf (crossOf u v)) c
-      ≡ plus (plus (scaledBy (pos 2 *ℤ dotOf c u) (crossOf v (crossOf u v))) (scaledBy (pos 2 *ℤ dotOf c v) (crossOf (crossOf u v) u))) (scaledBy (dotOf (crossOf u v) c) (scaledBy (pos 2) (crossOf u v)))
+      ≡ plus (plus (scaledBy (pos 2 *ℤ dotOf c u) (crossOf v (crossOf u v))) (scaledBy (pos 2 *ℤ dotOf c v) (crossOf (crossOf u v) u)))
+      (scaledBy (dotOf (crossOf u v) c) (scaledBy (pos 2) (crossOf u v)))
   spread =
       let a = scaledE (con (pos 2) :* dotE normalE normalE) (vec 6) in
-      λ i. record { x = ring (ofVectors u v c) (a .X) (spreadE .X) tt i; y = ring (ofVectors u v c) (a .Y) (spreadE .Y) tt i; z = ring (ofVectors u v c) (a .Z) (spreadE .Z) tt i }
+      λ i. record {
+        x = ring (ofVectors u v c) (a .X) (spreadE .X) tt i;
+        y = ring (ofVectors u v c) (a .Y) (spreadE .Y) tt i;
+        z = ring (ofVectors u v c) (a .Z) (spreadE .Z) tt i;
+      }
 
   gathered : (k : ℤ) →
-      plus (plus (scaledBy (k *ℤ squareOf u) (crossOf v (crossOf u v))) (scaledBy (k *ℤ squareOf v) (crossOf (crossOf u v) u))) (scaledBy (pos 0) (scaledBy (pos 2) (crossOf u v)))
+      plus (plus (scaledBy (k *ℤ squareOf u) (crossOf v (crossOf u v))) (scaledBy (k *ℤ squareOf v) (crossOf (crossOf u v) u)))
+      (scaledBy (pos 0) (scaledBy (pos 2) (crossOf u v)))
       ≡ scaledBy k (centre u v)
   gathered k =
-      let a = plusE (plusE (scaledE (var 9 :* dotE (vec 0) (vec 0)) (crossE (vec 3) normalE)) (scaledE (var 9 :* dotE (vec 3) (vec 3)) (crossE normalE (vec 0)))) (scaledE (con (pos 0)) (scaledE (con (pos 2)) normalE)) in
+      let a = plusE (plusE (scaledE (var 9 :* dotE (vec 0) (vec 0)) (crossE (vec 3) normalE))
+      (scaledE (var 9 :* dotE (vec 3) (vec 3)) (crossE normalE (vec 0)))) (scaledE (con (pos 0)) (scaledE (con (pos 2)) normalE)) in
       let b = scaledE (var 9) centreE in
       let l = u .x ∷ u .y ∷ u .z ∷ v .x ∷ v .y ∷ v .z ∷ c .x ∷ c .y ∷ c .z ∷ k ∷ [] in
       λ i. record { x = ring l (a .X) (b .X) tt i; y = ring l (a .Y) (b .Y) tt i; z = ring l (a .Z) (b .Z) tt i }
@@ -156,7 +165,11 @@ module _ (u v : Vector) where
   centre-swap-uv : centre v u ≡ centre u v
   centre-swap-uv =
       let a = swapped (vec 3) (vec 0) in
-      λ i. record { x = ring (values u v) (a .X) (centreE .X) tt i; y = ring (values u v) (a .Y) (centreE .Y) tt i; z = ring (values u v) (a .Z) (centreE .Z) tt i }
+      λ i. record {
+        x = ring (values u v) (a .X) (centreE .X) tt i;
+        y = ring (values u v) (a .Y) (centreE .Y) tt i;
+        z = ring (values u v) (a .Z) (centreE .Z) tt i;
+      }
 
   -- seen from the second corner: the first is at -u, the third at v - u
   square-shift : squareOf (crossOf (opposite u) (minus v u)) ≡ squareOf (crossOf u v)
@@ -213,7 +226,9 @@ module _ (p q r w : GridPoint) where
 module _ (p q r w : GridPoint) where
   pub position-swap-qr : positionInPlane p r q w ≡ positionInPlane p q r w
   unfolding positionInPlane
-  position-swap-qr = λ i. cond (ltZ (distance-swap-qr p q r w i) (distance-swap-qr p q r p i)) Inside (cond (equal (distance-swap-qr p q r w i) (distance-swap-qr p q r p i)) On Outside)
+  position-swap-qr =
+      λ i. cond (ltZ (distance-swap-qr p q r w i) (distance-swap-qr p q r p i)) Inside
+      (cond (equal (distance-swap-qr p q r w i) (distance-swap-qr p q r p i)) On Outside)
 
   pub position-swap-pq : positionInPlane q p r w ≡ positionInPlane p q r w
   unfolding positionInPlane

@@ -44,7 +44,11 @@ module _ (d u v : Vector) where
   gone : minus (scaledBy (dotOf d u) zeroVector) (crossOf (crossOf d zeroVector) v) ≡ zeroVector
   gone =
       let a = minusE (scaledE (dotE (vec 0) (vec 3)) noneE) (crossE (crossE (vec 0) noneE) (vec 6)) in
-      λ i. record { x = ring (ofVectors d u v) (a .X) (con (pos 0)) tt i; y = ring (ofVectors d u v) (a .Y) (con (pos 0)) tt i; z = ring (ofVectors d u v) (a .Z) (con (pos 0)) tt i }
+      λ i. record {
+        x = ring (ofVectors d u v) (a .X) (con (pos 0)) tt i;
+        y = ring (ofVectors d u v) (a .Y) (con (pos 0)) tt i;
+        z = ring (ofVectors d u v) (a .Z) (con (pos 0)) tt i;
+      }
     where
       noneE : VectorE
       noneE = record { X = con (pos 0); Y = con (pos 0); Z = con (pos 0) }
@@ -60,7 +64,8 @@ module _ (d u v : Vector) where
       }
 
 -- a difference of two points of a line
-between : (d : Vector) (o p q : GridPoint) → crossOf d (differenceOf p o) ≡ zeroVector → crossOf d (differenceOf q o) ≡ zeroVector → crossOf d (differenceOf q p) ≡ zeroVector
+between : (d : Vector) (o p q : GridPoint) → crossOf d (differenceOf p o) ≡ zeroVector → crossOf d (differenceOf q o) ≡ zeroVector →
+    crossOf d (differenceOf q p) ≡ zeroVector
 between d o p q hp hq =
     (λ i. record { x = ring known (a .X) (b .X) tt i; y = ring known (a .Y) (b .Y) tt i; z = ring known (a .Z) (b .Z) tt i })
     ∙ (λ i. minus (hq i) (hp i))
@@ -78,8 +83,10 @@ pub line-threes : (at : ℕ → GridPoint) (n : ℕ) → OnOneLine at n → Thre
 line-threes at n h = record {
   three = λ i j k p q r.
       let d = h .direction in
-      let from : (l : ℕ) → l < n → crossOf d (differenceOf (at l) (at i)) ≡ zeroVector = λ l b. between d (h .point) (at i) (at l) (h .lies i (omega arith)) (h .lies l b) in
-      equal-is (vanished (normalOf (at i) (at j) (at k)) (parallel d (differenceOf (at j) (at i)) (differenceOf (at k) (at i)) (h .proper) (from j (omega arith)) (from k r)));
+      let from : (l : ℕ) → l < n → crossOf d (differenceOf (at l) (at i)) ≡ zeroVector =
+      λ l b. between d (h .point) (at i) (at l) (h .lies i (omega arith)) (h .lies l b) in
+      equal-is (vanished (normalOf (at i) (at j) (at k))
+      (parallel d (differenceOf (at j) (at i)) (differenceOf (at k) (at i)) (h .proper) (from j (omega arith)) (from k r)));
 }
 
 -- ---- from the threes to the line

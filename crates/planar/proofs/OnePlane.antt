@@ -31,7 +31,9 @@ module _ (n u v t : Vector) where
   fourE = orientE (vec 3) (vec 6) (vec 9)
 
   abbrev sumE : VectorE
-  sumE = plusE (plusE (scaledE (dotE (vec 0) (vec 3)) (crossE (vec 6) (vec 9))) (scaledE (dotE (vec 0) (vec 6)) (crossE (vec 9) (vec 3)))) (scaledE (dotE (vec 0) (vec 9)) (crossE (vec 3) (vec 6)))
+  sumE =
+      plusE (plusE (scaledE (dotE (vec 0) (vec 3)) (crossE (vec 6) (vec 9))) (scaledE (dotE (vec 0) (vec 6)) (crossE (vec 9) (vec 3))))
+      (scaledE (dotE (vec 0) (vec 9)) (crossE (vec 3) (vec 6)))
 
   -- a sum of three multiples of 0
   none : (a b c : ℤ) → dotOf n u ≡ pos 0 → dotOf n v ≡ pos 0 → dotOf n t ≡ pos 0 → dotOf n u *ℤ a +ℤ dotOf n v *ℤ b +ℤ dotOf n t *ℤ c ≡ pos 0

@@ -76,7 +76,9 @@ module _ (p q r s : GridPoint) where
 
   on-plane-third : coplanar p q s r ≡ true → OnPlane p q r s
   unfolding orientOf
-  on-plane-third h = ring (ofPoints p q r s) (onPlaneE (vec 9)) (con (pos 0) :- orientAtE (vec 0) (vec 3) (vec 9) (vec 6)) tt ∙ ap (λ (z : ℤ). pos 0 -ℤ z) (orient-zero p q s r h)
+  on-plane-third h =
+      ring (ofPoints p q r s) (onPlaneE (vec 9)) (con (pos 0) :- orientAtE (vec 0) (vec 3) (vec 9) (vec 6)) tt
+      ∙ ap (λ (z : ℤ). pos 0 -ℤ z) (orient-zero p q s r h)
 
   on-plane-second : coplanar p s q r ≡ true → OnPlane p q r s
   unfolding orientOf
@@ -84,7 +86,9 @@ module _ (p q r s : GridPoint) where
 
   on-plane-first : coplanar s p q r ≡ true → OnPlane p q r s
   unfolding orientOf
-  on-plane-first h = ring (ofPoints p q r s) (onPlaneE (vec 9)) (con (pos 0) :- orientAtE (vec 9) (vec 0) (vec 3) (vec 6)) tt ∙ ap (λ (z : ℤ). pos 0 -ℤ z) (orient-zero s p q r h)
+  on-plane-first h =
+      ring (ofPoints p q r s) (onPlaneE (vec 9)) (con (pos 0) :- orientAtE (vec 9) (vec 0) (vec 3) (vec 6)) tt
+      ∙ ap (λ (z : ℤ). pos 0 -ℤ z) (orient-zero s p q r h)
 
   on-plane-p : OnPlane p q r p
   on-plane-p = ring (ofPoints p q r s) (onPlaneE (vec 0)) (con (pos 0)) tt
@@ -128,10 +132,14 @@ module _ (d e : Vector) where
   squareX = record { x = pos 0; y = d .z; z = pos 0 -ℤ d .y }
 
   dot-square-z : dotOf squareZ e ≡ pos 0 -ℤ crossOf d e .z
-  dot-square-z = ring (ofVectors d e e) (dotE (record { X = var 1; Y = con (pos 0) :- var 0; Z = con (pos 0) }) (vec 3)) (con (pos 0) :- crossE (vec 0) (vec 3) .Z) tt
+  dot-square-z =
+      ring (ofVectors d e e) (dotE (record { X = var 1; Y = con (pos 0) :- var 0; Z = con (pos 0) }) (vec 3))
+      (con (pos 0) :- crossE (vec 0) (vec 3) .Z) tt
 
   dot-square-x : dotOf squareX e ≡ pos 0 -ℤ crossOf d e .x
-  dot-square-x = ring (ofVectors d e e) (dotE (record { X = con (pos 0); Y = var 2; Z = con (pos 0) :- var 1 }) (vec 3)) (con (pos 0) :- crossE (vec 0) (vec 3) .X) tt
+  dot-square-x =
+      ring (ofVectors d e e) (dotE (record { X = con (pos 0); Y = var 2; Z = con (pos 0) :- var 1 }) (vec 3))
+      (con (pos 0) :- crossE (vec 0) (vec 3) .X) tt
 
 -- a plane along the line
 pub line-plane : (at : ℕ → GridPoint) (n : ℕ) → OnOneLine at n → InOnePlane at n
@@ -182,7 +190,8 @@ module _ (at : ℕ → GridPoint) (n : ℕ) where
       go (fails e) =
           line-plane at n (threes-line at n (record {
             three = λ i j k p q r. not-false-true (collinear (at i) (at j) (at k)) (λ f.
-                some-none 0 n _ e i (omega arith) (omega arith) (some-here (i + 1) n _ j (omega arith) (omega arith) (some-here (j + 1) n _ k (omega arith) (omega arith) (ap not f))));
+                some-none 0 n _ e i (omega arith) (omega arith)
+                (some-here (i + 1) n _ j (omega arith) (omega arith) (some-here (j + 1) n _ k (omega arith) (omega arith) (ap not f))));
           }))
 
 -- ---- from the pairs that are in one plane with two points

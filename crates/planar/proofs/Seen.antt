@@ -114,10 +114,13 @@ place-turned : (n : ℕ) (o : ℤ) (c : Vector) (w : Lifted) (y : ℤ) → (o �
     positionBy (turned o c) w ≡ place y
 place-turned n (pos zero) c w y h e = absurd (h refl)
 place-turned n (pos (suc m)) c w y h e =
-    ap (λ (t : Bool). positionBy (cond t (record { orient = pos 0 -ℤ pos (suc m); centre = opposite c }) (record { orient = pos (suc m); centre = c })) w) (not-below (suc m))
+    ap (λ (t : Bool). positionBy
+    (cond t (record { orient = pos 0 -ℤ pos (suc m); centre = opposite c }) (record { orient = pos (suc m); centre = c })) w) (not-below (suc m))
     ∙ place-same n m (pos (suc m) *ℤ w .square -ℤ dotOf c (w .vector)) y e
 place-turned n (negsuc m) c w y h e =
-    place-same n m ((pos 0 -ℤ negsuc m) *ℤ w .square -ℤ dotOf (opposite c) (w .vector)) y (ap (λ (z : ℤ). pos (suc n) *ℤ z) (power-back (negsuc m) (w .square) c (w .vector)) ∙ opposite-products (pos (suc n)) (negsuc m *ℤ w .square -ℤ dotOf c (w .vector)) (negsuc m) y e ∙ ap (λ (z : ℤ). z *ℤ y) (+ℤ-idl (pos (suc m))))
+    place-same n m ((pos 0 -ℤ negsuc m) *ℤ w .square -ℤ dotOf (opposite c) (w .vector)) y
+    (ap (λ (z : ℤ). pos (suc n) *ℤ z) (power-back (negsuc m) (w .square) c (w .vector)) ∙ opposite-products (pos (suc n))
+    (negsuc m *ℤ w .square -ℤ dotOf c (w .vector)) (negsuc m) y e ∙ ap (λ (z : ℤ). z *ℤ y) (+ℤ-idl (pos (suc m))))
 
 -- ---- bounds
 
@@ -134,7 +137,9 @@ module _ (p q r : GridPoint) where
 -- the plane of p, q and r holds w
 pub on-plane : (p q r w : GridPoint) → coplanar p q r w ≡ true → dotOf (normalOf p q r) (differenceOf w p) ≡ pos 0
 unfolding orientOf
-on-plane p q r w h = triple-product (differenceOf q p) (differenceOf r p) (differenceOf w p) ∙ equal-yes (dotOf (differenceOf q p) (crossOf (differenceOf r p) (differenceOf w p))) (pos 0) h
+on-plane p q r w h =
+    triple-product (differenceOf q p) (differenceOf r p) (differenceOf w p)
+    ∙ equal-yes (dotOf (differenceOf q p) (crossOf (differenceOf r p) (differenceOf w p))) (pos 0) h
 
 module _ (p q r w : GridPoint) where
   abbrev u : Vector
@@ -165,7 +170,8 @@ module _ (p q r w : GridPoint) where
   unfolding distanceInPlane circumcentreOf
   distances = distances-power (squareOf (normalOf p q r)) (centre u v) t p
 
-  placed : (s : ℕ) → squareOf (normalOf p q r) ≡ pos s → collinear p q r ≡ false → coplanar p q r w ≡ true → positionBy (computedCircle p q r) (liftOf p w) ≡ positionInPlane p q r w
+  placed : (s : ℕ) → squareOf (normalOf p q r) ≡ pos s → collinear p q r ≡ false → coplanar p q r w ≡ true →
+      positionBy (computedCircle p q r) (liftOf p w) ≡ positionInPlane p q r w
   unfolding positionInPlane
   placed zero e k h = true≢false (sym (equal-is e) ∙ k)
   placed (suc s) e k h =

@@ -18,12 +18,14 @@ use Rattle.polygon.proofs.Normals.{normal-in-range, normal-in-range-tes
 
 module _ (vertices : List GridPoint) (normals : List Normal) where
   -- ---- as a loop finds it
-  step : (i n : ℕ) → i < n → verticesCodeFrom vertices normals i (n - i) ≡ firstDue (vertexCode vertices normals i) (verticesCodeFrom vertices normals (i + 1) (n - (i + 1)))
+  step : (i n : ℕ) → i < n →
+      verticesCodeFrom vertices normals i (n - i) ≡ firstDue (vertexCode vertices normals i) (verticesCodeFrom vertices normals (i + 1) (n - (i + 1)))
   unfolding verticesCodeFrom
   step i n l =
       let more : n - i ≡ suc (n - (i + 1)) = omega arith in
       let next : suc i ≡ i + 1 = omega arith in
-      ap (verticesCodeFrom vertices normals i) more ∙ ap (λ (j : ℕ). firstDue (vertexCode vertices normals i) (verticesCodeFrom vertices normals j (n - (i + 1)))) next
+      ap (verticesCodeFrom vertices normals i) more
+      ∙ ap (λ (j : ℕ). firstDue (vertexCode vertices normals i) (verticesCodeFrom vertices normals j (n - (i + 1)))) next
 
   pub code-start : (n : ℕ) → verticesCodeFrom vertices normals 0 (n - 0) ≡ verticesCode vertices normals n
   code-start n = let all : n - 0 ≡ n = omega arith in ap (verticesCodeFrom vertices normals 0) all
@@ -31,7 +33,8 @@ module _ (vertices : List GridPoint) (normals : List Normal) where
   pub code-here : (i n k : ℕ) → i < n → vertexCode vertices normals i ≡ suc k → verticesCodeFrom vertices normals i (n - i) ≡ suc k
   code-here i n k l e = step i n l ∙ ap (λ (c : ℕ). firstDue c (verticesCodeFrom vertices normals (i + 1) (n - (i + 1)))) e
 
-  pub code-on : (i n : ℕ) → i < n → vertexCode vertices normals i ≡ 0 → verticesCodeFrom vertices normals i (n - i) ≡ verticesCodeFrom vertices normals (i + 1) (n - (i + 1))
+  pub code-on : (i n : ℕ) → i < n → vertexCode vertices normals i ≡ 0 →
+      verticesCodeFrom vertices normals i (n - i) ≡ verticesCodeFrom vertices normals (i + 1) (n - (i + 1))
   code-on i n l e = step i n l ∙ due-on (verticesCodeFrom vertices normals (i + 1) (n - (i + 1))) e
 
   pub code-end : (i n : ℕ) → n ≤ i → verticesCodeFrom vertices normals i (n - i) ≡ 0
@@ -90,5 +93,8 @@ module _ (vertices : List GridPoint) (normals : List Normal) where
     pub in-range-at : verticesCode vertices normals n ≡ 0 → (i : ℕ) → i < n → NormalInRange (normalAt normals i)
     in-range-at h i l = normal-in-range (normalAt normals i) (clear i (clear-each 0 n h i (omega arith) (omega arith)) .in-range)
 
-    pub all-clear : ((i : ℕ) → i < n → PointOnGrid (vertexAt vertices i)) → ((i : ℕ) → i < n → NormalInRange (normalAt normals i)) → verticesCode vertices normals n ≡ 0
-    all-clear g r = each-clear 0 n (λ i z m. let l : i < n = omega arith in none-due i (point-on-grid-test (vertexAt vertices i) (g i l)) (normal-in-range-test (normalAt normals i) (r i l)))
+    pub all-clear : ((i : ℕ) → i < n → PointOnGrid (vertexAt vertices i)) → ((i : ℕ) → i < n → NormalInRange (normalAt normals i)) →
+        verticesCode vertices normals n ≡ 0
+    all-clear g r =
+        each-clear 0 n (λ i z m. let l : i < n = omega arith in
+        none-due i (point-on-grid-test (vertexAt vertices i) (g i l)) (normal-in-range-test (normalAt normals i) (r i l)))

@@ -21,7 +21,8 @@ use Rattle.polygon.specs.declared.Polygon.{Polygon}
 use Rattle.polygon.specs.declared.normal.Normal.{Normal}
 use Rattle.polygon.specs.Normal.{normalAt, normalInRange}
 use Rattle.polygon.specs.Polygon.{vertexAt, repeatedVertex, vertexCode, verticesCodeFrom, verticesCode, codeOf, ValidPolygon}
-use Rattle.polygon.specs.Due.{PolygonPlace, header, vertex, rim, PolygonBefore, header-vertex, header-rim, vertex-vertex, vertex-rim, First, PolygonDue, area-factor, bend-factor, too-many, off-grid, normal-out-of-range, too-few, vertex-repeated}
+use Rattle.polygon.specs.Due.{PolygonPlace, header, vertex, rim, PolygonBefore, header-vertex, header-rim, vertex-vertex, vertex-rim, First}
+use Rattle.polygon.specs.Due.{PolygonDue, area-factor, bend-factor, too-many, off-grid, normal-out-of-range, too-few, vertex-repeated}
 use Rattle.polygon.proofs.Normals.{normal-in-range, normal-in-range-test}
 use Rattle.polygon.proofs.Codes.{nine, eighteen, clear, on-grid-at, in-range-at}
 use Rattle.polygon.proofs.Codes as codes
@@ -62,7 +63,13 @@ here vertices normals i (suc c) k h = by (vertexCode vertices normals i) refl h 
     by (suc n) e d rest = record { at = i; low = omega arith; high = omega arith; given = e ∙ d; clear-before = λ j l m. absurd (omega arith) }
     by zero e d rest =
         let r = rest d in
-        record { at = r .at; low = omega (arith, r .low); high = omega (arith, r .high); given = r .given; clear-before = λ j l m. before r j m (below-or-same i j l) }
+        record {
+          at = r .at;
+          low = omega (arith, r .low);
+          high = omega (arith, r .high);
+          given = r .given;
+          clear-before = λ j l m. before r j m (below-or-same i j l);
+        }
       where
         before : (r : Here vertices normals (suc i) (suc i + c) k) (j : ℕ) → j < r .at → (i < j) ⊎ (i ≡ j) → vertexCode vertices normals j ≡ 0
         before r j m (inl q) = r .clear-before j (omega arith) m
@@ -100,8 +107,10 @@ module _ (p : Polygon) where
       -- ---- 9 and 18, at the first vertex on which one of them is due
       module _ {k : ℕ} (found : Here (p .vertices) (p .normals) 0 (0 + p .n) k) where
         no-earlier : (i : ℕ) → i < found .at → (j : ℕ) → PolygonDue p (vertex i) j → ⊥
-        no-earlier i l _ (off-grid m h) = h (point-on-grid (vertexAt (p .vertices) i) (clear (p .vertices) (p .normals) i (found .clear-before i (omega arith) l) .on-grid))
-        no-earlier i l _ (normal-out-of-range m h) = h (normal-in-range (normalAt (p .normals) i) (clear (p .vertices) (p .normals) i (found .clear-before i (omega arith) l) .in-range))
+        no-earlier i l _ (off-grid m h) =
+            h (point-on-grid (vertexAt (p .vertices) i) (clear (p .vertices) (p .normals) i (found .clear-before i (omega arith) l) .on-grid))
+        no-earlier i l _ (normal-out-of-range m h) =
+            h (normal-in-range (normalAt (p .normals) i) (clear (p .vertices) (p .normals) i (found .clear-before i (omega arith) l) .in-range))
 
         here-first : (m : ℕ) → PolygonDue p (vertex (found .at)) m → ((j : ℕ) → j < m → PolygonDue p (vertex (found .at)) j → ⊥) → First (PolygonDue p) m
         here-first m d number = record { place = vertex (found .at); is-due = d; none-before = before }
@@ -114,7 +123,8 @@ module _ (p : Polygon) where
         below : found .at < p .n
         below = omega (arith, found .high)
 
-        vertex-first : Truth (pointOnGrid (vertexAt (p .vertices) (found .at))) → Truth (normalInRange (normalAt (p .normals) (found .at))) → First (PolygonDue p) (suc k)
+        vertex-first : Truth (pointOnGrid (vertexAt (p .vertices) (found .at))) → Truth (normalInRange (normalAt (p .normals) (found .at))) →
+            First (PolygonDue p) (suc k)
         vertex-first (fails g) r =
             subst (λ (m : ℕ). First (PolygonDue p) m) (sym (nine (p .vertices) (p .normals) (found .at) g) ∙ found .given)
             (here-first 9 (off-grid below (λ q. true-not-false (point-on-grid-test (vertexAt (p .vertices) (found .at)) q) g)) number)
@@ -184,8 +194,10 @@ module _ (p : Polygon) where
       given q f = subst (λ (m : ℕ). First (PolygonDue p) m) (sym q ∙ e) f
 
       by : Truth (ltb maxAreaFactor (p .«area_factor»)) → Truth (ltb maxBendFactor (p .«bend_factor»)) → Truth (ltb maxVertices (p .n)) →
-          (c : ℕ) → verticesCode (p .vertices) (p .normals) (p .n) ≡ c → Truth (ltb (p .n) minVertices) → Truth (repeatedVertex (p .vertices) (p .n)) → First (PolygonDue p) (suc k)
-      by (holds a) b m c v l r = given (yes _ _ a) (record { place = header; is-due = area-factor (ltb-true maxAreaFactor (p .«area_factor») a); none-before = two-first })
+          (c : ℕ) → verticesCode (p .vertices) (p .normals) (p .n) ≡ c → Truth (ltb (p .n) minVertices) →
+          Truth (repeatedVertex (p .vertices) (p .n)) → First (PolygonDue p) (suc k)
+      by (holds a) b m c v l r =
+          given (yes _ _ a) (record { place = header; is-due = area-factor (ltb-true maxAreaFactor (p .«area_factor») a); none-before = two-first })
       by (fails a) (holds b) m c v l r =
           given (no _ _ a ∙ yes _ _ b) (record { place = header; is-due = bend-factor (ltb-true maxBendFactor (p .«bend_factor») b); none-before = two-first })
       by (fails a) (fails b) (holds m) c v l r = given (no _ _ a ∙ no _ _ b ∙ yes _ _ m) (five-first a b (ltb-true maxVertices (p .n) m))

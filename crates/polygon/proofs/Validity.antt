@@ -78,7 +78,8 @@ passed false false false zero false true h = absurd (omega arith)
 pub code-valid : (p : Polygon) → codeOf p ≡ 0 → ValidPolygon p
 unfolding codeOf tests
 code-valid p h =
-    let t = passed (ltb maxAreaFactor (p .«area_factor»)) (ltb maxBendFactor (p .«bend_factor»)) (ltb maxVertices (p .n)) (verticesCode (p .vertices) (p .normals) (p .n)) (ltb (p .n) minVertices) (repeatedVertex (p .vertices) (p .n)) h in
+    let t = passed (ltb maxAreaFactor (p .«area_factor»)) (ltb maxBendFactor (p .«bend_factor»)) (ltb maxVertices (p .n))
+    (verticesCode (p .vertices) (p .normals) (p .n)) (ltb (p .n) minVertices) (repeatedVertex (p .vertices) (p .n)) h in
     record {
       area-factor = ltb-false maxAreaFactor (p .«area_factor») (t .area);
       bend-factor = ltb-false maxBendFactor (p .«bend_factor») (t .bend);

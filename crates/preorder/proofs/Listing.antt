@@ -27,7 +27,9 @@ waiting-length stack (suc k) = ap suc (waiting-length stack k)
 
 waiting-set : (stack : List Part) (i k : ℕ) (x : Part) → k ≤ i → waiting (set stack i x) k ≡ waiting stack k
 waiting-set stack i zero x h = refl
-waiting-set stack i (suc k) x h = ap₂ (λ (p : Part) (l : List Part). p ∷ l) (getD-set-other stack i k x (partUnder 0 0 0) (λ (e : k ≡ i). omega arith)) (waiting-set stack i k x (omega arith))
+waiting-set stack i (suc k) x h =
+    ap₂ (λ (p : Part) (l : List Part). p ∷ l) (getD-set-other stack i k x (partUnder 0 0 0) (λ (e : k ≡ i). omega arith))
+    (waiting-set stack i k x (omega arith))
 
 waiting-top : (stack : List Part) (height : ℕ) → 0 < height → waiting stack height ≡ top stack height ∷ waiting stack (height - 1)
 waiting-top stack height h = ap (waiting stack) (let e : height ≡ suc (height - 1) = omega arith in e)
@@ -37,7 +39,8 @@ module _ {stack new : List Part} {k m : ℕ} (u i j : ℕ) {l : List Part} (w : 
   pub put : {x : Part} → k < mostParts → 1 < j - i → x ≡ partUnder u i j → new ≡ set stack k x → m ≡ k + 1 → Waits new m (beneath u i j ++ l)
   put {x} h far q s t = record {
     parts = ap₂ waiting s (t ∙ add-one k)
-        ∙ ap₂ (λ (p : Part) (r : List Part). p ∷ r) (getD-set-same stack k x (partUnder 0 0 0) (omega (arith, w .places)) ∙ q) (waiting-set stack k k x (le-refl k) ∙ w .parts)
+        ∙ ap₂ (λ (p : Part) (r : List Part). p ∷ r) (getD-set-same stack k x (partUnder 0 0 0) (omega (arith, w .places)) ∙ q)
+        (waiting-set stack k k x (le-refl k) ∙ w .parts)
         ∙ ap (λ r. r ++ l) (sym (one-beneath u i j (omega arith)));
     places = ap length s ∙ length-set stack k x ∙ w .places;
   }
@@ -51,7 +54,11 @@ module _ {stack new : List Part} {k m : ℕ} (u i j : ℕ) {l : List Part} (w : 
 module _ {job : Problem} (t : HasTriangulation job) where
   pub start : (p : Part) (before : List ℕ) → p ≡ partUnder (job .size) 0 (job .n - 1) → Listing job (patchOf t) before (replicate mostParts p) 1 0 before
   unfolding partsAfter
-  start p before e = record { listed = refl; waits = record { parts = ap (λ q. q ∷ []) e; places = length-replicate mostParts p }; no-more-wait = omega (arith, t .valid .n3, patch-length t) }
+  start p before e = record {
+    listed = refl;
+    waits = record { parts = ap (λ q. q ∷ []) e; places = length-replicate mostParts p };
+    no-more-wait = omega (arith, t .valid .n3, patch-length t);
+  }
 
   module _ {before : List ℕ} {stack : List Part} {height count : ℕ} {table : List ℕ}
       (e : Listing job (patchOf t) before stack height count table) (turn-due : count < length (patchOf t)) where
@@ -60,7 +67,9 @@ module _ {job : Problem} (t : HasTriangulation job) where
     part-waits = go height refl
       where
         go : (k : ℕ) → height ≡ k → 0 < height
-        go zero z = absurd (omega (arith, length-drop count (patchOf t), ap length (going t count .left ∙ ap (pending job) (sym (e .waits .parts) ∙ ap (waiting stack) z))))
+        go zero z =
+            absurd (omega
+            (arith, length-drop count (patchOf t), ap length (going t count .left ∙ ap (pending job) (sym (e .waits .parts) ∙ ap (waiting stack) z))))
         go (suc k) z = omega arith
 
     due-parts : partsAfter job (patchOf t) count ≡ top stack height ∷ waiting stack (height - 1)
@@ -90,7 +99,8 @@ module _ {job : Problem} (t : HasTriangulation job) where
 
     module _ (u : ℕ) (first : u ≡ firstTriangle job (top stack height)) where
       -- what waits after the turn
-      next-parts : beneath u (top stack height .first) (job .b u) ++ (beneath u (job .b u) (top stack height .last) ++ waiting stack (height - 1)) ≡ partsAfter job (patchOf t) (count + 1)
+      next-parts : beneath u (top stack height .first) (job .b u) ++ (beneath u (job .b u) (top stack height .last) ++ waiting stack (height - 1))
+          ≡ partsAfter job (patchOf t) (count + 1)
       unfolding partsAfter
       next-parts =
           sym (append-assoc (beneath u (top stack height .first) (job .b u)) (beneath u (job .b u) (top stack height .last)) (waiting stack (height - 1)))
@@ -98,7 +108,8 @@ module _ {job : Problem} (t : HasTriangulation job) where
           ∙ ap (λ l. turn job l (getD (patchOf t) count 0)) (sym due-parts) ∙ ap (partsAfter job (patchOf t)) (sym (add-one count))
 
       -- the left part has a place above the right part
-      pub left-place : {new : List Part} {m : ℕ} → 1 < job .b u - top stack height .first → Waits new m (beneath u (job .b u) (top stack height .last) ++ waiting stack (height - 1)) → m < mostParts
+      pub left-place : {new : List Part} {m : ℕ} → 1 < job .b u - top stack height .first →
+          Waits new m (beneath u (job .b u) (top stack height .last) ++ waiting stack (height - 1)) → m < mostParts
       left-place {new} {m} far w =
           let l = beneath u (job .b u) (top stack height .last) ++ waiting stack (height - 1) in
           omega (

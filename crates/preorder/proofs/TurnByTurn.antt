@@ -33,7 +33,11 @@ module _ {job : Problem} (t : HasTriangulation job) where
   member-whole p (q ∷ l) (part-and w v) m = ⊎-elim (λ e. subst (Whole job) (sym e) w) (λ n. member-whole p l v n) (List·Memᴰ·cases-cons m)
 
   turns : TurnByTurn job (patchOf t)
-  turns = record { one-each = next-listed; no-rim-edge = λ k p m. member-whole p (partsAfter job (patchOf t) k) (going t k .whole) m .order; no-more-wait = no-more-wait t }
+  turns = record {
+    one-each = next-listed;
+    no-rim-edge = λ k p m. member-whole p (partsAfter job (patchOf t) k) (going t k .whole) m .order;
+    no-more-wait = no-more-wait t;
+  }
 
 module _ (n : ℕ) (candidates : List (List ℕ)) (weights : List ℕ) (rows : List (List ℕ)) (ok : WellFormed n candidates weights rows) where
   abbrev jobHere : Problem
@@ -47,6 +51,7 @@ module _ (n : ℕ) (candidates : List (List ℕ)) (weights : List ℕ) (rows : L
   turn-by-turn total l e =
       let k : bestKey jobHere ≡ total ∷ l = key-is (bestKey jobHere) total l e in
       let w = answer-whole n candidates weights rows ok in
-      let s : costOf (bestKey jobHere) < noTotal = ⊎-elim (λ z. absurd (omega (arith, ap length (sym k ∙ z)))) (λ z. z) (answer-light n candidates weights rows ok) in
+      let s : costOf (bestKey jobHere) < noTotal =
+      ⊎-elim (λ z. absurd (omega (arith, ap length (sym k ∙ z)))) (λ z. z) (answer-light n candidates weights rows ok) in
       let t : HasTriangulation jobHere = record { valid = ok .valid; bounded = ok .bounded; some = omega (arith, s, ap costOf w) } in
       subst (TurnByTurn jobHere) (ap restOf (sym w ∙ k)) (turns t)

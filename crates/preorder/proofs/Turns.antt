@@ -21,7 +21,8 @@ use Rattle.minimum_weight.proofs.Edges.{found-below}
 use Rattle.preorder.proofs.Beneath.{Beneath, one, none, either-beneath}
 
 -- the parts of a joined key that is no 'none'
-split-key : (w u r : ℕ) (k k′ : List ℕ) → costOf (addRow r (join w u k k′)) < noTotal → (k ≢ []) × (k′ ≢ []) × (restOf (addRow r (join w u k k′)) ≡ u ∷ (restOf k ++ restOf k′))
+split-key : (w u r : ℕ) (k k′ : List ℕ) → costOf (addRow r (join w u k k′)) < noTotal →
+    (k ≢ []) × (k′ ≢ []) × (restOf (addRow r (join w u k k′)) ≡ u ∷ (restOf k ++ restOf k′))
 split-key w u r [] k′ h = absurd (omega arith)
 split-key w u r (x ∷ l) [] h = absurd (omega arith)
 split-key w u r (x ∷ l) (y ∷ m) h = (cons≢nil, cons≢nil, refl)
@@ -89,7 +90,8 @@ module _ (job : Problem) (good : ValidProblem job) (bound : Bounded job) where
   list-length : (p : Part) → Whole job p → length (partTriangles job p) + p .first + 1 ≡ p .last
   list-length p w = go (edge-best job good (job .n) (p .outer) (p .first) (p .last) (omega (arith, w .order)) (omega (arith, w .within)))
     where
-      go : Best job (p .outer) (p .first) (p .last) (bestUnder job (job .n) (p .outer) (p .first) (p .last)) → length (partTriangles job p) + p .first + 1 ≡ p .last
+      go : Best job (p .outer) (p .first) (p .last) (bestUnder job (job .n) (p .outer) (p .first) (p .last)) →
+          length (partTriangles job p) + p .first + 1 ≡ p .last
       go (R.none e h) = absurd (omega (arith, w .some, ap costOf e))
       go (R.some l x e v h) = ap (λ k. length (restOf k) + p .first + 1) e ∙ part-length job v
 
@@ -98,7 +100,8 @@ module _ (job : Problem) (good : ValidProblem job) (bound : Bounded job) where
   down p q w f =
       let u = q .at in
       let g = f .at (λ (e : p .last ≡ p .first + 1). omega (arith, w .order)) (omega (arith, f .cost, w .some)) in
-      let s = split-key (job .weight u) u (job .row (p .outer) u) (bestUnder job (job .n) u (job .a u) (job .b u)) (bestUnder job (job .n) u (job .b u) (job .c u)) (rw (g .3) at (w .some)) in
+      let s = split-key (job .weight u) u (job .row (p .outer) u) (bestUnder job (job .n) u (job .a u) (job .b u))
+      (bestUnder job (job .n) u (job .b u) (job .c u)) (rw (g .3) at (w .some)) in
       let l : p .first < job .b u = omega (arith, good .ab u (g .0), g .1) in
       let r : job .b u < p .last = omega (arith, good .bc u (g .0), g .2) in
       record {
@@ -109,7 +112,8 @@ module _ (job : Problem) (good : ValidProblem job) (bound : Bounded job) where
         right = r;
         left-some = edge-some u (p .first) (job .b u) l (omega (arith, w .within)) (rw (g .1) at (s .0));
         right-some = edge-some u (job .b u) (p .last) r (w .within) (rw (g .2) at (s .1));
-        list = ap restOf (g .3) ∙ s .2 ∙ ap₂ (λ i j. u ∷ (restOf (bestUnder job (job .n) u i (job .b u)) ++ restOf (bestUnder job (job .n) u (job .b u) j))) (g .1) (g .2);
+        list = ap restOf (g .3) ∙ s .2
+            ∙ ap₂ (λ i j. u ∷ (restOf (bestUnder job (job .n) u i (job .b u)) ++ restOf (bestUnder job (job .n) u (job .b u) j))) (g .1) (g .2);
       }
 
   -- the triangle that is found is the first in preorder
@@ -118,7 +122,8 @@ module _ (job : Problem) (good : ValidProblem job) (bound : Bounded job) where
 
   pub down-first : (p : Part) → Whole job p → Down job p (firstTriangle job p)
   down-first p w =
-      let f = found-below job good bound (p .outer) (p .first) (p .last) (λ (e : p .last ≡ p .first + 1). omega (arith, w .order)) (λ u. costOf (bestFrom job (job .n) u)) (λ u l o. refl) in
+      let f = found-below job good bound (p .outer) (p .first) (p .last) (λ (e : p .last ≡ p .first + 1). omega (arith, w .order))
+      (λ u. costOf (bestFrom job (job .n) u)) (λ u l o. refl) in
       subst (Down job p) (found-first p _ w f) (down p _ w f)
 
   -- a rim edge has no triangle, and is no part
@@ -176,7 +181,8 @@ module _ {job : Problem} (t : HasTriangulation job) where
   next-part k p l w e =
       let u = firstTriangle job p in
       let d = down-first job (t .valid) (t .bounded) p w in
-      drop-next patchOf k (e ∙ ap (λ x. x ++ pending job l) (halves-list job (t .valid) (t .bounded) p u w d) ∙ ap (λ x. u ∷ x) (sym (pending-append job (halves job p u) l)))
+      drop-next patchOf k (e ∙ ap (λ x. x ++ pending job l) (halves-list job (t .valid) (t .bounded) p u w d)
+      ∙ ap (λ x. u ∷ x) (sym (pending-append job (halves job p u) l)))
 
   go-on : (k : ℕ) (l : List Part) → Going k l → Going (suc k) (turn job l (getD patchOf k 0))
   go-on k [] g = record { whole = no-part; left = drop-of-length-le patchOf {i = suc k} (omega (arith, length-drop k patchOf, ap length (g .left))) }

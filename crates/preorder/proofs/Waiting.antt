@@ -37,7 +37,12 @@ one-more job l (suc k) = omega (arith, one-more job l k, turn-length job (partsA
 module _ {job : Problem} (t : HasTriangulation job) where
   -- no more parts wait than triangles are still to be listed: each part that waits has a triangle
   pub no-more-wait : (k : ℕ) → length (partsAfter job (patchOf t) k) ≤ length (patchOf t) - k
-  no-more-wait k = omega (arith, parts-few job (t .valid) (t .bounded) (partsAfter job (patchOf t) k) (going t k .whole), ap length (going t k .left), length-drop k (patchOf t))
+  no-more-wait k = omega (
+    arith,
+    parts-few job (t .valid) (t .bounded) (partsAfter job (patchOf t) k) (going t k .whole),
+    ap length (going t k .left),
+    length-drop k (patchOf t),
+  )
 
   -- so all of them have a place
   pub few-wait : (k : ℕ) → length (partsAfter job (patchOf t) k) ≤ mostParts

@@ -41,10 +41,12 @@ module _ (limit : ℕ) (s : List ℕ) (r : Read limit s) where
   is-vertex (At p) e h = refl
   is-vertex (Refused k) e h = absurd (omega (arith, h k refl, e))
 
-  vertexed-at : (i : ℕ) → i < vertexCount s → OnGrid (heightOf (heightBefore s i)) → Vertexed s (offset s (link s i)) (heightBefore s i) (pointOf (vertexAtPosition s i))
+  vertexed-at : (i : ℕ) → i < vertexCount s → OnGrid (heightOf (heightBefore s i)) →
+      Vertexed s (offset s (link s i)) (heightBefore s i) (pointOf (vertexAtPosition s i))
   vertexed-at i h g =
       vertexed s (offset s (link s i)) (heightBefore s i) (pointOf (vertexAtPosition s i)) g
-      (is-vertex (vertexAtPosition s i) (fine i h) (λ k e. refused-positive s (offset s (link s i)) (known (heightBefore s i)) (heightOf (heightBefore s i)) k e))
+      (is-vertex (vertexAtPosition s i) (fine i h)
+      (λ k e. refused-positive s (offset s (link s i)) (known (heightBefore s i)) (heightOf (heightBefore s i)) k e))
 
   height-on-grid : (i : ℕ) → i ≤ vertexCount s → OnGrid (heightOf (heightBefore s i))
   unfolding heightBefore
@@ -97,12 +99,14 @@ module _ (limit : ℕ) (s : List ℕ) (complete : readingOf limit s .status ≡ 
   -- its vertices are those that the records of the chain give, in the chain's order (rule 1.8)
   pub read-vertices : (i : ℕ) → i < readingOf limit s .polygon .n → HasVertex s i (polygon.vertexAt (readingOf limit s .polygon .vertices) i)
   read-vertices = subst (λ p. (i : ℕ) → i < p .n → HasVertex s i (polygon.vertexAt (p .vertices) i)) (sym complete-polygon)
-      (λ i h. subst (λ q. HasVertex s i q) (sym (vertex-in-table s (vertexCount s) i h)) (has-vertex s i (λ j l. fine limit s (complete-read limit s complete) j (omega arith))))
+      (λ i h. subst (λ q. HasVertex s i q) (sym (vertex-in-table s (vertexCount s) i h))
+      (has-vertex s i (λ j l. fine limit s (complete-read limit s complete) j (omega arith))))
 
   -- its normals are those that the same records give (rules 1.13, 1.14)
   pub read-normals : (i : ℕ) → i < readingOf limit s .polygon .n → HasNormal s i (polygon-normals.normalAt (readingOf limit s .polygon .normals) i)
   read-normals = subst (λ p. (i : ℕ) → i < p .n → HasNormal s i (polygon-normals.normalAt (p .normals) i)) (sym complete-polygon)
-      (λ i h. subst (λ q. HasNormal s i q) (sym (table-at (λ j. normalAtPosition s j) noNormal (vertexCount s) i h)) (has-normal s i (normal-fine limit s (complete-read limit s complete) i h)))
+      (λ i h. subst (λ q. HasNormal s i q) (sym (table-at (λ j. normalAtPosition s j) noNormal (vertexCount s) i h))
+      (has-normal s i (normal-fine limit s (complete-read limit s complete) i h)))
 
   -- it has a vertex for each record of the chain, all of them records of the file and no two the same, up to the link 0 that ends it (rules 1.5, 1.8)
   pub read-records : HasRecords s (readingOf limit s .polygon .n)

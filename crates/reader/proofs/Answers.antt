@@ -42,7 +42,8 @@ module _ (limit : ℕ) (s : List ℕ) where
   -- the link to a position past the limit is refused with 3, 4, or 5 or 20
   pub past-limit : (i : ℕ) → limit ≤ i → positionCode limit s i ≡ 0 → ⊥
   unfolding positionCode linkCode
-  past-limit i h e = by (ltb (recordCount s) (chain.link s i)) (metBefore s i (chain.link s i)) refl refl (due-neither (linkCode limit s i) (recordCode s i) e .0)
+  past-limit i h e =
+      by (ltb (recordCount s) (chain.link s i)) (metBefore s i (chain.link s i)) refl refl (due-neither (linkCode limit s i) (recordCode s i) e .0)
     where
       many : leb limit i ≡ true
       many = le-leb limit i h
@@ -117,7 +118,9 @@ module _ (limit : ℕ) (s : List ℕ) {r : Chain} (e : r ≡ chainOf limit s) wh
     followed-within small = omega (arith, followed-count, count-within limit small s (sym followed-code ∙ none))
 
     pub repeated-as-found : {b : Bool} → b ≡ repeatedVertex (r .vertices) (r .n) → repeatedVertex (verticesOf s (vertexCount s)) (vertexCount s) ≡ b
-    repeated-as-found f = sym (f ∙ ap (λ (l : List GridPoint). repeatedVertex l (r .n)) followed-vertices ∙ ap (λ (m : ℕ). repeatedVertex (verticesOf s (vertexCount s)) m) followed-count)
+    repeated-as-found f =
+        sym (f ∙ ap (λ (l : List GridPoint). repeatedVertex l (r .n)) followed-vertices
+        ∙ ap (λ (m : ℕ). repeatedVertex (verticesOf s (vertexCount s)) m) followed-count)
 
 -- ---- the answer
 -- a limit from 3 to 64
@@ -180,10 +183,14 @@ module _ (limit : ℕ) (s : List ℕ) where
 -- no number is due: the answer is the polygon
 pub answer-complete : (limit : ℕ) (s : List ℕ) {n area bend : ℕ} {vertices : List GridPoint} {normals : List Normal} → numberDue limit s ≡ 0 →
     n ≡ vertexCount s → area ≡ areaFactor s → bend ≡ bendFactor s → vertices ≡ verticesOf s (vertexCount s) → normals ≡ normalsOf s (vertexCount s) →
-    _≡_ {A = Reading} (record { status = Complete; polygon = record { n = n; «area_factor» = area; «bend_factor» = bend; vertices = vertices; normals = normals } }) (readingOf limit s)
+    _≡_ {A = Reading}
+    (record { status = Complete; polygon = record { n = n; «area_factor» = area; «bend_factor» = bend; vertices = vertices; normals = normals } })
+    (readingOf limit s)
 answer-complete limit s {n} {area} {bend} {vertices} {normals} e a b c d f = same ∙ sym (ap (λ (j : ℕ). answer j (polygonOf s)) e)
   where
-    same : _≡_ {A = Reading} (record { status = Complete; polygon = record { n = n; «area_factor» = area; «bend_factor» = bend; vertices = vertices; normals = normals } }) (answer 0 (polygonOf s))
+    same : _≡_ {A = Reading}
+        (record { status = Complete; polygon = record { n = n; «area_factor» = area; «bend_factor» = bend; vertices = vertices; normals = normals } })
+        (answer 0 (polygonOf s))
     same = λ i. record { status = Complete; polygon = record { n = a i; «area_factor» = b i; «bend_factor» = c i; vertices = d i; normals = f i } }
 
 pub answer-number : (k : ℕ) (p : Polygon) → statusNumber (answer k p .status) ≡ k

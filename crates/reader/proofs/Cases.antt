@@ -44,11 +44,13 @@ file last spare =
     ++ point-then 0 one-mm one-mm ++ spare
 
 pub spare-normal-taken : numberDue maxVertices (file no-surface too-long) ≡ 0
-unfolding ofBits upFrom someFrom finite numerator denominator negative inRange roundEighths repeatedVertex layoutOf lengthWrong recordAt numbersCode vertexOf normalIn link metBefore heightBefore linkCode positionCode codeFrom endFrom fileCode numberDue
+unfolding ofBits upFrom someFrom finite numerator denominator negative inRange roundEighths repeatedVertex layoutOf lengthWrong recordAt
+    numbersCode vertexOf normalIn link metBefore heightBefore linkCode positionCode codeFrom endFrom fileCode numberDue
 spare-normal-taken = refl
 
 pub chain-normal-refused : numberDue maxVertices (file too-long no-surface) ≡ 18
-unfolding ofBits upFrom someFrom finite numerator denominator negative inRange roundEighths repeatedVertex layoutOf lengthWrong recordAt numbersCode vertexOf normalIn link metBefore heightBefore linkCode positionCode codeFrom endFrom fileCode numberDue
+unfolding ofBits upFrom someFrom finite numerator denominator negative inRange roundEighths repeatedVertex layoutOf lengthWrong recordAt
+    numbersCode vertexOf normalIn link metBefore heightBefore linkCode positionCode codeFrom endFrom fileCode numberDue
 chain-normal-refused = refl
 
 -- ---- 120 bytes are seven records of edition 1, or five of edition 2
@@ -64,11 +66,13 @@ five =
     ++ replicate 44 0
 
 pub seven-taken : numberDue maxVertices seven ≡ 0
-unfolding ofBits upFrom someFrom finite numerator denominator negative inRange roundEighths repeatedVertex layoutOf lengthWrong recordAt numbersCode vertexOf normalIn link metBefore heightBefore linkCode positionCode codeFrom endFrom fileCode numberDue
+unfolding ofBits upFrom someFrom finite numerator denominator negative inRange roundEighths repeatedVertex layoutOf lengthWrong recordAt
+    numbersCode vertexOf normalIn link metBefore heightBefore linkCode positionCode codeFrom endFrom fileCode numberDue
 seven-taken = refl
 
 pub five-taken : numberDue maxVertices five ≡ 0
-unfolding ofBits upFrom someFrom finite numerator denominator negative inRange roundEighths repeatedVertex layoutOf lengthWrong recordAt numbersCode vertexOf normalIn link metBefore heightBefore linkCode positionCode codeFrom endFrom fileCode numberDue
+unfolding ofBits upFrom someFrom finite numerator denominator negative inRange roundEighths repeatedVertex layoutOf lengthWrong recordAt
+    numbersCode vertexOf normalIn link metBefore heightBefore linkCode positionCode codeFrom endFrom fileCode numberDue
 five-taken = refl
 
 -- so no program tells the edition by the length
@@ -84,7 +88,8 @@ four kind =
 
 pub fourth-record : (numberDue 3 (four 1) ≡ 20) × (numberDue 4 (four 1) ≡ 0) × (numberDue maxVertices (four 1) ≡ 0) ×
     (numberDue 3 (four 9) ≡ 20) × (numberDue 4 (four 9) ≡ 6) × (numberDue maxVertices (four 9) ≡ 6)
-unfolding ofBits upFrom someFrom finite numerator denominator negative inRange roundEighths repeatedVertex layoutOf lengthWrong recordAt numbersCode vertexOf normalIn link metBefore heightBefore linkCode positionCode codeFrom endFrom fileCode numberDue
+unfolding ofBits upFrom someFrom finite numerator denominator negative inRange roundEighths repeatedVertex layoutOf lengthWrong recordAt
+    numbersCode vertexOf normalIn link metBefore heightBefore linkCode positionCode codeFrom endFrom fileCode numberDue
 fourth-record = (refl, refl, refl, refl, refl, refl)
 
 -- so a reader that tests the limit after the kind, or gives 5 under a smaller limit, or has one limit for all, breaks its contract

@@ -19,7 +19,8 @@ use Rattle.rim_file.specs.declared.Height.{Height}
 use Rattle.rim_file.specs.declared.Height.the-variants.{Known}
 use Rattle.rim_file.specs.declared.Record.{Record}
 use Rattle.rim_file.proofs.Editions.{normal-agree, next-agree, kind-agree, float-agree, record-agree}
-use Rattle.reader.specs.Chain.{link, metBefore, heightBefore, vertexAtPosition, normalAtPosition, overLimit, linkCode, positionCode, codeFrom, endFrom, vertexCount, verticesOf, normalsOf}
+use Rattle.reader.specs.Chain.{link, metBefore, heightBefore, vertexAtPosition, normalAtPosition, overLimit}
+use Rattle.reader.specs.Chain.{linkCode, positionCode, codeFrom, endFrom, vertexCount, verticesOf, normalsOf}
 use Rattle.reader.specs.Reading.{fileCode, numberDue, polygonOf, answer, readingOf}
 
 module _ {s t : List ℕ} (same : SameRim s t) where

@@ -29,7 +29,8 @@ record Clear (limit : ℕ) (s : List ℕ) (i : ℕ) : Type 0 where
 -- number c is given at a position, on the link that leads there or else on the record, and none before
 pub data Stops (limit : ℕ) (s : List ℕ) (c : ℕ) : Type 0 where
   on-link : (i : ℕ) → linkCode limit s i ≡ c → FileDue limit s (link-to i) c → ((j : ℕ) → j < i → positionCode limit s j ≡ 0) → Stops limit s c
-  on-record : (i : ℕ) → linkCode limit s i ≡ 0 → recordCode s i ≡ c → FileDue limit s (record-at i) c → ((j : ℕ) → j < i → positionCode limit s j ≡ 0) → Stops limit s c
+  on-record : (i : ℕ) → linkCode limit s i ≡ 0 → recordCode s i ≡ c → FileDue limit s (record-at i) c →
+      ((j : ℕ) → j < i → positionCode limit s j ≡ 0) → Stops limit s c
 
 -- the link to position n is 0, and no number is given before
 pub record Ends (limit : ℕ) (s : List ℕ) (n : ℕ) : Type 0 where
@@ -82,7 +83,8 @@ module _ (limit : ℕ) (small : limit ≤ maxVertices) (s : List ℕ) (whole : W
   ends-from i zero t clear e = absurd (omega (arith, within i clear))
   ends-from i (suc k) t clear e = by (eqb (chain.link s i) 0) refl (λ f. ends-from (suc i) k (omega arith) f)
     where
-      by : (b : Bool) → eqb (chain.link s i) 0 ≡ b → (Clear limit s (suc i) → codeFrom limit s (suc i) k ≡ 0 → Ends limit s (endFrom s (suc i) k)) → Ends limit s (endFrom s i (suc k))
+      by : (b : Bool) → eqb (chain.link s i) 0 ≡ b → (Clear limit s (suc i) → codeFrom limit s (suc i) k ≡ 0 → Ends limit s (endFrom s (suc i) k)) →
+          Ends limit s (endFrom s i (suc k))
       by true p go = rw (end-step s i k ∙ yes i _ p) (record { has = clear .has; quiet = clear .quiet; ended = eqb-true (chain.link s i) 0 p })
       by false p go =
           let here : Passed limit s i k = passed limit s i k e p in
@@ -109,7 +111,8 @@ module _ (limit : ℕ) (s : List ℕ) (n : ℕ) (end : Ends limit s n) where
       by : (b : Bool) → ltb i n ≡ b → i < n
       by true e = ltb-true i n e
       by false e =
-          ⊎-elim (λ l. absurd (omega (arith, r .has .in-file n l .numbered, end .ended))) (λ d. absurd (omega (arith, r .goes-on, ap (λ (m : ℕ). chain.link s m) d, end .ended)))
+          ⊎-elim (λ l. absurd (omega (arith, r .has .in-file n l .numbered, end .ended)))
+          (λ d. absurd (omega (arith, r .goes-on, ap (λ (m : ℕ). chain.link s m) d, end .ended)))
           (below-or-same n i (ltb-false i n e))
 
   pub no-link : (i k : ℕ) → FileDue limit s (link-to i) k → ⊥

@@ -11,7 +11,8 @@ use Rattle.grid.specs.declared.GridPoint.{GridPoint}
 use Rattle.rim_file.specs.File.{headerSize, layoutOf, headerStart, recordCount}
 use Rattle.reader.specs.Chain.{link}
 use Rattle.reader.specs.Order.{FilePlace, link-to, record-at}
-use Rattle.reader.specs.Due.{InFile, kindAt, tailZeroAt, OnGridAt, HasVertex, a-point, a-level-point, FileDue, link-over, met-again, too-many, over-limit, kind-unknown, no-height, not-finite, tail-not-zero, out-of-range, normal-out-of-range}
+use Rattle.reader.specs.Due.{InFile, kindAt, tailZeroAt, OnGridAt, HasVertex, a-point, a-level-point, FileDue, link-over, met-again}
+use Rattle.reader.specs.Due.{too-many, over-limit, kind-unknown, no-height, not-finite, tail-not-zero, out-of-range, normal-out-of-range}
 
 -- ---- a chain that comes back within the limit has no more records than that
 module _ (limit : ℕ) (s : List ℕ) (i j : ℕ) (h : i < j) (l : j ≤ limit) (e : link s i ≡ link s j) where
@@ -31,7 +32,10 @@ loop = (1 ∷ 0 ∷ 3 ∷ 0 ∷ 1 ∷ 0 ∷ 1 ∷ replicate 1 0) ++ point-then 2
 
 loop-record : (k : ℕ) → 0 < k → k ≤ 3 → InFile loop k
 unfolding loop layoutOf
-loop-record k h l = let n : length loop ≡ 56 = refl in let r : recordCount loop ≡ 3 = refl in record { numbered = h; counted = omega arith; bytes = omega arith }
+loop-record k h l =
+    let n : length loop ≡ 56 = refl in
+    let r : recordCount loop ≡ 3 = refl in
+    record { numbered = h; counted = omega arith; bytes = omega arith }
 
 loop-in-file : (i : ℕ) → i < 3 → InFile loop (link loop i)
 unfolding loop link layoutOf

@@ -16,7 +16,9 @@ use Rattle.rim_file.specs.File.{areaFactor, lengthWrong}
 use Rattle.rim_file.specs.Record.{pointOf}
 use Rattle.rim_file.proofs.Lengths.{whole}
 use Rattle.reader.specs.Chain.{link, vertexAtPosition, linkCode, recordCode, positionCode, chainCode, vertexCount, verticesOf}
-use Rattle.reader.specs.Order.{FilePlace, request, header, link-to, record-at, rim, request-header, request-link, request-record, request-rim, header-link, header-record, header-rim, link-link, link-record, record-link, record-record, link-rim, record-rim, Precedes, by-place, by-number, First, NoneDue}
+use Rattle.reader.specs.Order.{FilePlace, request, header, link-to, record-at, rim, request-header, request-link, request-record}
+use Rattle.reader.specs.Order.{request-rim, header-link, header-record, header-rim, link-link, link-record, record-link}
+use Rattle.reader.specs.Order.{record-record, link-rim, record-rim, Precedes, by-place, by-number, First, NoneDue}
 use Rattle.reader.specs.Due.{HasVertex, FileDue, limit-wrong, length-wrong, area-factor, too-few, vertex-repeated}
 use Rattle.reader.specs.Reading.{fileCode, numberDue}
 use Rattle.reader.proofs.Positions.{shorter, link-given, link-quiet, record-given, record-quiet, record-reached}
@@ -170,7 +172,8 @@ module _ (limit : ℕ) (s : List ℕ) where
   given-file : countFits limit ≡ true → Given (fileCode limit s)
   unfolding fileCode
   given-file f =
-      by (lengthWrong s) (ltb 16 (areaFactor s)) (chainCode limit s) (ltb (vertexCount s) 3) (repeatedVertex (verticesOf s (vertexCount s)) (vertexCount s)) refl refl refl refl refl
+      by (lengthWrong s) (ltb 16 (areaFactor s)) (chainCode limit s) (ltb (vertexCount s) 3)
+      (repeatedVertex (verticesOf s (vertexCount s)) (vertexCount s)) refl refl refl refl refl
     where
       most : limit ≤ maxVertices
       most = limit-most limit f
@@ -180,7 +183,8 @@ module _ (limit : ℕ) (s : List ℕ) where
       by true b k d r p q t u v = first (first-1 f p)
       by false true k d r p q t u v = first (first-2 f p (ltb-true 16 (areaFactor s) q))
       by false false (suc k) d r p q t u v = first (first-chain f p (ltb-false 16 (areaFactor s) q) (suc k) (stops limit most s (whole s p) k t))
-      by false false zero true r p q t u v = first (first-10 f p (ltb-false 16 (areaFactor s) q) (vertexCount s) (ends limit most s (whole s p) t) (ltb-true (vertexCount s) 3 u))
+      by false false zero true r p q t u v =
+          first (first-10 f p (ltb-false 16 (areaFactor s) q) (vertexCount s) (ends limit most s (whole s p) t) (ltb-true (vertexCount s) 3 u))
       by false false zero false true p q t u v =
           first (first-11 f p (ltb-false 16 (areaFactor s) q) (vertexCount s) (ends limit most s (whole s p) t) (ltb-false (vertexCount s) 3 u) v)
       by false false zero false false p q t u v =

@@ -31,7 +31,8 @@ pub record Following (limit : ℕ) (s : List ℕ) (vertices : List GridPoint) (n
   pub code-left : codeFrom limit s (w .n) (suc maxVertices - w .n) ≡ chainCode limit s
   pub end-left : endFrom s (w .n) (suc maxVertices - w .n) ≡ vertexCount s
 
-pub following-start : {limit : ℕ} {s : List ℕ} {w : Progress} → limit ≤ maxVertices → Walking limit s w → w .n ≡ 0 → Following limit s (replicate maxVertices origin) (replicate maxVertices noNormal) w
+pub following-start : {limit : ℕ} {s : List ℕ} {w : Progress} → limit ≤ maxVertices → Walking limit s w → w .n ≡ 0 →
+    Following limit s (replicate maxVertices origin) (replicate maxVertices noNormal) w
 unfolding upFrom
 following-start {limit} {s} {w} h v e = record {
   small = h;
@@ -45,7 +46,8 @@ following-start {limit} {s} {w} h v e = record {
 module _ {limit : ℕ} {s : List ℕ} {vertices : List GridPoint} {normals : List Normal} {w : Progress} (f : Following limit s vertices normals w) where
   -- one position, taken from what is left
   code-here : codeFrom limit s (w .n) (suc maxVertices - w .n) ≡
-      cond (eqb (link s (w .n)) 0) 0 (cond (eqb (positionCode limit s (w .n)) 0) (codeFrom limit s (suc (w .n)) (maxVertices - w .n)) (positionCode limit s (w .n)))
+      cond (eqb (link s (w .n)) 0) 0
+      (cond (eqb (positionCode limit s (w .n)) 0) (codeFrom limit s (suc (w .n)) (maxVertices - w .n)) (positionCode limit s (w .n)))
   code-here =
       let e : suc maxVertices - w .n ≡ suc (maxVertices - w .n) = omega (arith, f .walking .within, f .small) in
       ap (λ (k : ℕ). codeFrom limit s (w .n) k) e ∙ code-step limit s (w .n) (maxVertices - w .n)

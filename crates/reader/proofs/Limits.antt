@@ -12,7 +12,9 @@ use Rattle.lists.proofs.Choice.{yes, no, true-not-false, both-true}
 use Rattle.terms.specs.Limits.{minVertices, maxVertices, countFits}
 use Rattle.reader.specs.Chain.{overLimit, vertexCount}
 use Rattle.reader.specs.Order.{FilePlace, link-to, link-link, Precedes, by-place, by-number, First, NoneDue}
-use Rattle.reader.specs.Due.{HasRecords, ChainAtMost, FileDue, limit-wrong, length-wrong, area-factor, link-over, met-again, too-many, over-limit, kind-unknown, no-height, not-finite, tail-not-zero, out-of-range, normal-out-of-range, too-few, vertex-repeated}
+use Rattle.reader.specs.Due.{HasRecords, ChainAtMost, FileDue, limit-wrong, length-wrong, area-factor}
+use Rattle.reader.specs.Due.{link-over, met-again, too-many, over-limit, kind-unknown, no-height, not-finite}
+use Rattle.reader.specs.Due.{tail-not-zero, out-of-range, normal-out-of-range, too-few, vertex-repeated}
 use Rattle.reader.specs.Reading.{numberDue, polygonOf, answer, readingOf, statusNumber}
 use Rattle.reader.specs.declared.Status.the-variants.{Complete}
 use Rattle.reader.proofs.Order.{verdict-first, verdict-zero}
@@ -64,7 +66,8 @@ module _ {small large : ℕ} (least : minVertices ≤ small) (below : small ≤ 
         by : ((k : ℕ) × First (FileDue small s) k) ⊎ NoneDue (FileDue small s) → numberDue small s ≡ numberDue large s
         by (inl (k, f)) =
             verdict-first (verdict small s) f
-            ∙ sym (verdict-first (verdict large s) (record { place = f .place; is-due = onward (f .is-due); none-before = λ p j h d. f .none-before p j h (back d) }))
+            ∙ sym (verdict-first (verdict large s)
+            (record { place = f .place; is-due = onward (f .is-due); none-before = λ p j h d. f .none-before p j h (back d) }))
         by (inr n) = verdict-zero (verdict small s) n ∙ sym (verdict-zero (verdict large s) (record { none = λ p k d. n .none p k (back d) }))
 
     pub reading-alike : readingOf small s ≡ readingOf large s

@@ -6,7 +6,9 @@ use Rattle.lists.proofs.Choice.{Compared, less, same, more, compared}
 use Rattle.terms.proofs.Order.{Ordered, earlier, later, one-place}
 use Rattle.terms.proofs.Order as order
 pub use Rattle.terms.proofs.Order.{first-due, none-due, none-first, verdict-either, verdict-given, verdict-zero, verdict-none}
-use Rattle.reader.specs.Order.{FilePlace, request, header, link-to, record-at, rim, FileBefore, request-header, request-link, request-record, request-rim, header-link, header-record, header-rim, link-link, link-record, record-link, record-record, link-rim, record-rim, First}
+use Rattle.reader.specs.Order.{FilePlace, request, header, link-to, record-at, rim, FileBefore, request-header}
+use Rattle.reader.specs.Order.{request-link, request-record, request-rim, header-link, header-record, header-rim}
+use Rattle.reader.specs.Order.{link-link, link-record, record-link, record-record, link-rim, record-rim, First}
 
 link-and-link : {h i : ℕ} → Compared h i → Ordered FileBefore (link-to h) (link-to i)
 link-and-link (less l) = earlier (link-link l)

@@ -20,7 +20,8 @@ use Rattle.rim_file.proofs.Floats.{UpTo}
 use Rattle.reader.specs.Chain.{metBefore, vertexAtPosition, normalAtPosition, overLimit, linkCode, recordCode, positionCode}
 use Rattle.reader.specs.Chain as chain
 use Rattle.reader.specs.Order.{link-to, record-at}
-use Rattle.reader.specs.Due.{InFile, HasRecords, FileDue, link-over, met-again, too-many, over-limit, kind-unknown, no-height, not-finite, tail-not-zero, out-of-range, normal-out-of-range}
+use Rattle.reader.specs.Due.{InFile, HasRecords, FileDue, link-over, met-again, too-many, over-limit, kind-unknown}
+use Rattle.reader.specs.Due.{no-height, not-finite, tail-not-zero, out-of-range, normal-out-of-range}
 use Rattle.reader.proofs.Answers.{over-least}
 use Rattle.reader.proofs.Normals.{normal-given, normal-due}
 use Rattle.reader.proofs.RecordNumbers.{record-most, kind-given, height-given, tail-given, finite-given, range-given, record-due}
@@ -127,7 +128,8 @@ pub record Reached (s : List ℕ) (i : ℕ) : Type 0 where
   pub goes-on : 0 < chain.link s i
 
 pub shorter : {s : List ℕ} {m : ℕ} (n : ℕ) → n ≤ m → HasRecords s m → HasRecords s n
-shorter n h has = record { has-header = has .has-header; in-file = λ i l. has .in-file i (omega arith); different = λ i j l k. has .different i j l (omega arith) }
+shorter n h has =
+    record { has-header = has .has-header; in-file = λ i l. has .in-file i (omega arith); different = λ i j l k. has .different i j l (omega arith) }
 
 pub record-reached : {s : List ℕ} (i : ℕ) → HasRecords s (suc i) → Reached s i
 record-reached i has = record { has = shorter i (omega arith) has; goes-on = has .in-file i (omega arith) .numbered }
@@ -183,7 +185,8 @@ module _ (limit : ℕ) (s : List ℕ) (whole : Whole s) (i : ℕ) (r : Reached s
       given : {k : ℕ} → linkCode limit s i ≡ k → FileDue limit s (link-to i) k → FileDue limit s (link-to i) (suc c)
       given f d = subst (λ (k : ℕ). FileDue limit s (link-to i) k) (sym f ∙ e) d
 
-      by : (x y z : Bool) → ltb (recordCount s) (chain.link s i) ≡ x → metBefore s i (chain.link s i) ≡ y → leb limit i ≡ z → FileDue limit s (link-to i) (suc c)
+      by : (x y z : Bool) → ltb (recordCount s) (chain.link s i) ≡ x → metBefore s i (chain.link s i) ≡ y → leb limit i ≡ z →
+          FileDue limit s (link-to i) (suc c)
       by true y z p q t = given (yes 3 _ p) (link-over i (r .has) (ltb-true (recordCount s) (chain.link s i) p))
       by false true z p q t = let m = met-found s i (chain.link s i) q in given (no 3 _ p ∙ yes 4 _ q) (met-again (m .at) i (m .before) (r .has) (m .same))
       by false false true p q t =

@@ -27,7 +27,8 @@ module _ (s : List ℕ) (i : ℕ) where
   abbrev pub levelFloats : List Float
   levelFloats = firstNumber s (offset s (chain.link s i)) ∷ secondNumber s (offset s (chain.link s i)) ∷ []
 
-  pub record-number : numberOf (vertexAtPosition s i) ≡ tests (eqb (kindAt s i) 1) (eqb (kindAt s i) 2) (known (heightBefore s i)) (tailZeroAt s i) pointFloats levelFloats
+  pub record-number : numberOf (vertexAtPosition s i)
+      ≡ tests (eqb (kindAt s i) 1) (eqb (kindAt s i) 2) (known (heightBefore s i)) (tailZeroAt s i) pointFloats levelFloats
   record-number = vertex-number s (offset s (chain.link s i)) (known (heightBefore s i)) (heightOf (heightBefore s i))
 
   -- the numbers of a record come before 18
@@ -60,7 +61,8 @@ module _ (s : List ℕ) (i : ℕ) where
       by true p = let e : numberOf (vertexAtPosition s i) ≡ 8 = level-number k ∙ yes _ _ p ∙ no _ _ t in record { some = omega arith; most = omega arith }
 
   -- of a float: 7, 8, or what the floats give
-  floats-given : (k : ℕ) (v : Float) → 8 ≤ k → List·Memᴰ v (floatsAt s i) → ((vs : List Float) → List·Memᴰ v vs → UpTo k (numbersCode vs)) → UpTo k (numberOf (vertexAtPosition s i))
+  floats-given : (k : ℕ) (v : Float) → 8 ≤ k → List·Memᴰ v (floatsAt s i) → ((vs : List Float) → List·Memᴰ v vs → UpTo k (numbersCode vs)) →
+      UpTo k (numberOf (vertexAtPosition s i))
   floats-given k v h m code = by (eqb (kindAt s i) 1) (eqb (kindAt s i) 2) (known (heightBefore s i)) (tailZeroAt s i) refl refl refl refl
     where
       member : {vs : List Float} → floatsAt s i ≡ vs → List·Memᴰ v vs
@@ -69,7 +71,8 @@ module _ (s : List ℕ) (i : ℕ) where
       upto : {c : ℕ} → numberOf (vertexAtPosition s i) ≡ c → UpTo k c → UpTo k (numberOf (vertexAtPosition s i))
       upto e u = record { some = omega (arith, u .some); most = omega (arith, u .most) }
 
-      by : (one two kn tail : Bool) → eqb (kindAt s i) 1 ≡ one → eqb (kindAt s i) 2 ≡ two → known (heightBefore s i) ≡ kn → tailZeroAt s i ≡ tail → UpTo k (numberOf (vertexAtPosition s i))
+      by : (one two kn tail : Bool) → eqb (kindAt s i) 1 ≡ one → eqb (kindAt s i) 2 ≡ two → known (heightBefore s i) ≡ kn → tailZeroAt s i ≡ tail →
+          UpTo k (numberOf (vertexAtPosition s i))
       by true two kn tail a b c d = upto (record-number ∙ yes _ _ a) (code pointFloats (member (yes _ _ a)))
       by false true true true a b c d = upto (record-number ∙ no _ _ a ∙ yes _ _ b ∙ yes _ _ c ∙ yes _ _ d) (code levelFloats (member (no _ _ a ∙ yes _ _ b)))
       by false true true false a b c d = upto (record-number ∙ no _ _ a ∙ yes _ _ b ∙ yes _ _ c ∙ no _ _ d) (record { some = omega arith; most = h })
@@ -93,10 +96,12 @@ module _ (s : List ℕ) (i : ℕ) where
         by : (f r : Bool) → allOf finite vs ≡ f → allOf inRange vs ≡ r → _≡_ {A = ℕ} (cond f (cond r 0 9) 8) (suc c) → FileDue limit s (record-at i) (suc c)
         by false r p q d =
             let w = all-of-fails finite vs p in
-            subst (λ (k : ℕ). FileDue limit s (record-at i) k) d (not-finite i (w .value) has (subst (λ (l : List Float). List·Memᴰ (w .value) l) (sym u) (w .member)) (w .fails))
+            subst (λ (k : ℕ). FileDue limit s (record-at i) k) d
+            (not-finite i (w .value) has (subst (λ (l : List Float). List·Memᴰ (w .value) l) (sym u) (w .member)) (w .fails))
         by true false p q d =
             let w = all-of-fails inRange vs q in
-            subst (λ (k : ℕ). FileDue limit s (record-at i) k) d (out-of-range i (w .value) has (subst (λ (l : List Float). List·Memᴰ (w .value) l) (sym u) (w .member)) (w .fails))
+            subst (λ (k : ℕ). FileDue limit s (record-at i) k) d
+            (out-of-range i (w .value) has (subst (λ (l : List Float). List·Memᴰ (w .value) l) (sym u) (w .member)) (w .fails))
         by true true p q d = absurd (omega (arith, d))
 
     pub record-due : (c : ℕ) → numberOf (vertexAtPosition s i) ≡ suc c → FileDue limit s (record-at i) (suc c)
@@ -107,5 +112,7 @@ module _ (s : List ℕ) (i : ℕ) where
         by true two kn tail a b k t d = floats-due pointFloats c (yes _ _ a) d
         by false true true true a b k t d = floats-due levelFloats c (no _ _ a ∙ yes _ _ b) d
         by false true true false a b k t d = subst (λ (k : ℕ). FileDue limit s (record-at i) k) d (tail-not-zero i has (eqb-true (kindAt s i) 2 b) t)
-        by false true false tail a b k t d = subst (λ (k : ℕ). FileDue limit s (record-at i) k) d (no-height i has (eqb-true (kindAt s i) 2 b) (height-unknown s i k))
-        by false false kn tail a b k t d = subst (λ (k : ℕ). FileDue limit s (record-at i) k) d (kind-unknown i has (eqb-false (kindAt s i) 1 a) (eqb-false (kindAt s i) 2 b))
+        by false true false tail a b k t d =
+            subst (λ (k : ℕ). FileDue limit s (record-at i) k) d (no-height i has (eqb-true (kindAt s i) 2 b) (height-unknown s i k))
+        by false false kn tail a b k t d =
+            subst (λ (k : ℕ). FileDue limit s (record-at i) k) d (kind-unknown i has (eqb-false (kindAt s i) 1 a) (eqb-false (kindAt s i) 2 b))

@@ -30,8 +30,10 @@ use Rattle.reader.proofs.RecordNumbers.{pointFloats, levelFloats, recor
 
 module _ (s : List ℕ) where
   -- the vertex by its tests
-  vertex-shape : (i : ℕ) (one two kn tail : Bool) → eqb (kindAt s i) 1 ≡ one → eqb (kindAt s i) 2 ≡ two → known (heightBefore s i) ≡ kn → tailZeroAt s i ≡ tail →
-      vertexAtPosition s i ≡ shape one two kn tail (firstNumber s (offset s (chain.link s i))) (secondNumber s (offset s (chain.link s i))) (thirdNumber s (offset s (chain.link s i))) (heightOf (heightBefore s i))
+  vertex-shape : (i : ℕ) (one two kn tail : Bool) → eqb (kindAt s i) 1 ≡ one → eqb (kindAt s i) 2 ≡ two →
+      known (heightBefore s i) ≡ kn → tailZeroAt s i ≡ tail →
+      vertexAtPosition s i ≡ shape one two kn tail (firstNumber s (offset s (chain.link s i))) (secondNumber s (offset s (chain.link s i)))
+      (thirdNumber s (offset s (chain.link s i))) (heightOf (heightBefore s i))
   vertex-shape i one two kn tail a b c d = rw c (shape-is one two kn tail s (offset s (chain.link s i)) (heightOf (heightBefore s i)) a b d)
 
   grid-code : (i : ℕ) (vs : List Float) → floatsAt s i ≡ vs → OnGridAt s i → numbersCode vs ≡ 0
@@ -51,7 +53,8 @@ module _ (s : List ℕ) where
       let two : eqb (kindAt s i) 2 ≡ true = eq-eqb (kindAt s i) 2 k in
       let height = height-of-last s i j l in
       ap pointOf (vertex-shape i false true true true one two (ap known height) t)
-      ∙ ap (λ (c : ℕ). pointOf (vertexUnless c (point (xAt s i) (yAt s i) (heightOf (heightBefore s i))))) (grid-code i (levelFloats s i) (no _ _ one ∙ yes _ _ two) g)
+      ∙ ap (λ (c : ℕ). pointOf (vertexUnless c (point (xAt s i) (yAt s i) (heightOf (heightBefore s i)))))
+      (grid-code i (levelFloats s i) (no _ _ one ∙ yes _ _ two) g)
       ∙ ap (λ z. point (xAt s i) (yAt s i) (heightOf z)) height
 
   -- ---- a record with no number gives a vertex
@@ -126,5 +129,6 @@ module _ (s : List ℕ) where
             ∙ vertex-in-table n (f .at) (f .high);
       }
 
-  pub not-repeated : (n i j : ℕ) → repeatedVertex (verticesOf s n) n ≡ false → i < j → j < n → pointOf (vertexAtPosition s i) ≡ pointOf (vertexAtPosition s j) → ⊥
+  pub not-repeated : (n i j : ℕ) → repeatedVertex (verticesOf s n) n ≡ false → i < j → j < n →
+      pointOf (vertexAtPosition s i) ≡ pointOf (vertexAtPosition s j) → ⊥
   not-repeated n i j r h l e = repeated-none (verticesOf s n) n r i j h l (vertex-in-table n i (omega arith) ∙ e ∙ sym (vertex-in-table n j l))

@@ -46,7 +46,8 @@ abbrev progress : List Bool → Height → GridPoint → Normal → ℕ → ℕ 
 progress met height vertex normal n next = record { code = 0; met = met; height = height; vertex = vertex; normal = normal; n = n; link = next }
 
 -- before the first position no record is met
-pub walking-start : (limit : ℕ) (s : List ℕ) (first : ℕ) → first ≡ firstRecord s → Walking limit s (progress (replicate recordNumbers false) Unknown origin noNormal 0 first)
+pub walking-start : (limit : ℕ) (s : List ℕ) (first : ℕ) → first ≡ firstRecord s →
+    Walking limit s (progress (replicate recordNumbers false) Unknown origin noNormal 0 first)
 unfolding link metBefore heightBefore
 walking-start limit s first e = record {
   here = e;
@@ -122,10 +123,12 @@ module _ {limit : ℕ} {s : List ℕ} {w : Progress} (v : Walking limit s w) whe
             ∙ ap (λ (h : Height). vertexOf (recordAt s (offset s (link s (w .n))) (known h)) (heightOf h)) (v .level)
 
         -- the record here is refused
-        pub record-stops : {r : Progress} (k : ℕ) → vertexOf (recordAt s at (known (w .height))) (heightOf (w .height)) ≡ Refused k → r .code ≡ k → Stepped limit s w r
+        pub record-stops : {r : Progress} (k : ℕ) → vertexOf (recordAt s at (known (w .height))) (heightOf (w .height)) ≡ Refused k →
+            r .code ≡ k → Stepped limit s w r
         record-stops k e c =
             let some = refused-positive s at (known (w .height)) (heightOf (w .height)) k e in
-            let due : recordCode s (w .n) ≡ k = due-here {j = numberOf (vertexAtPosition s (w .n))} (normalCode (normalAtPosition s (w .n))) (sym (ap numberOf (sym vertex-here ∙ e))) (λ z. omega arith) in
+            let due : recordCode s (w .n) ≡ k = due-here {j = numberOf (vertexAtPosition s (w .n))} (normalCode (normalAtPosition s (w .n)))
+            (sym (ap numberOf (sym vertex-here ∙ e))) (λ z. omega arith) in
             stopped-by k some (record-code ∙ due) c
 
         -- past the record here: it is marked, and its height is known
@@ -145,16 +148,19 @@ module _ {limit : ℕ} {s : List ℕ} {w : Progress} (v : Walking limit s w) whe
         level-next p d =
             sym (d .height-after)
             ∙ ap (λ (i : ℕ). cond (eqb (kind s i) 1) (Known (roundEighths (thirdNumber s i))) (w .height)) starts
-            ∙ ap (λ (h : Height). cond (eqb (kind s (offset s (link s (w .n)))) 1) (Known (roundEighths (thirdNumber s (offset s (link s (w .n)))))) h) (v .level)
+            ∙ ap (λ (h : Height).
+            cond (eqb (kind s (offset s (link s (w .n)))) 1) (Known (roundEighths (thirdNumber s (offset s (link s (w .n)))))) h) (v .level)
 
         -- the record here has a vertex, and this normal
-        module _ (p : GridPoint) (has-vertex : vertexOf (recordAt s at (known (w .height))) (heightOf (w .height)) ≡ At p) (q : Normal) (has-normal : q ≡ normalIn s at) where
+        module _ (p : GridPoint) (has-vertex : vertexOf (recordAt s at (known (w .height))) (heightOf (w .height)) ≡ At p)
+            (q : Normal) (has-normal : q ≡ normalIn s at) where
           normal-here : q ≡ normalAtPosition s (w .n)
           normal-here = has-normal ∙ ap (λ (i : ℕ). normalIn s i) starts
 
           normal-code : positionCode limit s (w .n) ≡ normalCode q
           normal-code =
-              record-code ∙ due-on {j = numberOf (vertexAtPosition s (w .n))} (normalCode (normalAtPosition s (w .n))) (ap numberOf (sym vertex-here ∙ has-vertex)) ∙ ap normalCode (sym normal-here)
+              record-code ∙ due-on {j = numberOf (vertexAtPosition s (w .n))} (normalCode (normalAtPosition s (w .n)))
+              (ap numberOf (sym vertex-here ∙ has-vertex)) ∙ ap normalCode (sym normal-here)
 
           -- the normal is refused
           pub normal-stops : {r : Progress} {k : ℕ} → k ≡ normalCode q → 0 < k → r .code ≡ k → Stepped limit s w r

@@ -10,7 +10,8 @@ use lib.Dec.{ltb, eqb}
 use lib.ListN.{length}
 use Rattle.lists.specs.Lists.{either}
 use Rattle.lists.proofs.Choice.{yes, no, not-true-false, not-false-true}
-use Rattle.rim_file.specs.File.{u16At, isEdition2, marker, markerSize, headerSize, recordSize1, recordSize2, layout1, layout2, layoutOf, headerStart, recordSize, recordCount, maxRecords, lengthWrong, offset}
+use Rattle.rim_file.specs.File.{u16At, isEdition2, marker, markerSize, headerSize, recordSize1, recordSize2, layout1}
+use Rattle.rim_file.specs.File.{layout2, layoutOf, headerStart, recordSize, recordCount, maxRecords, lengthWrong, offset}
 use Rattle.rim_file.specs.Layouts.{Edition1, Edition2}
 use Rattle.rim_file.specs.declared.Layout.{Layout}
 use Rattle.rim_file.proofs.Normals.{normal-1, normal-2}
@@ -62,7 +63,8 @@ module _ (s : List ℕ) where
   record-end (suc k) h = let e : suc k - 1 ≡ k = omega arith in rw e (omega arith)
 
   -- record k of R ends within a file that has all R
-  pub record-within : (k : ℕ) → 0 < k → k ≤ recordCount s → length s ≡ headerStart s + headerSize + recordSize s * recordCount s → offset s k + recordSize s ≤ length s
+  pub record-within : (k : ℕ) → 0 < k → k ≤ recordCount s → length s ≡ headerStart s + headerSize + recordSize s * recordCount s →
+      offset s k + recordSize s ≤ length s
   record-within k h l e = omega (arith, record-end k h, mul-le-mul-left (recordSize s) l)
 
 -- ---- the layout as it is handed on

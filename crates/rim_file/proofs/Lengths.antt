@@ -32,7 +32,8 @@ whole s e =
     record {
       header = ltb-false (length s) (headerStart s + headerSize) a;
       few = ltb-false maxRecords (recordCount s) b;
-      records = eqb-true (length s) (headerStart s + headerSize + recordSize s * recordCount s) (not-false (eqb (length s) (headerStart s + headerSize + recordSize s * recordCount s)) c);
+      records = eqb-true (length s) (headerStart s + headerSize + recordSize s * recordCount s)
+          (not-false (eqb (length s) (headerStart s + headerSize + recordSize s * recordCount s)) c);
     }
 
 -- the test, by what is found one after the other

@@ -73,7 +73,8 @@ numbers-placed true true true true true false gx gy gz = refl
 numbers-placed true true true true true true gx gy gz = refl
 
 pub point-placed : (x y z : Float) →
-    placed (gridNumberOf x) (gridNumberOf y) (gridNumberOf z) ≡ vertexUnless (numbersCode (x ∷ y ∷ z ∷ [])) (point (roundEighths x) (roundEighths y) (roundEighths z))
+    placed (gridNumberOf x) (gridNumberOf y) (gridNumberOf z)
+    ≡ vertexUnless (numbersCode (x ∷ y ∷ z ∷ [])) (point (roundEighths x) (roundEighths y) (roundEighths z))
 unfolding gridNumberOf numbersCode number code
 point-placed x y z =
     numbers-placed (finite x) (finite y) (finite z) (inRange x) (inRange y) (inRange z) (roundEighths x) (roundEighths y) (roundEighths z)

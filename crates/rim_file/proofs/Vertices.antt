@@ -45,7 +45,8 @@ pub record Vertexed (s : List ℕ) (i : ℕ) (h : Height) (p : GridPoint) : Type
   pub on-grid : PointOnGrid p
   pub height-after : cond (eqb (kind s i) 1) (Known (roundEighths (thirdNumber s i))) h ≡ Known (p .z)
 
-point-vertexed : (x y z : Float) (p : GridPoint) → vertexUnless (numbersCode (x ∷ y ∷ z ∷ [])) (point (roundEighths x) (roundEighths y) (roundEighths z)) ≡ At p →
+point-vertexed : (x y z : Float) (p : GridPoint) →
+    vertexUnless (numbersCode (x ∷ y ∷ z ∷ [])) (point (roundEighths x) (roundEighths y) (roundEighths z)) ≡ At p →
     PointOnGrid p × (roundEighths z ≡ p .z)
 point-vertexed x y z p e =
     let d = vertex-unless (numbersCode (x ∷ y ∷ z ∷ [])) (point (roundEighths x) (roundEighths y) (roundEighths z)) p e in
@@ -82,7 +83,8 @@ known-is (Known z) e = refl
 unfoldable pub shape : (one two known tail : Bool) (x y z : Float) (h : ℤ) → Vertex
 shape one two known tail x y z h =
     cond one (vertexUnless (numbersCode (x ∷ y ∷ z ∷ [])) (point (roundEighths x) (roundEighths y) (roundEighths z)))
-    (cond two (cond known (cond tail (vertexUnless (numbersCode (x ∷ y ∷ [])) (point (roundEighths x) (roundEighths y) h)) (Refused 8)) (Refused 7)) (Refused 6))
+    (cond two (cond known (cond tail (vertexUnless (numbersCode (x ∷ y ∷ [])) (point (roundEighths x) (roundEighths y) h)) (Refused 8)) (Refused 7))
+    (Refused 6))
 
 pub shape-is : (one two known tail : Bool) (s : List ℕ) (i : ℕ) (h : ℤ) → eqb (kind s i) 1 ≡ one → eqb (kind s i) 2 ≡ two → tailZero s i ≡ tail →
     vertexOf (recordAt s i known) h ≡ shape one two known tail (firstNumber s i) (secondNumber s i) (thirdNumber s i) h
@@ -106,7 +108,8 @@ vertexed-by false true true false s i h p a k g e = absurd (let z : _≡_ {A = �
 vertexed-by false true false tail s i h p a k g e = absurd (let z : _≡_ {A = ℕ} 0 1 = cc in omega arith)
 vertexed-by false false kn tail s i h p a k g e = absurd (let z : _≡_ {A = ℕ} 0 1 = cc in omega arith)
 
-pub vertexed : (s : List ℕ) (i : ℕ) (h : Height) (p : GridPoint) → OnGrid (heightOf h) → vertexOf (recordAt s i (known h)) (heightOf h) ≡ At p → Vertexed s i h p
+pub vertexed : (s : List ℕ) (i : ℕ) (h : Height) (p : GridPoint) → OnGrid (heightOf h) →
+    vertexOf (recordAt s i (known h)) (heightOf h) ≡ At p → Vertexed s i h p
 vertexed s i h p g e =
     vertexed-by (eqb (kind s i) 1) (eqb (kind s i) 2) (known h) (tailZero s i) s i h p refl refl g
     (sym (shape-is (eqb (kind s i) 1) (eqb (kind s i) 2) (known h) (tailZero s i) s i (heightOf h) refl refl refl) ∙ e)
@@ -142,7 +145,8 @@ shape-number false true true false x y z h = refl
 shape-number false true false tail x y z h = refl
 shape-number false false kn tail x y z h = refl
 
-pub vertex-number : (s : List ℕ) (i : ℕ) (kn : Bool) (h : ℤ) → numberOf (vertexOf (recordAt s i kn) h) ≡ tests (eqb (kind s i) 1) (eqb (kind s i) 2) kn (tailZero s i)
+pub vertex-number : (s : List ℕ) (i : ℕ) (kn : Bool) (h : ℤ) →
+    numberOf (vertexOf (recordAt s i kn) h) ≡ tests (eqb (kind s i) 1) (eqb (kind s i) 2) kn (tailZero s i)
     (firstNumber s i ∷ secondNumber s i ∷ thirdNumber s i ∷ []) (firstNumber s i ∷ secondNumber s i ∷ [])
 vertex-number s i kn h =
     ap numberOf (shape-is (eqb (kind s i) 1) (eqb (kind s i) 2) kn (tailZero s i) s i h refl refl refl)

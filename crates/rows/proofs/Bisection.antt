@@ -65,7 +65,8 @@ module _ (o i : ℕ) where
   skip [] (suc low) h = refl
   skip (r ∷ rows) (suc low) h = no _ _ (h 0 (omega arith)) ∙ skip rows low (λ k l. h (suc k) (omega arith))
 
-  pub none : (rows : List (List ℕ)) → ((k : ℕ) → k < length rows → both (eqb (outer (entryAt rows k)) o) (eqb (inner (entryAt rows k)) i) ≡ false) → pairWeight rows o i ≡ 0
+  pub none : (rows : List (List ℕ)) →
+      ((k : ℕ) → k < length rows → both (eqb (outer (entryAt rows k)) o) (eqb (inner (entryAt rows k)) i) ≡ false) → pairWeight rows o i ≡ 0
   none rows h = skip rows (length rows) h ∙ ap (λ r. pairWeight r o i) (drop-length rows)
 
   module _ (rows : List (List ℕ)) where
@@ -84,13 +85,15 @@ module _ (o i : ℕ) where
       before-trans k l h m e = is-before (outerAt k) (innerAt k) o i
           (go (before-true (outerAt k) (innerAt k) (outerAt l) (innerAt l) (sorted .up k l h m)) (before-true (outerAt l) (innerAt l) o i e))
         where
-          go : (outerAt k < outerAt l) ⊎ ((outerAt k ≡ outerAt l) × (innerAt k < innerAt l)) → (outerAt l < o) ⊎ ((outerAt l ≡ o) × (innerAt l < i)) → (outerAt k < o) ⊎ ((outerAt k ≡ o) × (innerAt k < i))
+          go : (outerAt k < outerAt l) ⊎ ((outerAt k ≡ outerAt l) × (innerAt k < innerAt l)) → (outerAt l < o) ⊎ ((outerAt l ≡ o) × (innerAt l < i)) →
+              (outerAt k < o) ⊎ ((outerAt k ≡ o) × (innerAt k < i))
           go (inl a) (inl b) = inl (omega arith)
           go (inl a) (inr b) = inl (omega arith)
           go (inr a) (inl b) = inl (omega arith)
           go (inr a) (inr b) = inr (a .0 ∙ b .0, omega arith)
 
-      pub cut-up : {low high : ℕ} (middle : ℕ) → Cut rows o i low high → low ≤ middle → middle < high → rowIsBefore (getD rows middle []) o i ≡ true → Cut rows o i (middle + 1) high
+      pub cut-up : {low high : ℕ} (middle : ℕ) → Cut rows o i low high → low ≤ middle → middle < high → rowIsBefore (getD rows middle []) o i ≡ true →
+          Cut rows o i (middle + 1) high
       cut-up middle c h l e = record {
         order = omega arith;
         within = c .within;
@@ -98,7 +101,8 @@ module _ (o i : ℕ) where
         right = c .right;
       }
 
-      pub cut-down : {low high : ℕ} (middle : ℕ) → Cut rows o i low high → low ≤ middle → middle < high → rowIsBefore (getD rows middle []) o i ≡ false → Cut rows o i low middle
+      pub cut-down : {low high : ℕ} (middle : ℕ) → Cut rows o i low high → low ≤ middle → middle < high →
+          rowIsBefore (getD rows middle []) o i ≡ false → Cut rows o i low middle
       cut-down middle c h l e = record {
         order = h;
         within = omega (arith, c .within);
@@ -108,7 +112,8 @@ module _ (o i : ℕ) where
 
       before-names : (k : ℕ) → rowIsBefore (entryAt rows k) o i ≡ true → both (eqb (outerAt k) o) (eqb (innerAt k) i) ≡ false
       unfolding outerAt innerAt
-      before-names k e = names-false (outerAt k) (innerAt k) o i (λ p q. ⊎-elim (λ h. omega arith) (λ h. omega arith) (before-true (outerAt k) (innerAt k) o i e))
+      before-names k e =
+          names-false (outerAt k) (innerAt k) o i (λ p q. ⊎-elim (λ h. omega arith) (λ h. omega arith) (before-true (outerAt k) (innerAt k) o i e))
 
       pub cut-end : {low high : ℕ} → Cut rows o i low high → high ≤ low → low < length rows → rowOrZero (entryAt rows low) o i ≡ pairWeight rows o i
       unfolding outerAt innerAt
@@ -118,15 +123,20 @@ module _ (o i : ℕ) where
           ∙ ap (cond (both (eqb (outerAt low) o) (eqb (innerAt low) i)) (rowWeight (entryAt rows low))) (none (drop (suc low) rows) after))
         where
           later : (k : ℕ) → low < k → k < length rows → both (eqb (outerAt k) o) (eqb (innerAt k) i) ≡ false
-          later k a b = names-false (outerAt k) (innerAt k) o i (λ p q. go p q (before-true (outerAt low) (innerAt low) (outerAt k) (innerAt k) (sorted .up low k a b)) (before-false (outerAt low) (innerAt low) o i (c .right low h l)))
+          later k a b =
+              names-false (outerAt k) (innerAt k) o i
+              (λ p q. go p q (before-true (outerAt low) (innerAt low) (outerAt k) (innerAt k) (sorted .up low k a b))
+              (before-false (outerAt low) (innerAt low) o i (c .right low h l)))
             where
-              go : outerAt k ≡ o → innerAt k ≡ i → (outerAt low < outerAt k) ⊎ ((outerAt low ≡ outerAt k) × (innerAt low < innerAt k)) → (o < outerAt low) ⊎ ((outerAt low ≡ o) × (i ≤ innerAt low)) → ⊥
+              go : outerAt k ≡ o → innerAt k ≡ i → (outerAt low < outerAt k) ⊎ ((outerAt low ≡ outerAt k) × (innerAt low < innerAt k)) →
+                  (o < outerAt low) ⊎ ((outerAt low ≡ o) × (i ≤ innerAt low)) → ⊥
               go p q (inl u) (inl v) = omega arith
               go p q (inl u) (inr v) = omega arith
               go p q (inr u) (inl v) = omega arith
               go p q (inr u) (inr v) = omega arith
 
-          after : (k : ℕ) → k < length (drop (suc low) rows) → both (eqb (getD (getD (drop (suc low) rows) k []) 0 0) o) (eqb (getD (getD (drop (suc low) rows) k []) 1 0) i) ≡ false
+          after : (k : ℕ) → k < length (drop (suc low) rows) →
+              both (eqb (getD (getD (drop (suc low) rows) k []) 0 0) o) (eqb (getD (getD (drop (suc low) rows) k []) 1 0) i) ≡ false
           after k m = rw (getD-drop (suc low) rows k []) (later (suc low + k) (omega arith) (omega (arith, length-drop (suc low) rows)))
 
       -- where the two ends meet, as many rows are before (o, i)

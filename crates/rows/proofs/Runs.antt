@@ -16,11 +16,13 @@ use Rattle.rows.specs.Search.{RowsAscend, Run, rowIsBefore, rowsBefore}
 use Rattle.rows.proofs.Bisection.{Cut, cut-of, before-true, before-false, is-before, names-false, skip, none}
 
 -- the rows of later outers do not matter
-front : (o i m : ℕ) (rows : List (List ℕ)) → ((k : ℕ) → m ≤ k → k < length rows → both (eqb (outer (entryAt rows k)) o) (eqb (inner (entryAt rows k)) i) ≡ false)
+front : (o i m : ℕ) (rows : List (List ℕ))
+    → ((k : ℕ) → m ≤ k → k < length rows → both (eqb (outer (entryAt rows k)) o) (eqb (inner (entryAt rows k)) i) ≡ false)
     → pairWeight (take m rows) o i ≡ pairWeight rows o i
 front o i zero rows h = sym (none o i rows (λ k l. h k (omega arith) l))
 front o i (suc m) [] h = refl
-front o i (suc m) (r ∷ rows) h = ap (cond (both (eqb (outer r) o) (eqb (inner r) i)) (rowWeight r)) (front o i m rows (λ k a b. h (suc k) (omega arith) (omega arith)))
+front o i (suc m) (r ∷ rows) h =
+    ap (cond (both (eqb (outer r) o) (eqb (inner r) i)) (rowWeight r)) (front o i m rows (λ k a b. h (suc k) (omega arith) (omega arith)))
 
 module _ (rows : List (List ℕ)) (t k : ℕ) where
   -- a row is before (t, 0) where its outer is below t
@@ -39,7 +41,8 @@ run-start {rows} {t} c = record {
   right = λ k h l. absurd (omega arith);
 }
 
-module _ {rows : List (List ℕ)} (t : ℕ) {first last : ℕ} (sorted : RowsAscend rows) (start : first ≡ rowsBefore rows t 0) (end : last ≡ rowsBefore rows (t + 1) 0) where
+module _ {rows : List (List ℕ)} (t : ℕ) {first last : ℕ} (sorted : RowsAscend rows) (start : first ≡ rowsBefore rows t 0)
+    (end : last ≡ rowsBefore rows (t + 1) 0) where
   a : Cut rows t 0 first first
   a = cut-of t 0 rows sorted start
 
@@ -67,13 +70,20 @@ module _ {rows : List (List ℕ)} (t : ℕ) {first last : ℕ} (sorted : RowsAsc
   run-at k h = getD-take (last - first) (drop first rows) k [] h ∙ getD-drop first rows k []
 
   run-ascends : RowsAscend run
-  run-ascends = record { up = λ k l h m. let m′ : l < last - first = omega (arith, run-long) in rw (run-at k (omega arith), run-at l m′) (sorted .up (first + k) (first + l) (omega arith) (omega (arith, b .within))) }
+  run-ascends = record {
+    up = λ k l h m. let m′ : l < last - first = omega (arith, run-long) in
+        rw (run-at k (omega arith), run-at l m′) (sorted .up (first + k) (first + l) (omega arith) (omega (arith, b .within)));
+  }
 
   pub run-of : Run rows t run
   run-of = record {
     ascends = run-ascends;
-    same = λ u. front t u (last - first) (drop first rows) (λ k h l. after u k h (omega (arith, length-drop first rows))) ∙ sym (skip t u rows first (λ k h. names-false _ _ t u (λ p q. let l = below rows t k (a .left k h) in omega arith)));
+    same = λ u. front t u (last - first) (drop first rows) (λ k h l. after u k h (omega (arith, length-drop first rows)))
+        ∙ sym (skip t u rows first (λ k h. names-false _ _ t u (λ p q. let l = below rows t k (a .left k h) in omega arith)));
   }
     where
-      after : (u k : ℕ) → last - first ≤ k → k < length rows - first → both (eqb (outer (entryAt (drop first rows) k)) t) (eqb (inner (entryAt (drop first rows) k)) u) ≡ false
-      after u k h l = rw (getD-drop first rows k []) (names-false _ _ t u (λ p q. let g = above rows (t + 1) (first + k) (b .right (first + k) (omega arith) (omega arith)) in omega arith))
+      after : (u k : ℕ) → last - first ≤ k → k < length rows - first →
+          both (eqb (outer (entryAt (drop first rows) k)) t) (eqb (inner (entryAt (drop first rows) k)) u) ≡ false
+      after u k h l =
+          rw (getD-drop first rows k [])
+          (names-false _ _ t u (λ p q. let g = above rows (t + 1) (first + k) (b .right (first + k) (omega arith) (omega arith)) in omega arith))

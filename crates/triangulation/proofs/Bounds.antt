@@ -25,7 +25,8 @@ module _ (job : Problem) (good : ValidProblem job) (bound : Bounded job) where
   -- a part's total is bounded by its length
   part-light : {i j : ℕ} {l : List ℕ} {x : ℕ} → Part job i j l x → (t : ℕ) → x + hingeWeight job t l ≤ 2 * maxWeight * length l
   part-light (edge e) t = omega arith
-  part-light (node {l = l} {r = r} u h ei ej wl wr) t = omega (arith, part-light wl u, part-light wr u, bound .light u h, bound .row-light t u, length-append l r)
+  part-light (node {l = l} {r = r} u h ei ej wl wr) t =
+      omega (arith, part-light wl u, part-light wr u, bound .light u h, bound .row-light t u, length-append l r)
 
   pub root-shape : (u : ℕ) → u < job .size → Shape u (bestFrom job (job .n) u)
   root-shape u h = go (root-is job good u h)

@@ -3,14 +3,16 @@ use Prim.Native.Nat.{ℕ, zero, suc, _-_, _≤_, _<_}
 use mathlib.Core.Path.{_≡_, refl, sym, ap, ap₂, _∙_}
 use mathlib.Core.Bool.{Bool, true, false, false≢true}
 use mathlib.Core.Logic.{_⊎_, inl, inr, ⊎-elim, _≢_}
-use mathlib.Core.List.{List, [], _∷_, map, List·Memᴰ, List·Memᴰ·head, List·Memᴰ·tail, List·Memᴰ·not-nil, List·Memᴰ·cases-cons, List·Memᴰ·append-cases, Memᴰ·map, cons≢nil, head-eq-of-cons-eq, tail-eq-of-cons-eq}
+use mathlib.Core.List.{List, [], _∷_, map, List·Memᴰ, List·Memᴰ·head, List·Memᴰ·tail, List·Memᴰ·not-nil, List·Memᴰ·cases-cons}
+use mathlib.Core.List.{List·Memᴰ·append-cases, Memᴰ·map, cons≢nil, head-eq-of-cons-eq, tail-eq-of-cons-eq}
 use native.Mathlib.Omega.{arith}
 use native.Mathlib.Nat.{le-antisymm}
 use lib.ListN.{length}
 use lib.Dec.{eqb}
 use borrow.Author.Tests.{eqb-true, eqb-false}
 use Rattle.lists.specs.Sums.{sum, numbersFrom}
-use Rattle.triangulation.specs.Triangulations.{Problem, ValidProblem, Answer, none, patch, answerOf, subsets, noLater, least, isTriangulation, triangulations, totalWeight, preorder, key, bestKey, best}
+use Rattle.triangulation.specs.Triangulations.{Problem, ValidProblem, Answer, none, patch, answerOf, subsets, noLater, least}
+use Rattle.triangulation.specs.Triangulations.{isTriangulation, triangulations, totalWeight, preorder, key, bestKey, best}
 use Rattle.triangulation.specs.Demand3.{Triangulates, Earlier, here, later, Optimal, Demand3, NamesOnce, HandedBack}
 use Rattle.triangulation.proofs.Sums.{Mem, mem-keep, keep-mem, once-apart}
 use Rattle.triangulation.proofs.Parts.{part-length}
@@ -30,7 +32,9 @@ module _ where
     without : List·Memᴰ s (subsets (numbersFrom (suc i) c)) → Split i c s
 
   pub split : (i c : ℕ) (s : List ℕ) → List·Memᴰ s (subsets (numbersFrom i (suc c))) → Split i c s
-  split i c s m = ⊎-elim (λ h. go (map-mem (λ r. i ∷ r) s (subsets (numbersFrom (suc i) c)) h)) without (List·Memᴰ·append-cases (map (λ r. i ∷ r) (subsets (numbersFrom (suc i) c))) m)
+  split i c s m =
+      ⊎-elim (λ h. go (map-mem (λ r. i ∷ r) s (subsets (numbersFrom (suc i) c)) h)) without
+      (List·Memᴰ·append-cases (map (λ r. i ∷ r) (subsets (numbersFrom (suc i) c))) m)
     where
       go : Image (λ r. i ∷ r) s (subsets (numbersFrom (suc i) c)) → Split i c s
       go (image r n e) = with-it r n e
@@ -44,10 +48,14 @@ module _ where
 
   pub same-subset : (i c : ℕ) (s t : List ℕ) → List·Memᴰ s (subsets (numbersFrom i c)) → List·Memᴰ t (subsets (numbersFrom i c)) → SameMembers s t → s ≡ t
   unfolding SameMembers
-  same-subset i zero s t m n h = ⊎-elim (λ e. ⊎-elim (λ d. e ∙ sym d) (λ z. absurd (List·Memᴰ·not-nil z)) (List·Memᴰ·cases-cons n)) (λ z. absurd (List·Memᴰ·not-nil z)) (List·Memᴰ·cases-cons m)
+  same-subset i zero s t m n h =
+      ⊎-elim (λ e. ⊎-elim (λ d. e ∙ sym d) (λ z. absurd (List·Memᴰ·not-nil z)) (List·Memᴰ·cases-cons n))
+      (λ z. absurd (List·Memᴰ·not-nil z)) (List·Memᴰ·cases-cons m)
   same-subset i (suc c) s t m n h = go (split i c s m) (split i c t n) (λ s t. same-subset (suc i) c s t)
     where
-      go : Split i c s → Split i c t → ((s t : List ℕ) → List·Memᴰ s (subsets (numbersFrom (suc i) c)) → List·Memᴰ t (subsets (numbersFrom (suc i) c)) → SameMembers s t → s ≡ t) → s ≡ t
+      go : Split i c s → Split i c t →
+          ((s t : List ℕ) → List·Memᴰ s (subsets (numbersFrom (suc i) c)) → List·Memᴰ t (subsets (numbersFrom (suc i) c)) → SameMembers s t → s ≡ t) →
+          s ≡ t
       go (with-it r a e) (with-it q b d) ih =
           let f : (k : ℕ) → Mem k (i ∷ r) → Mem k (i ∷ q) = rw (e, d) at (h .0) in
           let g : (k : ℕ) → Mem k (i ∷ q) → Mem k (i ∷ r) = rw (e, d) at (h .1) in
@@ -178,8 +186,10 @@ module _ (job : Problem) (good : ValidProblem job) where
       agree : (x y : ℕ) (l k : List ℕ) → Optimal job x l → Optimal job y k → patch x l ≡ patch y k
       agree x y l k p q = ⊎-elim
           (λ e. ap₂ patch (p .weight ∙ ap (totalWeight job) e ∙ sym (q .weight)) (p .walk ∙ ap (preorder job) e ∙ sym (q .walk)))
-          (λ e. let z : x ≡ y = le-antisymm (omega (arith, p .lowest (q .set) (q .tiles), q .weight)) (omega (arith, q .lowest (p .set) (p .tiles), p .weight)) in
-          absurd (earlier-asym (rw (← q .walk) at (p .first (q .set) (q .tiles) (λ w. e (sym w)) (sym (q .weight) ∙ sym z))) (rw (← p .walk) at (q .first (p .set) (p .tiles) e (sym (p .weight) ∙ z)))))
+          (λ e. let z : x
+          ≡ y = le-antisymm (omega (arith, p .lowest (q .set) (q .tiles), q .weight)) (omega (arith, q .lowest (p .set) (p .tiles), p .weight)) in
+          absurd (earlier-asym (rw (← q .walk) at (p .first (q .set) (q .tiles) (λ w. e (sym w)) (sym (q .weight) ∙ sym z)))
+          (rw (← p .walk) at (q .first (p .set) (p .tiles) e (sym (p .weight) ∙ z)))))
           (same-list? (p .set) (q .set))
 
       go : (x : Answer) → answer ≡ x → (y : Answer) → best job ≡ y → answer ≡ best job

@@ -68,7 +68,8 @@ noLater-total xs [] p = absurd (false≢true (sym p))
 noLater-total [] (y ∷ ys) p = refl
 noLater-total (x ∷ xs) (y ∷ ys) p = go (ltb x y) (eqb x y) refl refl p (λ h. noLater-total xs ys h)
   where
-    go : (b d : Bool) → ltb x y ≡ b → eqb x y ≡ d → either b (both d (noLater xs ys)) ≡ false → (noLater xs ys ≡ false → noLater ys xs ≡ true) → noLater (y ∷ ys) (x ∷ xs) ≡ true
+    go : (b d : Bool) → ltb x y ≡ b → eqb x y ≡ d → either b (both d (noLater xs ys)) ≡ false → (noLater xs ys ≡ false → noLater ys xs ≡ true) →
+        noLater (y ∷ ys) (x ∷ xs) ≡ true
     go true d e f t ih = absurd (false≢true (sym t))
     go false true e f t ih = noLater-same y x ys xs (sym (eqb-true x y f)) (ih t)
     go false false e f t ih = noLater-less y x ys xs (let h : y ≤ x = ltb-false x y e in let k : x ≢ y = eqb-false x y f in omega arith)
@@ -88,7 +89,8 @@ pub least-le : (ks : List (List ℕ)) (y : List ℕ) → List·Memᴰ y ks → n
 least-le [] y m = absurd (List·Memᴰ·not-nil m)
 least-le (x ∷ xs) y m = go (noLater x (least xs)) refl (List·Memᴰ·cases-cons m) (λ r. least-le xs y r)
   where
-    go : (b : Bool) → noLater x (least xs) ≡ b → (y ≡ x) ⊎ List·Memᴰ y xs → (List·Memᴰ y xs → noLater (least xs) y ≡ true) → noLater (cond b x (least xs)) y ≡ true
+    go : (b : Bool) → noLater x (least xs) ≡ b → (y ≡ x) ⊎ List·Memᴰ y xs → (List·Memᴰ y xs → noLater (least xs) y ≡ true) →
+        noLater (cond b x (least xs)) y ≡ true
     go true e (inl q) ih = rw q (noLater-refl x)
     go true e (inr r) ih = noLater-trans x (least xs) y e (ih r)
     go false e (inl q) ih = rw q (noLater-total x (least xs) e)

@@ -55,7 +55,8 @@ telescope x y z h k = omega arith
 isStep-split : (i x j p q : ℕ) → i < x → x < j → isStep i x p q + isStep x j p q ≡ isStep i j p q
 isStep-split i x j p q h k = go (eqb q (p + 1))
   where
-    go : (b : Bool) → only b (min 1 (p + 1 - i) - min 1 (p + 1 - x)) + only b (min 1 (p + 1 - x) - min 1 (p + 1 - j)) ≡ only b (min 1 (p + 1 - i) - min 1 (p + 1 - j))
+    go : (b : Bool) → only b (min 1 (p + 1 - i) - min 1 (p + 1 - x)) + only b (min 1 (p + 1 - x) - min 1 (p + 1 - j))
+        ≡ only b (min 1 (p + 1 - i) - min 1 (p + 1 - j))
     go true = telescope _ _ _ (past-mono p h) (past-mono p k)
     go false = refl
 
@@ -85,7 +86,8 @@ shortEdge-split a b c p q h = go (eqb a p) (eqb b p) (eqb b q) (eqb c q) refl re
 abbrev pub Within : ℕ → ℕ → ℕ → ℕ → ℕ → Type 0
 Within i j p q z = (z ≡ 0) ⊎ ((z ≡ 1) × (i ≤ p) × (p + 2 ≤ q) × (q ≤ j))
 
-within-node : {i x j p q y z a c : ℕ} → i < x → x < j → a ≡ i → c ≡ j → IsEdge a c p q → Within i x p q y → Within x j p q z → Within i j p q (isEdge a c p q + (y + z))
+within-node : {i x j p q y z a c : ℕ} → i < x → x < j → a ≡ i → c ≡ j → IsEdge a c p q → Within i x p q y → Within x j p q z →
+    Within i j p q (isEdge a c p q + (y + z))
 within-node h k ea ec (hit e f t) (inl y) (inl z) = inr (omega arith)
 within-node h k ea ec (hit e f t) (inr y) (inl z) = absurd (omega arith)
 within-node h k ea ec (hit e f t) (inl y) (inr z) = absurd (omega arith)
@@ -141,7 +143,8 @@ module _ (job : Problem) where
     within (edge e) p q = inl refl
     within (node {i} {j} {l} {r} u h ei ej wl wr) p q =
         rw (sum-append (λ k. only (longEdge job p q k) 1) l r)
-        (within-node (omega (arith, ei, good .ab u h)) (omega (arith, ej, good .bc u h)) ei ej (isEdge-cases (job .a u) (job .c u) p q) (within wl p q) (within wr p q))
+        (within-node (omega (arith, ei, good .ab u h)) (omega (arith, ej, good .bc u h)) ei ej
+        (isEdge-cases (job .a u) (job .c u) p q) (within wl p q) (within wr p q))
 
     pub between-le : {i j : ℕ} {l : List ℕ} {x : ℕ} → Part i j l x → (p q : ℕ) → countBetween job l p q ≤ 1
     between-le w p q = ⊎-elim (λ h. omega arith) (λ h. omega arith) (within w p q)

@@ -12,9 +12,11 @@ use Rattle.lists.proofs.Bools.{both-no}
 use Rattle.lists.proofs.Choice.{no, both-true, either-left, either-right}
 use Rattle.lists.proofs.Ranges.{every-all}
 use Rattle.lists.specs.Sums.{only, sum, keep, numbersFrom}
-use Rattle.triangulation.specs.Triangulations.{Problem, ValidProblem, longEdge, shortEdge, countBetween, countOutside, totalWeight, preorderFrom, isBoundary, edgeOk, isTriangulation}
+use Rattle.triangulation.specs.Triangulations.{Problem, ValidProblem, longEdge, shortEdge, countBetween, countOutside}
+use Rattle.triangulation.specs.Triangulations.{totalWeight, preorderFrom, isBoundary, edgeOk, isTriangulation}
 use Rattle.triangulation.proofs.Sums.{Mem, count, sum-same, count-mono, mem-count, mem-keep, keep-mem}
-use Rattle.triangulation.proofs.Parts.{Part, edge, node, boundary, within, Within, between-le, isEdge, isStep, IsEdge, IsStep, isEdge-cases, isStep-cases}
+use Rattle.triangulation.proofs.Parts.{Part, edge, node, boundary, within, Within, between-le}
+use Rattle.triangulation.proofs.Parts.{isEdge, isStep, IsEdge, IsStep, isEdge-cases, isStep-cases}
 use Rattle.triangulation.proofs.SetParts.{Set, longEdge-is, share, part-total, part-list}
 
 pub mem-upFrom : (i c k : ℕ) → i ≤ k → k < i + c → Mem k (numbersFrom i c)
@@ -27,7 +29,8 @@ mem-upFrom i (suc c) k h l = go (eqb k i) refl (λ d. mem-upFrom (suc i) c k d (
 
 pub upFrom-mem : (i c k : ℕ) → Mem k (numbersFrom i c) → (i ≤ k) × (k < i + c)
 upFrom-mem i zero k m = absurd (List·Memᴰ·not-nil m)
-upFrom-mem i (suc c) k m = ⊎-elim (λ e. (omega arith, omega arith)) (λ r. let d = upFrom-mem (suc i) c k r in (omega arith, omega arith)) (List·Memᴰ·cases-cons m)
+upFrom-mem i (suc c) k m =
+    ⊎-elim (λ e. (omega arith, omega arith)) (λ r. let d = upFrom-mem (suc i) c k r in (omega arith, omega arith)) (List·Memᴰ·cases-cons m)
 
 -- a number is in numbersFrom once at most
 pub upFrom-once : (i c x : ℕ) → count (λ k. eqb k x) (numbersFrom i c) ≤ only (leb i x) 1
@@ -86,7 +89,8 @@ module _ (job : Problem) (good : ValidProblem job) where
         (omega (
           arith,
           between-le job good w (job .a k) (job .c k),
-          count-mono (λ y. eqb k y) (longEdge job (job .a k) (job .c k)) (λ y e. longEdge-is job good l _ _ y (sym (ap (job .a) (eqb-true k y e))) (sym (ap (job .c) (eqb-true k y e)))) l,
+          count-mono (λ y. eqb k y) (longEdge job (job .a k) (job .c k))
+              (λ y e. longEdge-is job good l _ _ y (sym (ap (job .a) (eqb-true k y e))) (sym (ap (job .c) (eqb-true k y e)))) l,
         ))
         (leb-true 1 (count (λ y. eqb k y) l) (keep-mem picked k (numbersFrom 0 (job .size)) m .1)))
         (λ y m. le-antisymm
@@ -107,36 +111,45 @@ module _ (job : Problem) (good : ValidProblem job) where
     edge-ok : (i j : ℕ) → i < j → j < job .n → edgeOk job (isBoundary job i j) (countBetween job l i j) (countOutside job l i j) ≡ true
     edge-ok i j h k = go (isStep-cases 0 (job .n - 1) i j) (isEdge-cases 0 (job .n - 1) i j) (within job good w i j) (boundary job good w i j)
       where
-        on-rim : isBoundary job i j ≡ true → countBetween job l i j + countOutside job l i j ≡ 1 → edgeOk job (isBoundary job i j) (countBetween job l i j) (countOutside job l i j) ≡ true
+        on-rim : isBoundary job i j ≡ true → countBetween job l i j + countOutside job l i j ≡ 1 →
+            edgeOk job (isBoundary job i j) (countBetween job l i j) (countOutside job l i j) ≡ true
         on-rim r e = rw (r, e)
 
-        none : isBoundary job i j ≡ false → countBetween job l i j ≡ 0 → countOutside job l i j ≡ 0 → edgeOk job (isBoundary job i j) (countBetween job l i j) (countOutside job l i j) ≡ true
+        none : isBoundary job i j ≡ false → countBetween job l i j ≡ 0 → countOutside job l i j ≡ 0 →
+            edgeOk job (isBoundary job i j) (countBetween job l i j) (countOutside job l i j) ≡ true
         none r e f = rw (r, e, f)
 
-        two-sided : isBoundary job i j ≡ false → countBetween job l i j ≡ 1 → countOutside job l i j ≡ 1 → edgeOk job (isBoundary job i j) (countBetween job l i j) (countOutside job l i j) ≡ true
+        two-sided : isBoundary job i j ≡ false → countBetween job l i j ≡ 1 → countOutside job l i j ≡ 1 →
+            edgeOk job (isBoundary job i j) (countBetween job l i j) (countOutside job l i j) ≡ true
         two-sided r e f = rw (r, e, f)
 
-        step : j ≡ i + 1 → isStep 0 (job .n - 1) i j ≡ min 1 (i + 1 - 0) - min 1 (i + 1 - (job .n - 1)) → isEdge 0 (job .n - 1) i j ≡ 0 → Within 0 (job .n - 1) i j (countBetween job l i j)
-            → countOutside job l i j + isEdge 0 (job .n - 1) i j ≡ countBetween job l i j + isStep 0 (job .n - 1) i j → countBetween job l i j + countOutside job l i j ≡ 1
+        step : j ≡ i + 1 → isStep 0 (job .n - 1) i j ≡ min 1 (i + 1 - 0) - min 1 (i + 1 - (job .n - 1))
+            → isEdge 0 (job .n - 1) i j ≡ 0 → Within 0 (job .n - 1) i j (countBetween job l i j)
+            → countOutside job l i j + isEdge 0 (job .n - 1) i j ≡ countBetween job l i j + isStep 0 (job .n - 1) i j
+            → countBetween job l i j + countOutside job l i j ≡ 1
         step e r t (inl z) b = let p : i + 1 - (job .n - 1) ≡ 0 = omega arith in omega arith
         step e r t (inr z) b = absurd (omega arith)
 
         inner : isBoundary job i j ≡ false → isStep 0 (job .n - 1) i j ≡ 0 → isEdge 0 (job .n - 1) i j ≡ 0 → Within 0 (job .n - 1) i j (countBetween job l i j)
-            → countOutside job l i j + isEdge 0 (job .n - 1) i j ≡ countBetween job l i j + isStep 0 (job .n - 1) i j → edgeOk job (isBoundary job i j) (countBetween job l i j) (countOutside job l i j) ≡ true
+            → countOutside job l i j + isEdge 0 (job .n - 1) i j ≡ countBetween job l i j + isStep 0 (job .n - 1) i j
+            → edgeOk job (isBoundary job i j) (countBetween job l i j) (countOutside job l i j) ≡ true
         inner f r t (inl z) b = none f z (omega arith)
         inner f r t (inr z) b = two-sided f (z .0) (omega arith)
 
         go : IsStep 0 (job .n - 1) i j → IsEdge 0 (job .n - 1) i j → Within 0 (job .n - 1) i j (countBetween job l i j)
-            → countOutside job l i j + isEdge 0 (job .n - 1) i j ≡ countBetween job l i j + isStep 0 (job .n - 1) i j → edgeOk job (isBoundary job i j) (countBetween job l i j) (countOutside job l i j) ≡ true
+            → countOutside job l i j + isEdge 0 (job .n - 1) i j ≡ countBetween job l i j + isStep 0 (job .n - 1) i j
+            → edgeOk job (isBoundary job i j) (countBetween job l i j) (countOutside job l i j) ≡ true
         go (IsStep.hit e r) (IsEdge.hit d c t) v b = absurd (omega (arith, good .n3))
         go (IsStep.hit e r) (IsEdge.miss₁ d t) v b = on-rim (either-left _ _ (eq-eqb j (i + 1) e)) (step e r t v b)
         go (IsStep.hit e r) (IsEdge.miss₂ d t) v b = on-rim (either-left _ _ (eq-eqb j (i + 1) e)) (step e r t v b)
         go (IsStep.miss e r) (IsEdge.hit d c t) (inl z) b = absurd (omega arith)
-        go (IsStep.miss e r) (IsEdge.hit d c t) (inr z) b = on-rim (either-right (eqb j (i + 1)) _ (both-true (eq-eqb i 0 (sym d)) (eq-eqb j (job .n - 1) (sym c)))) (omega arith)
+        go (IsStep.miss e r) (IsEdge.hit d c t) (inr z) b =
+            on-rim (either-right (eqb j (i + 1)) _ (both-true (eq-eqb i 0 (sym d)) (eq-eqb j (job .n - 1) (sym c)))) (omega arith)
         go (IsStep.miss e r) (IsEdge.miss₁ d t) v b = inner (no _ _ (ne-eqb j (i + 1) e) ∙ no _ _ (ne-eqb i 0 (λ q. d (sym q)))) r t v b
         go (IsStep.miss e r) (IsEdge.miss₂ d t) v b = inner (no _ _ (ne-eqb j (i + 1) e) ∙ both-no (eqb i 0) (ne-eqb j (job .n - 1) (λ q. d (sym q)))) r t v b
 
     pub chosen-triangulation : isTriangulation job chosen ≡ true
     unfolding isTriangulation countBetween countOutside
     chosen-triangulation = every-all 0 (job .n) _ (λ j _ k. every-all 0 j _ (λ i _ h.
-        ap₂ (λ x y. edgeOk job (isBoundary job i j) x y) (same-sum (λ k. only (longEdge job i j k) 1)) (same-sum (λ k. only (shortEdge job i j k) 1)) ∙ edge-ok i j h k))
+        ap₂ (λ x y. edgeOk job (isBoundary job i j) x y) (same-sum (λ k. only (longEdge job i j k) 1))
+        (same-sum (λ k. only (shortEdge job i j k) 1)) ∙ edge-ok i j h k))

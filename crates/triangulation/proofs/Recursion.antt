@@ -15,7 +15,8 @@ use Rattle.triangulation.proofs.Sums.{Mem, mem-keep, keep-mem}
 use Rattle.triangulation.proofs.Parts.{Part, edge, node, hingeWeight, part-length}
 use Rattle.triangulation.proofs.SetParts.{both-eq, longEdge-is}
 use Rattle.triangulation.proofs.PartsToSets.{mem-upFrom, upFrom-mem}
-use Rattle.triangulation.proofs.Order.{NoLater, less, same, noLater-cases, noLater-less, noLater-same, noLater-append, noLater-trans, noLater-antisym, least-le, least-mem}
+use Rattle.triangulation.proofs.Order.{NoLater, less, same, noLater-cases, noLater-less, noLater-same}
+use Rattle.triangulation.proofs.Order.{noLater-append, noLater-trans, noLater-antisym, least-le, least-mem}
 use Rattle.triangulation.proofs.Least.{Image, image, map-mem, best-is, best-none}
 
 join-noLater : (w u x x′ y y′ : ℕ) (l l′ r r′ : List ℕ) → length l ≡ length l′ → noLater (x ∷ l) (x′ ∷ l′) ≡ true → noLater (y ∷ r) (y′ ∷ r′) ≡ true
@@ -49,14 +50,16 @@ module _ (job : Problem) where
     some : (l r : List ℕ) (x y : ℕ) → k ≡ (job .weight u + (x + hingeWeight job u l) + (y + hingeWeight job u r)) ∷ u ∷ (l ++ r)
         → Part job (job .a u) (job .b u) l x → Part job (job .b u) (job .c u) r y
         → ((l′ r′ : List ℕ) (x′ y′ : ℕ) → Part job (job .a u) (job .b u) l′ x′ → Part job (job .b u) (job .c u) r′ y′
-        → noLater ((job .weight u + (x + hingeWeight job u l) + (y + hingeWeight job u r)) ∷ u ∷ (l ++ r)) ((job .weight u + (x′ + hingeWeight job u l′) + (y′ + hingeWeight job u r′)) ∷ u ∷ (l′ ++ r′)) ≡ true)
+        → noLater ((job .weight u + (x + hingeWeight job u l) + (y + hingeWeight job u r)) ∷ u ∷ (l ++ r))
+        ((job .weight u + (x′ + hingeWeight job u l′) + (y′ + hingeWeight job u r′)) ∷ u ∷ (l′ ++ r′)) ≡ true)
         → Root u k
 
   root-best : (u : ℕ) (k k′ : List ℕ) → Best u (job .a u) (job .b u) k → Best u (job .b u) (job .c u) k′ → Root u (join (job .weight u) u k k′)
   root-best u k k′ (none e h) b = none (ap (λ z. join (job .weight u) u z k′) e) (λ l r x y wl wr. h l x wl)
   root-best u k k′ (some l x e w h) (none e′ h′) = none (ap₂ (join (job .weight u) u) e e′) (λ l r x y wl wr. h′ r y wr)
   root-best u k k′ (some l x e w h) (some r y e′ w′ h′) = some l r x y (ap₂ (join (job .weight u) u) e e′) w w′
-      (λ l′ r′ x′ y′ v v′. join-noLater (job .weight u) u (x + hingeWeight job u l) (x′ + hingeWeight job u l′) (y + hingeWeight job u r) (y′ + hingeWeight job u r′) l l′ r r′ (omega (arith, part-length job w, part-length job v)) (h l′ x′ v) (h′ r′ y′ v′))
+      (λ l′ r′ x′ y′ v v′. join-noLater (job .weight u) u (x + hingeWeight job u l) (x′ + hingeWeight job u l′) (y + hingeWeight job u r)
+      (y′ + hingeWeight job u r′) l l′ r r′ (omega (arith, part-length job w, part-length job v)) (h l′ x′ v) (h′ r′ y′ v′))
 
   module _ (good : ValidProblem job) (t i j : ℕ) where
     rim-low : {i j y : ℕ} {r : List ℕ} → Part job i j r y → j ≡ i + 1 → noLater (0 ∷ []) ((y + hingeWeight job t r) ∷ r) ≡ true
@@ -76,7 +79,9 @@ module _ (job : Problem) where
 
       in-keys : (u : ℕ) → u < job .size → job .a u ≡ i → job .c u ≡ j → List·Memᴰ (keyOf u) keys
       unfolding keyOf these keys
-      in-keys u h ei ej = Memᴰ·map keyOf (mem-keep (longEdge job i j) u (numbersFrom 0 (job .size)) (mem-upFrom 0 (job .size) u (omega arith) (omega arith)) (longEdge-is job good [] i j u ei ej))
+      in-keys u h ei ej =
+          Memᴰ·map keyOf (mem-keep (longEdge job i j) u (numbersFrom 0 (job .size)) (mem-upFrom 0 (job .size) u (omega arith) (omega arith))
+          (longEdge-is job good [] i j u ei ej))
 
       -- every part has a key no later than its own
       low : (r : List ℕ) (y : ℕ) → Part job i j r y → noLater (least keys) ((y + hingeWeight job t r) ∷ r) ≡ true
@@ -88,12 +93,15 @@ module _ (job : Problem) where
           via u l r x y wl wr (none e h) = absurd (h l r x y wl wr)
           via u l r x y wl wr (some l′ r′ x′ y′ e wl′ wr′ h) =
               rw (ap (addRow (job .row t u)) e)
-              (row-noLater (job .row t u) (job .weight u + (x′ + hingeWeight job u l′) + (y′ + hingeWeight job u r′)) (job .weight u + (x + hingeWeight job u l) + (y + hingeWeight job u r)) (u ∷ (l′ ++ r′)) (u ∷ (l ++ r)) (h l r x y wl wr))
+              (row-noLater (job .row t u) (job .weight u + (x′ + hingeWeight job u l′) + (y′ + hingeWeight job u r′))
+              (job .weight u + (x + hingeWeight job u l) + (y + hingeWeight job u r)) (u ∷ (l′ ++ r′)) (u ∷ (l ++ r)) (h l r x y wl wr))
 
           go : {i′ j′ : ℕ} {r : List ℕ} {y : ℕ} → Part job i′ j′ r y → i′ ≡ i → j′ ≡ j → noLater (least keys) ((y + hingeWeight job t r) ∷ r) ≡ true
           go (edge e) a b = absurd (far (sym b ∙ e ∙ ap (λ z. z + 1) a))
           go (node {l = l} {r = r} {x = x} {y = y} u h ei ej wl wr) a b =
-              noLater-trans (least keys) (keyOf u) ((job .weight u + (x + hingeWeight job u l) + (y + hingeWeight job u r) + job .row t u) ∷ u ∷ (l ++ r)) (least-le keys (keyOf u) (in-keys u h (ei ∙ a) (ej ∙ b)))
+              noLater-trans (least keys) (keyOf u)
+              ((job .weight u + (x + hingeWeight job u l) + (y + hingeWeight job u r) + job .row t u) ∷ u ∷ (l ++ r))
+              (least-le keys (keyOf u) (in-keys u h (ei ∙ a) (ej ∙ b)))
               (via u l r x y (rw (← ei) at wl) (rw (← ej) at wr) (roots u h (ei ∙ a) (ej ∙ b)))
 
       some-best : Best t i j (least keys)
@@ -105,7 +113,8 @@ module _ (job : Problem) where
           at k ks e u m q (some l r x y z wl wr h) =
               let d = keep-mem (longEdge job i j) u (numbersFrom 0 (job .size)) m in
               let v = both-eq (job .a u) i (job .c u) j (d .1) in
-              let eq : least keys ≡ (job .weight u + (x + hingeWeight job u l) + (y + hingeWeight job u r) + job .row t u) ∷ u ∷ (l ++ r) = e ∙ q ∙ ap (addRow (job .row t u)) z in
+              let eq : least keys ≡ (job .weight u + (x + hingeWeight job u l) + (y + hingeWeight job u r) + job .row t u) ∷ u ∷ (l ++ r) = e
+              ∙ q ∙ ap (addRow (job .row t u)) z in
               some (u ∷ (l ++ r)) (job .weight u + (x + hingeWeight job u l) + (y + hingeWeight job u r)) eq
               (node u (omega (arith, upFrom-mem 0 (job .size) u (d .0))) (v .0) (v .1) (rw (v .0) at wl) (rw (v .1) at wr))
               (λ r′ y′ w′. rw eq at (low r′ y′ w′))
@@ -130,11 +139,15 @@ module _ (job : Problem) where
   edge-best good (suc f) t i j h b = go (eqb j (i + 1)) refl (λ t i j. edge-best good f t i j)
     where
       go : (z : Bool) → eqb j (i + 1) ≡ z → ((t i j : ℕ) → i < j → j ≤ f + i → Best t i j (bestUnder job f t i j))
-          → Best t i j (cond z (0 ∷ []) (least (map (λ u. addRow (job .row t u) (join (job .weight u) u (bestUnder job f u (job .a u) (job .b u)) (bestUnder job f u (job .b u) (job .c u)))) (keep (longEdge job i j) (numbersFrom 0 (job .size))))))
+          → Best t i j (cond z (0 ∷ [])
+          (least (map (λ u. addRow (job .row t u) (join (job .weight u) u (bestUnder job f u (job .a u) (job .b u))
+          (bestUnder job f u (job .b u) (job .c u)))) (keep (longEdge job i j) (numbersFrom 0 (job .size))))))
       go true e ih = some [] 0 refl (edge (eqb-true j (i + 1) e)) (λ r y w. rim-low good t i j w (eqb-true j (i + 1) e))
       go false e ih = unfold keys keyOf these in
-          (some-best good t i j (eqb-false j (i + 1) e) (λ u. join (job .weight u) u (bestUnder job f u (job .a u) (job .b u)) (bestUnder job f u (job .b u) (job .c u)))
-          (λ u k ei ej. root-best u _ _ (ih u (job .a u) (job .b u) (good .ab u k) (omega (arith, good .bc u k))) (ih u (job .b u) (job .c u) (good .bc u k) (omega (arith, good .ab u k)))))
+          (some-best good t i j (eqb-false j (i + 1) e)
+          (λ u. join (job .weight u) u (bestUnder job f u (job .a u) (job .b u)) (bestUnder job f u (job .b u) (job .c u)))
+          (λ u k ei ej. root-best u _ _ (ih u (job .a u) (job .b u) (good .ab u k) (omega (arith, good .bc u k)))
+          (ih u (job .b u) (job .c u) (good .bc u k) (omega (arith, good .ab u k)))))
 
   pub best-unique : (t i j : ℕ) (k k′ : List ℕ) → Best t i j k → Best t i j k′ → k ≡ k′
   best-unique t i j k k′ (none e h) (none e′ h′) = e ∙ sym e′
@@ -181,15 +194,21 @@ module _ (job : Problem) where
         go zero h = absurd (omega arith)
         go (suc f) h = rw (eq-eqb j (i + 1) e)
 
-    pub edge-least : (t i j : ℕ) → j ≢ i + 1 → bestUnder job (job .n) t i j ≡ least (map (λ u. addRow (job .row t u) (bestFrom job (job .n) u)) (keep (longEdge job i j) (numbersFrom 0 (job .size))))
+    pub edge-least : (t i j : ℕ) → j ≢ i + 1 → bestUnder job (job .n) t i j
+        ≡ least (map (λ u. addRow (job .row t u) (bestFrom job (job .n) u)) (keep (longEdge job i j) (numbersFrom 0 (job .size))))
     unfolding bestUnder bestFrom
     edge-least t i j e = go (job .n) refl
       where
-        go : (f : ℕ) → job .n ≡ f → bestUnder job f t i j ≡ least (map (λ u. addRow (job .row t u) (bestFrom job f u)) (keep (longEdge job i j) (numbersFrom 0 (job .size))))
+        go : (f : ℕ) → job .n ≡ f →
+            bestUnder job f t i j ≡ least (map (λ u. addRow (job .row t u) (bestFrom job f u)) (keep (longEdge job i j) (numbersFrom 0 (job .size))))
         go zero h = absurd (omega (arith, good .n3))
-        go (suc f) h = ap (λ b. cond b (0 ∷ []) (least (map (λ u. addRow (job .row t u) (bestFrom job f u)) (keep (longEdge job i j) (numbersFrom 0 (job .size)))))) (ne-eqb j (i + 1) e)
-            ∙ ap least (map-ext (λ u. addRow (job .row t u) (bestFrom job f u)) (λ u. addRow (job .row t u) (bestFrom job (suc f) u)) (keep (longEdge job i j) (numbersFrom 0 (job .size)))
-            (λ u m. let d = keep-mem (longEdge job i j) u (numbersFrom 0 (job .size)) m in ap (addRow (job .row t u)) (root-fuel f (suc f) u (omega (arith, upFrom-mem 0 (job .size) u (d .0))) (omega arith) (omega arith))))
+        go (suc f) h =
+            ap (λ b. cond b (0 ∷ [])
+            (least (map (λ u. addRow (job .row t u) (bestFrom job f u)) (keep (longEdge job i j) (numbersFrom 0 (job .size)))))) (ne-eqb j (i + 1) e)
+            ∙ ap least (map-ext (λ u. addRow (job .row t u) (bestFrom job f u)) (λ u. addRow (job .row t u) (bestFrom job (suc f) u))
+            (keep (longEdge job i j) (numbersFrom 0 (job .size)))
+            (λ u m. let d = keep-mem (longEdge job i j) u (numbersFrom 0 (job .size)) m in
+            ap (addRow (job .row t u)) (root-fuel f (suc f) u (omega (arith, upFrom-mem 0 (job .size) u (d .0))) (omega arith) (omega arith))))
 
     pub root-is : (u : ℕ) → u < job .size → Root u (bestFrom job (job .n) u)
     unfolding bestFrom bestUnder

@@ -12,7 +12,8 @@ use Rattle.lists.specs.Lists.{both, either}
 use Rattle.lists.proofs.Choice.{both-true, either-right, either-cases}
 use Rattle.lists.proofs.Ranges.{every-at}
 use Rattle.lists.specs.Sums.{sum, keep, joined}
-use Rattle.triangulation.specs.Triangulations.{Problem, ValidProblem, longEdge, shortEdge, countBetween, countOutside, totalWeight, preorderFrom, preorder, isBoundary, edgeOk, isTriangulation}
+use Rattle.triangulation.specs.Triangulations.{Problem, ValidProblem, longEdge, shortEdge, countBetween, countOutside}
+use Rattle.triangulation.specs.Triangulations.{totalWeight, preorderFrom, preorder, isBoundary, edgeOk, isTriangulation}
 use Rattle.triangulation.proofs.Sums.{Mem, count, sum-same, count-mono, mem-count, Any, any, none, some, One, one, the-one}
 use Rattle.triangulation.proofs.Parts.{Part, edge, node, boundary, between-le, isStep, IsEdge, IsStep, isEdge-cases, isStep-cases}
 use Rattle.triangulation.proofs.Parts as W
@@ -82,7 +83,8 @@ module _ (job : Problem) where
         h : p < job .size
         h = valid p m
 
-        next : 1 ≤ countOutside job s i j → (i ≡ 0 → j ≡ job .n - 1 → ⊥) → Edge i j (countBetween job s i j) (countOutside job s i j) → (j ≡ i + 1) ⊎ (countBetween job s i j ≡ 1)
+        next : 1 ≤ countOutside job s i j → (i ≡ 0 → j ≡ job .n - 1 → ⊥) → Edge i j (countBetween job s i j) (countOutside job s i j) →
+            (j ≡ i + 1) ⊎ (countBetween job s i j ≡ 1)
         next c f (step e z) = inl e
         next c f (top e d z) = absurd (f e d)
         next c f (unused r x y) = absurd (omega arith)
@@ -91,17 +93,23 @@ module _ (job : Problem) where
         go : ((job .a p ≡ i) × (job .b p ≡ j)) ⊎ ((job .b p ≡ i) × (job .c p ≡ j)) → Short i j
         go (inl d) = let l : i < j = omega (arith, good .ab p h) in let n : j + 1 < job .n = omega (arith, good .bc p h, good .cn p h) in
             record { lt = l; lim = omega arith; next = next (mem-count (shortEdge job i j) s p m t) (λ e f. omega arith) (at i j l (omega arith)) }
-        go (inr d) = let l : i < j = omega (arith, good .bc p h) in let n : j < job .n = omega (arith, good .cn p h) in let z : 0 < i = omega (arith, good .ab p h) in
+        go (inr d) =
+            let l : i < j = omega (arith, good .bc p h) in
+            let n : j < job .n = omega (arith, good .cn p h) in
+            let z : 0 < i = omega (arith, good .ab p h) in
             record { lt = l; lim = omega arith; next = next (mem-count (shortEdge job i j) s p m t) (λ e f. omega arith) (at i j l (omega arith)) }
 
     root : countBetween job s 0 (job .n - 1) ≡ 1
     unfolding countOutside
     root = go (at 0 (job .n - 1) (omega (arith, good .n3)) (omega (arith, good .n3))) (any (shortEdge job 0 (job .n - 1)) s)
       where
-        go : Edge 0 (job .n - 1) (countBetween job s 0 (job .n - 1)) (countOutside job s 0 (job .n - 1)) → Any (shortEdge job 0 (job .n - 1)) s → countBetween job s 0 (job .n - 1) ≡ 1
+        go : Edge 0 (job .n - 1) (countBetween job s 0 (job .n - 1)) (countOutside job s 0 (job .n - 1)) → Any (shortEdge job 0 (job .n - 1)) s →
+            countBetween job s 0 (job .n - 1) ≡ 1
         go (step e z) a = absurd (omega (arith, good .n3))
         go (top e d z) (none c) = omega arith
-        go (top e d z) (some u m t) = absurd (⊎-elim (λ d. omega (arith, good .bc u (valid u m), good .cn u (valid u m))) (λ d. omega (arith, good .ab u (valid u m))) (shortEdge-cases 0 (job .n - 1) u t))
+        go (top e d z) (some u m t) =
+            absurd (⊎-elim (λ d. omega (arith, good .bc u (valid u m), good .cn u (valid u m)))
+            (λ d. omega (arith, good .ab u (valid u m))) (shortEdge-cases 0 (job .n - 1) u t))
         go (unused r x y) a = absurd (false≢true (sym r ∙ rim-top))
         go (two-sided r x y) a = x
 
@@ -114,7 +122,8 @@ module _ (job : Problem) where
     build : (f i j : ℕ) → i < j → j ≤ f + i → (j ≡ i + 1) ⊎ (countBetween job s i j ≡ 1) → Built i j (preorderFrom job f s i j)
     unfolding preorderFrom countBetween
     build zero i j l b e = absurd (omega arith)
-    build (suc f) i j l b (inl e) = rw (none-on-step job good s triangulation-set i j e) (record { cost = 0; is = edge e; sub = λ k m. absurd (List·Memᴰ·not-nil m) })
+    build (suc f) i j l b (inl e) =
+        rw (none-on-step job good s triangulation-set i j e) (record { cost = 0; is = edge e; sub = λ k m. absurd (List·Memᴰ·not-nil m) })
     build (suc f) i j l b (inr e) = go (λ i j. build f i j) (the-one (longEdge job i j) s e)
       where
         go : ((i j : ℕ) → i < j → j ≤ f + i → (j ≡ i + 1) ⊎ (countBetween job s i j ≡ 1) → Built i j (preorderFrom job f s i j)) → One (longEdge job i j) s
@@ -125,15 +134,18 @@ module _ (job : Problem) where
             let ab = good .ab u h in
             let bc = good .bc u h in
             let x = job .b u in
-            let sl : Short i x = short u i x m (ap₂ (λ y z. either (both y z) (both (eqb x i) (eqb (job .c u) x))) (eq-eqb (job .a u) i (d .0)) (eq-eqb x x refl)) in
-            let sr : Short x j = short u x j m (either-right (both (eqb (job .a u) x) (eqb x j)) _ (both-true (eq-eqb x x refl) (eq-eqb (job .c u) j (d .1)))) in
+            let sl : Short i x =
+            short u i x m (ap₂ (λ y z. either (both y z) (both (eqb x i) (eqb (job .c u) x))) (eq-eqb (job .a u) i (d .0)) (eq-eqb x x refl)) in
+            let sr : Short x j =
+            short u x j m (either-right (both (eqb (job .a u) x) (eqb x j)) _ (both-true (eq-eqb x x refl) (eq-eqb (job .c u) j (d .1)))) in
             let bl : Built i x (preorderFrom job f s i x) = ih i x (sl .lt) (omega arith) (sl .next) in
             let br : Built x j (preorderFrom job f s x j) = ih x j (sr .lt) (omega arith) (sr .next) in
             rw (q, append-nil (u ∷ (preorderFrom job f s i x ++ preorderFrom job f s x j)))
             (record {
               cost = _;
               is = node u h (d .0) (d .1) (bl .is) (br .is);
-              sub = λ k r. ⊎-elim (λ e. subst⁻ e m) (λ r. ⊎-elim (bl .sub k) (br .sub k) (List·Memᴰ·append-cases (preorderFrom job f s i x) r)) (List·Memᴰ·cases-cons r);
+              sub = λ k r. ⊎-elim (λ e. subst⁻ e m) (λ r. ⊎-elim (bl .sub k) (br .sub k) (List·Memᴰ·append-cases (preorderFrom job f s i x) r))
+                  (List·Memᴰ·cases-cons r);
             })
           where
             subst⁻ : {k u : ℕ} → k ≡ u → Mem u s → Mem k s
@@ -147,7 +159,8 @@ module _ (job : Problem) where
     same i j u v mu tu mv tv =
         let du = both-eq (job .a u) i (job .c u) j tu in
         let dv = both-eq (job .a v) i (job .c v) j tv in
-        head-eq-of-cons-eq (sym (one-on-edge job good s triangulation-set i j u mu (du .0) (du .1)) ∙ one-on-edge job good s triangulation-set i j v mv (dv .0) (dv .1))
+        head-eq-of-cons-eq (sym (one-on-edge job good s triangulation-set i j u mu (du .0) (du .1))
+        ∙ one-on-edge job good s triangulation-set i j v mv (dv .0) (dv .1))
 
     -- a triangle of the set is the first one, or one of larger span has its long edge
     above : (k : ℕ) → Mem k s → ((job .a k ≡ 0) × (job .c k ≡ job .n - 1)) ⊎ (1 ≤ countOutside job s (job .a k) (job .c k))
@@ -160,7 +173,8 @@ module _ (job : Problem) where
         i : 1 ≤ countBetween job s (job .a k) (job .c k)
         i = mem-count (longEdge job (job .a k) (job .c k)) s k m (longEdge-is job good s _ _ k refl refl)
 
-        go : Edge (job .a k) (job .c k) (countBetween job s (job .a k) (job .c k)) (countOutside job s (job .a k) (job .c k)) → ((job .a k ≡ 0) × (job .c k ≡ job .n - 1)) ⊎ (1 ≤ countOutside job s (job .a k) (job .c k))
+        go : Edge (job .a k) (job .c k) (countBetween job s (job .a k) (job .c k)) (countOutside job s (job .a k) (job .c k)) →
+            ((job .a k ≡ 0) × (job .c k ≡ job .n - 1)) ⊎ (1 ≤ countOutside job s (job .a k) (job .c k))
         go (step e z) = absurd (omega (arith, good .ab k h, good .bc k h))
         go (top e f z) = inl (e, f)
         go (unused r x y) = absurd (omega (arith, i))
@@ -197,13 +211,15 @@ module _ (job : Problem) where
           larger p mp t = ⊎-elim (λ d. omega (arith, good .ab p (valid p mp), good .bc p (valid p mp), good .ab k v, good .bc k v))
               (λ d. omega (arith, good .ab p (valid p mp), good .bc p (valid p mp), good .ab k v, good .bc k v)) (shortEdge-cases (job .a k) (job .c k) p t)
 
-          later : ((p : ℕ) → Mem p s → job .n ≤ f + (job .c p - job .a p) → Mem p l) → 1 ≤ countOutside job s (job .a k) (job .c k) → Any (shortEdge job (job .a k) (job .c k)) s → 1 ≤ countBetween job l (job .a k) (job .c k)
+          later : ((p : ℕ) → Mem p s → job .n ≤ f + (job .c p - job .a p) → Mem p l) → 1 ≤ countOutside job s (job .a k) (job .c k) →
+              Any (shortEdge job (job .a k) (job .c k)) s → 1 ≤ countBetween job l (job .a k) (job .c k)
           later ih o (none e) = absurd (omega arith)
           later ih o (some p mp t) =
               let c : 1 ≤ countOutside job l (job .a k) (job .c k) = mem-count (shortEdge job (job .a k) (job .c k)) l p (ih p mp (larger p mp t)) t in
               omega (arith, boundary job good w (job .a k) (job .c k), rim-none (isStep-cases _ _ _ _))
 
-          go : ((p : ℕ) → Mem p s → job .n ≤ f + (job .c p - job .a p) → Mem p l) → ((job .a k ≡ 0) × (job .c k ≡ job .n - 1)) ⊎ (1 ≤ countOutside job s (job .a k) (job .c k)) → Mem k l
+          go : ((p : ℕ) → Mem p s → job .n ≤ f + (job .c p - job .a p) → Mem p l) →
+              ((job .a k ≡ 0) × (job .c k ≡ job .n - 1)) ⊎ (1 ≤ countOutside job s (job .a k) (job .c k)) → Mem k l
           go ih (inl d) = met k m (first d (isEdge-cases _ _ _ _))
           go ih (inr o) = met k m (later ih o (any (shortEdge job (job .a k) (job .c k)) s))
 
@@ -222,7 +238,8 @@ module _ (job : Problem) where
         (omega (
           arith,
           between-le job good (whole .is) (job .a k) (job .c k),
-          count-mono (λ x. eqb k x) (longEdge job (job .a k) (job .c k)) (λ x e. longEdge-is job good s _ _ x (sym (ap (job .a) (eqb-true k x e))) (sym (ap (job .c) (eqb-true k x e)))) (preorder job s),
+          count-mono (λ x. eqb k x) (longEdge job (job .a k) (job .c k))
+              (λ x e. longEdge-is job good s _ _ x (sym (ap (job .a) (eqb-true k x e))) (sym (ap (job .c) (eqb-true k x e)))) (preorder job s),
         ))
         (mem-count (λ x. eqb k x) (preorder job s) k (mem-preorder k m) (eq-eqb k k refl))
 
@@ -236,7 +253,8 @@ module _ (job : Problem) where
             (omega (
               arith,
               triangulation-set .single (job .a x) (job .c x),
-              count-mono (λ k. eqb k x) (longEdge job (job .a x) (job .c x)) (λ k e. longEdge-is job good s _ _ k (ap (job .a) (eqb-true k x e)) (ap (job .c) (eqb-true k x e))) s,
+              count-mono (λ k. eqb k x) (longEdge job (job .a x) (job .c x))
+                  (λ k e. longEdge-is job good s _ _ k (ap (job .a) (eqb-true k x e)) (ap (job .c) (eqb-true k x e))) s,
             ))
             (mem-count (λ k. eqb k x) s x (whole .sub x m) (eq-eqb x x refl))
 

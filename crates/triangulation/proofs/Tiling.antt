@@ -3,7 +3,8 @@ use Prim.Native.Nat.{ℕ, zero, suc, _+_, _-_, _≤_, _<_}
 use mathlib.Core.Path.{_≡_, refl, sym, ap, _∙_}
 use mathlib.Core.Bool.{Bool, true, false, false≢true}
 use mathlib.Core.Logic.{_⊎_, inl, inr, ⊎-elim}
-use mathlib.Core.List.{List, [], _∷_, map, List·Memᴰ, List·Memᴰ·head, List·Memᴰ·tail, List·Memᴰ·not-nil, List·Memᴰ·cases-cons, List·Memᴰ·eq-of-singleton, Memᴰ·append-left, Memᴰ·append-right}
+use mathlib.Core.List.{List, [], _∷_, map, List·Memᴰ, List·Memᴰ·head, List·Memᴰ·tail, List·Memᴰ·not-nil}
+use mathlib.Core.List.{List·Memᴰ·cases-cons, List·Memᴰ·eq-of-singleton, Memᴰ·append-left, Memᴰ·append-right}
 use native.Mathlib.Nat.{zero-add}
 use native.Mathlib.Omega.{arith}
 use lib.ListN.{length, getD}
@@ -14,9 +15,11 @@ use Rattle.lists.proofs.Choice.{both-true, either-left, either-right, either-ca
 use Rattle.lists.proofs.Ranges.{every-all}
 use Rattle.lists.proofs.Members.{Ascending, empty, more, ascending-at, member-entry}
 use Rattle.lists.specs.Sums.{numbersFrom}
-use Rattle.triangulation.specs.Triangulations.{Problem, ValidProblem, subsets, longEdge, shortEdge, countBetween, countOutside, isBoundary, edgeOk, isTriangulation}
+use Rattle.triangulation.specs.Triangulations.{Problem, ValidProblem, subsets, longEdge, shortEdge, countBetween}
+use Rattle.triangulation.specs.Triangulations.{countOutside, isBoundary, edgeOk, isTriangulation}
 use Rattle.triangulation.specs.Demand3.{Triangulates}
-use Rattle.triangulation.specs.Tiling.{RimEdge, to-next, closing, ExactlyOne, of-ab, of-bc, of-ac, HasEdge, edge, Between, between, Outside, before, after, Inner, unused, in-two, Tiling}
+use Rattle.triangulation.specs.Tiling.{RimEdge, to-next, closing, ExactlyOne, of-ab, of-bc, of-ac, HasEdge, edge}
+use Rattle.triangulation.specs.Tiling.{Between, between, Outside, before, after, Inner, unused, in-two, Tiling}
 use Rattle.triangulation.proofs.Sums.{Mem, count, mem-keep, the-one, One, one, mem-count, Any, any, none, some}
 use Rattle.triangulation.proofs.SetParts.{both-eq}
 use Rattle.triangulation.proofs.SetsToParts.{shortEdge-cases, Edge}
@@ -46,15 +49,19 @@ ascends (x ∷ s) h =
 ascends-subset : (i c : ℕ) (s : List ℕ) → Ascends s → ((k : ℕ) → Mem k s → (i ≤ k) × (k < i + c)) → List·Memᴰ s (subsets (numbersFrom i c))
 ascends-subset i zero [] a h = List·Memᴰ·head refl
 ascends-subset i zero (x ∷ s) a h = absurd (omega (arith, h x (List·Memᴰ·head refl)))
-ascends-subset i (suc c) [] a h = Memᴰ·append-right (map (λ r. i ∷ r) (subsets (numbersFrom (suc i) c))) (ascends-subset (suc i) c [] empty (λ k m. absurd (List·Memᴰ·not-nil m)))
+ascends-subset i (suc c) [] a h =
+    Memᴰ·append-right (map (λ r. i ∷ r) (subsets (numbersFrom (suc i) c))) (ascends-subset (suc i) c [] empty (λ k m. absurd (List·Memᴰ·not-nil m)))
 ascends-subset i (suc c) (x ∷ s) (more hx hs) h = go (eqb x i) refl (λ t a b. ascends-subset (suc i) c t a b)
   where
     later : (k : ℕ) → Mem k s → (suc i ≤ k) × (k < suc i + c)
     later k m = let l : x < k = hx k m in (omega (arith, h x (List·Memᴰ·head refl)), omega (arith, h k (List·Memᴰ·tail m)))
 
-    go : (b : Bool) → eqb x i ≡ b → ((t : List ℕ) → Ascends t → ((k : ℕ) → Mem k t → (suc i ≤ k) × (k < suc i + c)) → List·Memᴰ t (subsets (numbersFrom (suc i) c)))
+    go : (b : Bool) → eqb x i ≡ b
+        → ((t : List ℕ) → Ascends t → ((k : ℕ) → Mem k t → (suc i ≤ k) × (k < suc i + c)) → List·Memᴰ t (subsets (numbersFrom (suc i) c)))
         → List·Memᴰ (x ∷ s) (subsets (numbersFrom i (suc c)))
-    go true e ih = rw (eqb-true x i e) (Memᴰ·append-left (subsets (numbersFrom (suc i) c)) (mem-map (λ r. i ∷ r) s (subsets (numbersFrom (suc i) c)) (ih s hs later)))
+    go true e ih =
+        rw (eqb-true x i e)
+        (Memᴰ·append-left (subsets (numbersFrom (suc i) c)) (mem-map (λ r. i ∷ r) s (subsets (numbersFrom (suc i) c)) (ih s hs later)))
     go false e ih = Memᴰ·append-right (map (λ r. i ∷ r) (subsets (numbersFrom (suc i) c))) (ih (x ∷ s) (more hx hs) whole)
       where
         whole : (k : ℕ) → Mem k (x ∷ s) → (suc i ≤ k) × (k < suc i + c)
@@ -195,7 +202,8 @@ module _ (job : Problem) (good : ValidProblem job) where
     inner-counted a (in-two b o) =
         let x = one-counted (Between job i j) (longEdge job i j) s (λ k m. to-between i j k (cs k m)) (λ k m. from-between i j k (cs k m)) a b in
         let y = one-counted (Outside job i j) (shortEdge job i j) s (λ k m. to-outside i j k (cs k m)) (λ k m. from-outside i j k (cs k m)) a o in
-        either-right (eqb (count (longEdge job i j) s + count (shortEdge job i j) s) 0) _ (both-true (eq-eqb (count (longEdge job i j) s) 1 x) (eq-eqb (count (shortEdge job i j) s) 1 y))
+        either-right (eqb (count (longEdge job i j) s + count (shortEdge job i j) s) 0) _
+        (both-true (eq-eqb (count (longEdge job i j) s) 1 x) (eq-eqb (count (shortEdge job i j) s) 1 y))
 
   -- ---- a rim edge as a test and as a fact
   boundary-rim : (i j : ℕ) → isBoundary job i j ≡ true → RimEdge (job .n) i j
@@ -240,6 +248,7 @@ module _ (job : Problem) (good : ValidProblem job) where
       up : Ascends s
       up = ascends s (λ x y l m. omega (arith, t .ascending x y l m))
 
-      by : (i j : ℕ) → i < j → j < job .n → (b : Bool) → isBoundary job i j ≡ b → edgeOk job (isBoundary job i j) (countBetween job s i j) (countOutside job s i j) ≡ true
+      by : (i j : ℕ) → i < j → j < job .n → (b : Bool) → isBoundary job i j ≡ b →
+          edgeOk job (isBoundary job i j) (countBetween job s i j) (countOutside job s i j) ≡ true
       by i j l m true e = rw e (eq-eqb _ 1 (rim-counted s (t .candidates) i j up (t .rim i j l m (boundary-rim i j e))))
       by i j l m false e = rw e (inner-counted s (t .candidates) i j up (t .inner i j l m (λ r. false≢true (sym e ∙ rim-boundary i j r))))

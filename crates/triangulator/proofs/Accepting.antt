@@ -71,11 +71,13 @@ module _ (job : Job) where
         no-row = λ u. none (length candidates) u rows (λ k h. names-false _ _ (length candidates) u (λ e f. omega (arith, r .named k h .outer-is, e)));
       }
 
-  pub accepted-well-formed : (places work-places : ℕ) → jobCode job places work-places ≡ 0 → WellFormed n candidates weights rows × (length candidates ≤ work-places) × (n ≤ places + 2)
+  pub accepted-well-formed : (places work-places : ℕ) → jobCode job places work-places ≡ 0 →
+      WellFormed n candidates weights rows × (length candidates ≤ work-places) × (n ≤ places + 2)
   accepted-well-formed places work-places e =
       let a = fitting job places work-places e in
       (well-formed (a .at-least) (a .at-most) (a .lists), a .work-room, omega (arith, a .triangle-room))
 
   -- Demand 3 for every direct job on which no number is due.
-  pub accepted-demand3 : (places work-places : ℕ) → jobCode job places work-places ≡ 0 → Demand3 (problemFrom n candidates weights rows) (best (problemFrom n candidates weights rows))
+  pub accepted-demand3 : (places work-places : ℕ) → jobCode job places work-places ≡ 0 →
+      Demand3 (problemFrom n candidates weights rows) (best (problemFrom n candidates weights rows))
   accepted-demand3 places work-places e = demand3 (problemFrom n candidates weights rows) (accepted-well-formed places work-places e .0 .valid)

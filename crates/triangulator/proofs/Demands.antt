@@ -26,7 +26,8 @@ use Rattle.triangulator.proofs.Accepting.{accepted-well-formed, accepte
 use Rattle.triangulator.proofs.Settling.{part-patch, part-empty}
 
 -- the outcome and the table that an answer leaves state that answer
-pub settled-states : (a : Answer) (count : ℕ) (triangles work : List ℕ) → stated (settled a count triangles work .outcome) (settled a count triangles work .triangles) ≡ a
+pub settled-states : (a : Answer) (count : ℕ) (triangles work : List ℕ) →
+    stated (settled a count triangles work .outcome) (settled a count triangles work .triangles) ≡ a
 settled-states none count triangles work = refl
 settled-states (patch total l) count triangles work = ap (patch total) (filled-take l triangles (length l) refl)
 
@@ -40,10 +41,12 @@ not-taken e a-none = let z : _≡_ {A = ℕ} 0 1 = cc in omega arith
 
 -- the part handed back with that outcome and table is as promised
 pub settled-handed : (job : Problem) → ValidProblem job → (count : ℕ) (triangles work : List ℕ) →
-    Handed job (partOf (settled (best job) count triangles work .outcome) (settled (best job) count triangles work .triangles)) (settled (best job) count triangles work .outcome)
+    Handed job (partOf (settled (best job) count triangles work .outcome) (settled (best job) count triangles work .triangles))
+    (settled (best job) count triangles work .outcome)
 settled-handed job good count triangles work = go (best job) (demand3 job good .patch-is)
   where
-    go : (a : Answer) → ((total : ℕ) (l : List ℕ) → a ≡ patch total l → Optimal job total l) → Handed job (partOf (settled a count triangles work .outcome) (settled a count triangles work .triangles)) (settled a count triangles work .outcome)
+    go : (a : Answer) → ((total : ℕ) (l : List ℕ) → a ≡ patch total l → Optimal job total l) → Handed job
+        (partOf (settled a count triangles work .outcome) (settled a count triangles work .triangles)) (settled a count triangles work .outcome)
     go none h = with-none (part-empty None triangles refl)
     go (patch total l) h =
         let b = handed-back job good total l (h total l refl) in
@@ -119,7 +122,9 @@ module _ (job : Job) (triangles work : List ℕ) where
   job-refused-only k r = by number refl
     where
       by : (j : ℕ) → number ≡ j → FirstDue job (length triangles) (length work) k
-      by zero e = absurd (not-taken r (subst (λ (r : Result). Taken (r .outcome)) (sym (settled-call e)) (settled-taken (best (problemOf job)) (length (job .candidates)) triangles work)))
+      by zero e =
+          absurd (not-taken r (subst (λ (r : Result). Taken (r .outcome)) (sym (settled-call e))
+          (settled-taken (best (problemOf job)) (length (job .candidates)) triangles work)))
       by (suc j) e =
           let q : suc j ≡ k = ap numberOf (sym (ap (λ (r : Result). r .outcome) (refused-call j e)) ∙ r) in
           subst (λ (i : ℕ). FirstDue job (length triangles) (length work) i) q (code-due job (length triangles) (length work) j e)
@@ -131,11 +136,13 @@ module _ (job : Job) (triangles work : List ℕ) where
   job-demand3 a =
       let e = accepted-zero job (length triangles) (length work) a in
       subst (λ (x : Answer). Demand3 (problemOf job) x)
-      (sym (ap (λ (r : Result). stated (r .outcome) (r .triangles)) (settled-call e) ∙ settled-states (best (problemOf job)) (length (job .candidates)) triangles work))
+      (sym (ap (λ (r : Result). stated (r .outcome) (r .triangles)) (settled-call e)
+      ∙ settled-states (best (problemOf job)) (length (job .candidates)) triangles work))
       (accepted-demand3 job (length triangles) (length work) e)
 
   -- what the caller is handed back, after every call (rules 3.8, 4.30)
-  pub job-handed : Handed (problemOf job) (partOf (triangulated job triangles work .outcome) (triangulated job triangles work .triangles)) (triangulated job triangles work .outcome)
+  pub job-handed : Handed (problemOf job) (partOf (triangulated job triangles work .outcome) (triangulated job triangles work .triangles))
+      (triangulated job triangles work .outcome)
   unfolding call number
   job-handed = by number refl
     where

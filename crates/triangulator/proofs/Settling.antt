@@ -27,8 +27,10 @@ module _ (n count : ℕ) (t w : List ℕ) {t′ w′ : List ℕ} where
     ap (λ l. answerValues n (answerOf l)) (sym q),
   )
 
-  pub settle-patch : (k : List ℕ) (total : ℕ) → total ≡ costOf k → total < noTotal → ((x : ℕ) (l : List ℕ) → k ≡ x ∷ l → length l ≡ n - 2) → t′ ≡ filled (restOf k) t
-      → w′ ≡ filled (replicate count 0) w → (result (Patch (n - 2) total) t′ w′ ≡ settled (answerOf k) count t w) × (valuesOf (Patch (n - 2) total) ≡ answerValues n (answerOf k))
+  pub settle-patch : (k : List ℕ) (total : ℕ) → total ≡ costOf k → total < noTotal
+      → ((x : ℕ) (l : List ℕ) → k ≡ x ∷ l → length l ≡ n - 2) → t′ ≡ filled (restOf k) t
+      → w′ ≡ filled (replicate count 0) w → (result (Patch (n - 2) total) t′ w′ ≡ settled (answerOf k) count t w)
+      × (valuesOf (Patch (n - 2) total) ≡ answerValues n (answerOf k))
   settle-patch [] total q h m e f = absurd (omega arith)
   settle-patch (x ∷ l) total q h m e f = (
     ap₂ (λ a b. result (Patch a b) t′ w′) (sym (m x l refl)) q ∙ ap₂ (result (Patch (length l) x)) e f,

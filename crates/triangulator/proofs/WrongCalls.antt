@@ -23,10 +23,17 @@ sameResult r s =
 
 same-result : (r : Result) → sameResult r r ≡ true
 unfolding sameResult
-same-result r = rw (eq-eqb (numberOf (r .outcome)) _ refl, eq-eqb (trianglesOf (r .outcome)) _ refl, eq-eqb (totalOf (r .outcome)) _ refl, same-list (r .triangles), same-list (r .work))
+same-result r = rw (
+  eq-eqb (numberOf (r .outcome)) _ refl,
+  eq-eqb (trianglesOf (r .outcome)) _ refl,
+  eq-eqb (totalOf (r .outcome)) _ refl,
+  same-list (r .triangles),
+  same-list (r .work),
+)
 
 pub wrong-calls-fail : (k : Call) → List·Memᴰ k wrongCalls → k .leaves ≡ answered (k .direct) → ⊥
-unfolding anyOf sameResult sameList triangulated jobCode listsCode everyFrom candidateFits ascends before rowFits namesPair hangs rowBefore bestKey key isTriangulation totalWeight preorderFrom countBetween countOutside
+unfolding anyOf sameResult sameList triangulated jobCode listsCode everyFrom candidateFits ascends before rowFits namesPair
+    hangs rowBefore bestKey key isTriangulation totalWeight preorderFrom countBetween countOutside
 wrong-calls-fail k m e = false≢true (sym none-right ∙ any-of isRight wrongCalls k m (rw e (same-result (answered (k .direct)))))
   where
     isRight : Call → Bool

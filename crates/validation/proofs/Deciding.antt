@@ -20,7 +20,8 @@ use Rattle.validation.specs.Edges.{Triangles, allBelowBound, namesTriang
 use Rattle.validation.proofs.Naming.{tiling-names}
 use Rattle.validation.proofs.Tilings.{total-is, tiling-length, tiling-edges}
 
-module _ (n : ℕ) (candidates : List (List ℕ)) (weights : List ℕ) (rows : List (List ℕ)) (good : ValidProblem (problemFrom n candidates weights rows)) (few : n ≤ maxVertices) (list : List ℕ) (stated : ℕ) where
+module _ (n : ℕ) (candidates : List (List ℕ)) (weights : List ℕ) (rows : List (List ℕ)) (good : ValidProblem (problemFrom n candidates weights rows))
+    (few : n ≤ maxVertices) (list : List ℕ) (stated : ℕ) where
   abbrev job : Problem
   job = problemFrom n candidates weights rows
 
@@ -30,7 +31,9 @@ module _ (n : ℕ) (candidates : List (List ℕ)) (weights : List ℕ) (rows : L
 
   -- a tiling names n − 2 candidates
   tiling-triangles : isTiling job list ≡ true → namesTriangles n (length candidates) list ≡ true
-  tiling-triangles t = both-true (eq-eqb (length list) (n - 2) (tiling-length job list good t)) (every-all 0 (length list) (λ i. ltb (getD list i 0) (length candidates))
+  tiling-triangles t =
+      both-true (eq-eqb (length list) (n - 2) (tiling-length job list good t))
+      (every-all 0 (length list) (λ i. ltb (getD list i 0) (length candidates))
       (λ i l h. lt-ltb _ _ (tiling-names job list t .candidate (getD list i 0) (entry-member list 0 i h))))
 
   pub code-other : namesTriangles n (length candidates) list ≡ false → 21 ≡ listCode job list stated
@@ -41,7 +44,8 @@ module _ (n : ℕ) (candidates : List (List ℕ)) (weights : List ℕ) (rows : L
     member-below k m =
         let e = member-entry list 0 k m in
         let b : allBelowBound list (length candidates) ≡ true = both-right (eqb (length list) (n - 2)) _ named in
-        rw (← e .is) (ltb-true (getD list (e .at) 0) (length candidates) (every-at 0 (length list) (λ i. ltb (getD list i 0) (length candidates)) b (e .at) (omega arith) (e .below)))
+        rw (← e .is) (ltb-true (getD list (e .at) 0) (length candidates)
+        (every-at 0 (length list) (λ i. ltb (getD list i 0) (length candidates)) b (e .at) (omega arith) (e .below)))
 
     pub triangles-are : Triangles candidates list
     triangles-are = record {
@@ -58,14 +62,17 @@ module _ (n : ℕ) (candidates : List (List ℕ)) (weights : List ℕ) (rows : L
     unfolding totalWeight
     total-of t = sym (total-is job list t)
 
-    right : isTiling job list ≡ true → unless (isTiling job list) 21 (unless (eqb stated (totalWeight (problemFrom 0 candidates weights rows) list)) 22 0) ≡ listCode job list stated
+    right : isTiling job list ≡ true →
+        unless (isTiling job list) 21 (unless (eqb stated (totalWeight (problemFrom 0 candidates weights rows) list)) 22 0) ≡ listCode job list stated
     unfolding listCode
     right t = ap (λ (w : ℕ). unless (isTiling job list) 21 (unless (eqb stated w) 22 0)) (total-of t)
 
-    pub code-is : {tiles : Bool} {total : ℕ} → tiles ≡ isTriangulation (problemFrom n candidates [] []) list → total ≡ totalWeight (problemFrom 0 candidates weights rows) list
+    pub code-is : {tiles : Bool} {total : ℕ} → tiles ≡ isTriangulation (problemFrom n candidates [] []) list
+        → total ≡ totalWeight (problemFrom 0 candidates weights rows) list
         → unless tiles 21 (unless (eqb stated total) 22 0) ≡ listCode job list stated
     code-is {tiles} {total} e f = ap₂ (λ b t. unless b 21 (unless (eqb stated t) 22 0)) (e ∙ edges-are) f ∙ go (truth (isTiling job list))
       where
-        go : Truth (isTiling job list) → unless (isTiling job list) 21 (unless (eqb stated (totalWeight (problemFrom 0 candidates weights rows) list)) 22 0) ≡ listCode job list stated
+        go : Truth (isTiling job list) → unless (isTiling job list) 21
+            (unless (eqb stated (totalWeight (problemFrom 0 candidates weights rows) list)) 22 0) ≡ listCode job list stated
         go (holds t) = right t
         go (fails t) = no _ _ t ∙ no-tiling (λ h. true-not-false h t)

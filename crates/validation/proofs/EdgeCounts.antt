@@ -20,7 +20,8 @@ use Rattle.triangulation.specs.Triangulations.{longEdge, shortEdge, countBetwee
 use Rattle.triangulation.specs.Problems.{problemFrom}
 use Rattle.triangulation.proofs.SetParts.{either-split}
 use Rattle.triangulation.proofs.PartsToSets.{only-le}
-use Rattle.validation.specs.Edges.{edgeAt, edgePlaces, countAt, added, Room, Triangle, Triangles, candidatesAlone, between, outside, Sums, Counted, verticesAlone, edgesFit}
+use Rattle.validation.specs.Edges.{edgeAt, edgePlaces, countAt, added, Room, Triangle, Triangles}
+use Rattle.validation.specs.Edges.{candidatesAlone, between, outside, Sums, Counted, verticesAlone, edgesFit}
 use Rattle.validation.proofs.Fronts.{sum-next, sum-le}
 
 -- ---- one more at one edge
@@ -39,7 +40,8 @@ added-at t i j hi hj len p q hp hq = go (eqb i p) (eqb j q) refl refl
     go : (x y : Bool) → eqb i p ≡ x → eqb j q ≡ y → countAt (set t (edgeAt i j) (countAt t i j + 1)) p q ≡ countAt t p q + only (both x y) 1
     go true true e f =
         let z : edgeAt p q ≡ edgeAt i j = omega (arith, eqb-true i p e, eqb-true j q f) in
-        ap (λ (k : ℕ). getD (set t (edgeAt i j) (countAt t i j + 1)) k 0) z ∙ getD-set-same t (edgeAt i j) (countAt t i j + 1) 0 (omega arith) ∙ ap (λ (k : ℕ). getD t k 0 + 1) (sym z)
+        ap (λ (k : ℕ). getD (set t (edgeAt i j) (countAt t i j + 1)) k 0) z ∙ getD-set-same t (edgeAt i j) (countAt t i j + 1) 0 (omega arith)
+        ∙ ap (λ (k : ℕ). getD t k 0 + 1) (sym z)
     go true false e f = other (λ (z : edgeAt p q ≡ edgeAt i j). eqb-false j q f (omega (arith, eqb-true i p e)))
     go false y e f = other (λ (z : edgeAt p q ≡ edgeAt i j). eqb-false i p e (omega arith))
 
@@ -53,13 +55,16 @@ module _ (candidates : List (List ℕ)) (list : List ℕ) (ok : Triangles candid
   triangle-at i h = ok .each (getD list i 0) (entry-member list 0 i h)
 
   -- what is at an edge is small
-  sums-room : (g : ℕ → ℕ → ℕ → ℕ) → ((i j k : ℕ) → g i j k ≤ 1) → {t : ℕ} {table : List ℕ} → t ≤ length list → Sums g (take t list) table → (i j : ℕ) → i < maxVertices → j < maxVertices → Room table i j
+  sums-room : (g : ℕ → ℕ → ℕ → ℕ) → ((i j k : ℕ) → g i j k ≤ 1) → {t : ℕ} {table : List ℕ} → t ≤ length list →
+      Sums g (take t list) table → (i j : ℕ) → i < maxVertices → j < maxVertices → Room table i j
   sums-room g b {t} {table} h s i j hi hj = omega (arith, s .at i j hi hj, sum-le (g i j) (take t list) (b i j), length-take-le t list h, ok .short-list)
 
-  pub between-room : {t : ℕ} {table : List ℕ} → t ≤ length list → Sums (between candidates) (take t list) table → (i j : ℕ) → i < maxVertices → j < maxVertices → Room table i j
+  pub between-room : {t : ℕ} {table : List ℕ} → t ≤ length list → Sums (between candidates) (take t list) table →
+      (i j : ℕ) → i < maxVertices → j < maxVertices → Room table i j
   between-room h s i j hi hj = sums-room (between candidates) (λ i j k. only-le (longEdge (candidatesAlone candidates) i j k)) h s i j hi hj
 
-  pub outside-room : {t : ℕ} {table : List ℕ} → t ≤ length list → Sums (outside candidates) (take t list) table → (i j : ℕ) → i < maxVertices → j < maxVertices → Room table i j
+  pub outside-room : {t : ℕ} {table : List ℕ} → t ≤ length list → Sums (outside candidates) (take t list) table →
+      (i j : ℕ) → i < maxVertices → j < maxVertices → Room table i j
   outside-room h s i j hi hj = sums-room (outside candidates) (λ i j k. only-le (shortEdge (candidatesAlone candidates) i j k)) h s i j hi hj
 
   -- ---- one triangle more
@@ -67,7 +72,8 @@ module _ (candidates : List (List ℕ)) (list : List ℕ) (ok : Triangles candid
   triangle i = entryAt candidates (getD list i 0)
 
   module _ {i : ℕ} {table new : List ℕ} (h : i < length list) where
-    pub between-next : Sums (between candidates) (take i list) table → new ≡ added table (vertexA (triangle i)) (vertexC (triangle i)) → Sums (between candidates) (take (i + 1) list) new
+    pub between-next : Sums (between candidates) (take i list) table → new ≡ added table (vertexA (triangle i)) (vertexC (triangle i)) →
+        Sums (between candidates) (take (i + 1) list) new
     between-next s e =
         let o = triangle-at i h in
         record {
@@ -79,19 +85,28 @@ module _ (candidates : List (List ℕ)) (list : List ℕ) (ok : Triangles candid
               ∙ sym (sum-next (between candidates p q) list i h);
         }
 
-    pub outside-next : Sums (outside candidates) (take i list) table → new ≡ added (added table (vertexA (triangle i)) (vertexB (triangle i))) (vertexB (triangle i)) (vertexC (triangle i)) → Sums (outside candidates) (take (i + 1) list) new
+    pub outside-next : Sums (outside candidates) (take i list) table → new ≡ added (added table (vertexA (triangle i)) (vertexB (triangle i)))
+        (vertexB (triangle i)) (vertexC (triangle i)) → Sums (outside candidates) (take (i + 1) list) new
     outside-next s e =
         let o = triangle-at i h in
         let ha : vertexA (triangle i) < maxVertices = omega (arith, o .ab, o .bc, o .few) in
         let hb : vertexB (triangle i) < maxVertices = omega (arith, o .bc, o .few) in
-        let l : length (added table (vertexA (triangle i)) (vertexB (triangle i))) ≡ edgePlaces = added-length table (vertexA (triangle i)) (vertexB (triangle i)) ∙ s .long-enough in
+        let l : length (added table (vertexA (triangle i)) (vertexB (triangle i))) ≡ edgePlaces =
+        added-length table (vertexA (triangle i)) (vertexB (triangle i)) ∙ s .long-enough in
         record {
-          long-enough = ap length e ∙ added-length (added table (vertexA (triangle i)) (vertexB (triangle i))) (vertexB (triangle i)) (vertexC (triangle i)) ∙ l;
+          long-enough = ap length e
+              ∙ added-length (added table (vertexA (triangle i)) (vertexB (triangle i))) (vertexB (triangle i)) (vertexC (triangle i)) ∙ l;
           at = λ p q hp hq.
               ap (λ (l : List ℕ). countAt l p q) e
               ∙ added-at (added table (vertexA (triangle i)) (vertexB (triangle i))) (vertexB (triangle i)) (vertexC (triangle i)) hb (o .few) l p q hp hq
-              ∙ ap (λ x. x + only (both (eqb (vertexB (triangle i)) p) (eqb (vertexC (triangle i)) q)) 1) (added-at table (vertexA (triangle i)) (vertexB (triangle i)) ha hb (s .long-enough) p q hp hq)
-              ∙ omega (arith, s .at p q hp hq, either-split (vertexA (triangle i)) (vertexB (triangle i)) (vertexC (triangle i)) p q 1 (o .ab), sum-next (outside candidates p q) list i h);
+              ∙ ap (λ x. x + only (both (eqb (vertexB (triangle i)) p) (eqb (vertexC (triangle i)) q)) 1)
+              (added-at table (vertexA (triangle i)) (vertexB (triangle i)) ha hb (s .long-enough) p q hp hq)
+              ∙ omega (
+                arith,
+                s .at p q hp hq,
+                either-split (vertexA (triangle i)) (vertexB (triangle i)) (vertexC (triangle i)) p q 1 (o .ab),
+                sum-next (outside candidates p q) list i h,
+              );
         }
 
 -- ---- an edge inside: in no triangle, in others, and in one between
@@ -121,4 +136,5 @@ pub edges-triangulation : (n : ℕ) (candidates : List (List ℕ)) (list between
     → edgesFit n betweens outsides ≡ isTriangulation (problemFrom n candidates [] []) list
 unfolding isTriangulation countBetween countOutside
 edges-triangulation n candidates list betweens outsides counted h = every-same 0 n _ _ (λ j _ hj. every-same 0 j _ _ (λ i _ hi.
-    ap₂ (λ x y. edgeOk (verticesAlone n) (isBoundary (verticesAlone n) i j) x y) (counted .on-between .at i j (omega arith) (omega arith)) (counted .on-outside .at i j (omega arith) (omega arith))))
+    ap₂ (λ x y. edgeOk (verticesAlone n) (isBoundary (verticesAlone n) i j) x y) (counted .on-between .at i j (omega arith) (omega arith))
+    (counted .on-outside .at i j (omega arith) (omega arith))))

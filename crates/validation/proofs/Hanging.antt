@@ -8,7 +8,8 @@ use Rattle.triangulation.specs.Problems.{problemFrom}
 use Rattle.triangulation.proofs.SetParts.{eqb-sym}
 
 pub hangs-is : (n : ℕ) (candidates : List (List ℕ)) (weights : List ℕ) (rows : List (List ℕ)) (i o : ℕ) →
-    hangs (entryAt candidates i) (entryAt candidates o) ≡ shortEdge (problemFrom n candidates weights rows) (vertexA (entryAt candidates i)) (vertexC (entryAt candidates i)) o
+    hangs (entryAt candidates i) (entryAt candidates o)
+    ≡ shortEdge (problemFrom n candidates weights rows) (vertexA (entryAt candidates i)) (vertexC (entryAt candidates i)) o
 unfolding hangs
 hangs-is n candidates weights rows i o =
     let t = entryAt candidates i in

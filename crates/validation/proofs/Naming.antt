@@ -71,11 +71,14 @@ module _ (job : Problem) (list : List ℕ) where
 
   pub mem-named : (k : ℕ) → k < job .size → Mem k list → Mem k (named job list)
   unfolding named
-  mem-named k h m = mem-keep (λ k. ltb 0 (times k list)) k (numbersFrom 0 (job .size)) (mem-upFrom 0 (job .size) k (omega arith) (omega arith)) (lt-ltb 0 (times k list) (times-mem k list m))
+  mem-named k h m =
+      mem-keep (λ k. ltb 0 (times k list)) k (numbersFrom 0 (job .size)) (mem-upFrom 0 (job .size) k (omega arith) (omega arith))
+      (lt-ltb 0 (times k list) (times-mem k list m))
 
   named-once : (k : ℕ) → times k (named job list) ≤ 1
   unfolding named
-  named-once k = omega (arith, count-keep (λ x. eqb x k) (λ k. ltb 0 (times k list)) (numbersFrom 0 (job .size)), upFrom-once 0 (job .size) k, only-le (leb 0 k))
+  named-once k =
+      omega (arith, count-keep (λ x. eqb x k) (λ k. ltb 0 (times k list)) (numbersFrom 0 (job .size)), upFrom-once 0 (job .size) k, only-le (leb 0 k))
 
   pub named-subset : List·Memᴰ (named job list) (subsets (numbersFrom 0 (job .size)))
   unfolding named

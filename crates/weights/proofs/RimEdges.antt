@@ -44,13 +44,18 @@ skip f (suc hi) lo l h = by (below-or-same lo (suc hi) l) (λ m. skip f hi lo m 
     by (inr e) rest = ap (λ (k : ℕ). sumBelow k f) (sym e)
 
 -- three places that may not be 0
-three : (f : ℕ → ℕ) (a b c n : ℕ) → a < b → b < c → c < n → ((i : ℕ) → i < n → (i ≡ a → ⊥) → (i ≡ b → ⊥) → (i ≡ c → ⊥) → f i ≡ 0) → sumBelow n f ≡ f a + f b + f c
+three : (f : ℕ → ℕ) (a b c n : ℕ) → a < b → b < c → c < n → ((i : ℕ) → i < n → (i ≡ a → ⊥) → (i ≡ b → ⊥) → (i ≡ c → ⊥) → f i ≡ 0) →
+    sumBelow n f ≡ f a + f b + f c
 unfolding sumBelow
 three f a b c n ab bc cn h =
-    let past-c : sumBelow n f ≡ sumBelow c f + f c = skip f n (suc c) cn (λ i l m. h i m (λ e. omega (arith, e)) (λ e. omega (arith, e)) (λ e. omega (arith, e))) in
-    let past-b : sumBelow c f ≡ sumBelow b f + f b = skip f c (suc b) bc (λ i l m. h i (omega arith) (λ e. omega (arith, e)) (λ e. omega (arith, e)) (λ e. omega (arith, e))) in
-    let past-a : sumBelow b f ≡ sumBelow a f + f a = skip f b (suc a) ab (λ i l m. h i (omega arith) (λ e. omega (arith, e)) (λ e. omega (arith, e)) (λ e. omega (arith, e))) in
-    let none : sumBelow a f ≡ 0 = skip f a 0 (omega arith) (λ i l m. h i (omega arith) (λ e. omega (arith, e)) (λ e. omega (arith, e)) (λ e. omega (arith, e))) in
+    let past-c : sumBelow n f ≡ sumBelow c f + f c =
+    skip f n (suc c) cn (λ i l m. h i m (λ e. omega (arith, e)) (λ e. omega (arith, e)) (λ e. omega (arith, e))) in
+    let past-b : sumBelow c f ≡ sumBelow b f + f b =
+    skip f c (suc b) bc (λ i l m. h i (omega arith) (λ e. omega (arith, e)) (λ e. omega (arith, e)) (λ e. omega (arith, e))) in
+    let past-a : sumBelow b f ≡ sumBelow a f + f a =
+    skip f b (suc a) ab (λ i l m. h i (omega arith) (λ e. omega (arith, e)) (λ e. omega (arith, e)) (λ e. omega (arith, e))) in
+    let none : sumBelow a f ≡ 0 =
+    skip f a 0 (omega arith) (λ i l m. h i (omega arith) (λ e. omega (arith, e)) (λ e. omega (arith, e)) (λ e. omega (arith, e))) in
     omega (arith, past-c, past-b, past-a, none)
 
 -- a rim without a surface outside bends no candidate
@@ -145,7 +150,9 @@ module _ (p : Polygon) (t : List ℕ) (ab : vertexA t < vertexB t) (bc : vertexB
 
       by : (b ≡ a + 1) ⊎ (b ≡ a + 1 → ⊥) → (a ≡ 0) ⊎ (a ≡ 0 → ⊥) → term a ≡ outside a b
       by (inl e) z = has a b a (of-the-next (p .n) a b ka kb e) (edge-yes a (a + 1) (is-a) within (is-b (a + 1) (sym e)))
-      by (inr d) z = has-none a b a (none z) (edge-no a (a + 1) (is-a) within (no-corner (a + 1) (λ e. omega (arith, e)) (λ e. d (sym e)) (λ e. omega (arith, e))))
+      by (inr d) z =
+          has-none a b a (none z)
+          (edge-no a (a + 1) (is-a) within (no-corner (a + 1) (λ e. omega (arith, e)) (λ e. d (sym e)) (λ e. omega (arith, e))))
         where
           none : (a ≡ 0) ⊎ (a ≡ 0 → ⊥) → edgeNormal (p .n) a b ka kb ≡ noNormal
           none (inl z) = not-to-the-last (p .n) a b ka kb d z (λ e. omega (arith, e))
@@ -160,7 +167,9 @@ module _ (p : Polygon) (t : List ℕ) (ab : vertexA t < vertexB t) (bc : vertexB
 
       by : (c ≡ b + 1) ⊎ (c ≡ b + 1 → ⊥) → term b ≡ outside b c
       by (inl e) = has b c b (of-the-next (p .n) b c kb kc e) (edge-yes b (b + 1) (is-b b refl) within (is-c (b + 1) (sym e)))
-      by (inr d) = has-none b c b (not-from-0 (p .n) b c kb kc d (λ e. omega (arith, e))) (edge-no b (b + 1) (is-b b refl) within (no-corner (b + 1) (λ e. omega (arith, e)) (λ e. omega (arith, e)) (λ e. d (sym e))))
+      by (inr d) =
+          has-none b c b (not-from-0 (p .n) b c kb kc d (λ e. omega (arith, e)))
+          (edge-no b (b + 1) (is-b b refl) within (no-corner (b + 1) (λ e. omega (arith, e)) (λ e. omega (arith, e)) (λ e. d (sym e))))
 
   -- (a, c), which closes the rim or is not on it
   third : term c ≡ outside a c
@@ -173,11 +182,15 @@ module _ (p : Polygon) (t : List ℕ) (ab : vertexA t < vertexB t) (bc : vertexB
       at-c = is-c c refl
 
       beyond : (c + 1 ≡ p .n → ⊥) → hasRimEdge (p .n) t c ≡ false
-      beyond d = edge-no c (c + 1) at-c (next-within c (omega arith)) (no-corner (c + 1) (λ e. omega (arith, e)) (λ e. omega (arith, e)) (λ e. omega (arith, e)))
+      beyond d =
+          edge-no c (c + 1) at-c (next-within c (omega arith))
+          (no-corner (c + 1) (λ e. omega (arith, e)) (λ e. omega (arith, e)) (λ e. omega (arith, e)))
 
       by : (c + 1 ≡ p .n) ⊎ (c + 1 ≡ p .n → ⊥) → (a ≡ 0) ⊎ (a ≡ 0 → ⊥) → term c ≡ outside a c
       by (inl e) (inl z) = has a c c (of-the-last (p .n) a c ka kc far z e) (edge-yes c 0 at-c (next-last c e) (is-0 z))
-      by (inl e) (inr z) = has-none a c c (not-from-0 (p .n) a c ka kc far z) (edge-no c 0 at-c (next-last c e) (no-corner 0 (λ q. z (sym q)) (λ q. omega (arith, q)) (λ q. omega (arith, q))))
+      by (inl e) (inr z) =
+          has-none a c c (not-from-0 (p .n) a c ka kc far z)
+          (edge-no c 0 at-c (next-last c e) (no-corner 0 (λ q. z (sym q)) (λ q. omega (arith, q)) (λ q. omega (arith, q))))
       by (inr d) (inl z) = has-none a c c (not-to-the-last (p .n) a c ka kc far z d) (beyond d)
       by (inr d) (inr z) = has-none a c c (not-from-0 (p .n) a c ka kc far z) (beyond d)
 
@@ -191,6 +204,8 @@ module _ (p : Polygon) (t : List ℕ) (ab : vertexA t < vertexB t) (bc : vertexB
   -- no own weight is above what a direct job may have
   pub own-weight-bound : ValidPolygon p → ownWeight p t ≤ maxWeight
   own-weight-bound v =
-      let area : areaWeight p t ≤ maxAreaFactor * maxLength = area-weight-bound (v .area-factor) (length-bound (face-within {t = t} v (record { a<n = omega arith; b<n = omega arith; c<n = cn }))) in
-      let bend : (x y : ℕ) → outside x y ≤ maxBendFactor * maxBend = λ x y. outside-bound (p .«bend_factor») (faceNormal p t) (outsideNormal x y) (v .bend-factor) in
+      let area : areaWeight p t ≤ maxAreaFactor * maxLength =
+      area-weight-bound (v .area-factor) (length-bound (face-within {t = t} v (record { a<n = omega arith; b<n = omega arith; c<n = cn }))) in
+      let bend : (x y : ℕ) → outside x y ≤ maxBendFactor * maxBend =
+      λ x y. outside-bound (p .«bend_factor») (faceNormal p t) (outsideNormal x y) (v .bend-factor) in
       omega (arith, own-weight-along-the-rim, area, bend a b, bend b c, bend a c)

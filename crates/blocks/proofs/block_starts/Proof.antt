@@ -23,13 +23,24 @@ starts-below-requires : tie.Need-starts-below-requires Inv-loop μ-loop
 starts-below-requires c κs = search needs
 
 add-i : tie.Need-add-i Inv-loop μ-loop
-add-i c = omega (arith, there (c .before .before .before .before .args .candidates .now) (c .before .before .before .loop .i) (c .before .before .before .loop .k) (sym (c .before .starts-below .ensures) ∙ c .if1 .taken))
+add-i c = omega (
+  arith,
+  there (c .before .before .before .before .args .candidates .now) (c .before .before .before .loop .i)
+      (c .before .before .before .loop .k) (sym (c .before .starts-below .ensures) ∙ c .if1 .taken),
+)
 
 loop-less : tie.Need-loop-less Inv-loop μ-loop
-loop-less c = omega (arith, there (c .before .before .before .before .args .candidates .now) (c .before .before .before .loop .i) (c .before .before .before .loop .k) (sym (c .before .starts-below .ensures) ∙ c .if1 .taken))
+loop-less c = omega (
+  arith,
+  there (c .before .before .before .before .args .candidates .now) (c .before .before .before .loop .i)
+      (c .before .before .before .loop .k) (sym (c .before .starts-below .ensures) ∙ c .if1 .taken),
+)
 
 loop-again : tie.Need-loop-again Inv-loop μ-loop
-loop-again c = let t = there (c .before .before .before .before .args .candidates .now) (c .before .before .before .loop .i) (c .before .before .before .loop .k) (sym (c .before .starts-below .ensures) ∙ c .if1 .taken) in placed-pass _ (c .before .before .before .loop .inv) (t .0) (t .1)
+loop-again c =
+    let t = there (c .before .before .before .before .args .candidates .now) (c .before .before .before .loop .i)
+    (c .before .before .before .loop .k) (sym (c .before .starts-below .ensures) ∙ c .if1 .taken) in
+    placed-pass _ (c .before .before .before .loop .inv) (t .0) (t .1)
 
 mul-starts : tie.Need-mul-starts Inv-loop μ-loop
 mul-starts c = search needs
@@ -44,7 +55,9 @@ loop-less-2 : tie.Need-loop-less-2 Inv-loop μ-loop
 loop-less-2 c = omega (arith, c .before .before .before .loop .inv .range)
 
 loop-again-2 : tie.Need-loop-again-2 Inv-loop μ-loop
-loop-again-2 c = placed-set _ (c .before .before .before .before .pre) (c .before .before .before .loop .inv) (c .before .before .loop-test .taken) (sym (c .before .starts-below .ensures) ∙ c .if1 .left)
+loop-again-2 c =
+    placed-set _ (c .before .before .before .before .pre) (c .before .before .before .loop .inv)
+    (c .before .before .loop-test .taken) (sym (c .before .starts-below .ensures) ∙ c .if1 .left)
 
 returns : tie.Need-returns Inv-loop μ-loop
 returns c = let l = c .before .loop .inv in starts-are _ _ (l .size) (placed-all _ l (c .loop-test .left))

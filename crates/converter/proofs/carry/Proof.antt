@@ -64,7 +64,9 @@ module _ (c : tie.After-conversion-code) where
   target = c .before .before .before .before .before .target-of .result
 
   target-carried : Carried file target
-  target-carried = carried file (c .before .before .before .before .before .target-of .ensures ∙ ap targetOf (c .before .before .before .before .before .before .layout .ensures))
+  target-carried =
+      carried file (c .before .before .before .before .before .target-of .ensures
+      ∙ ap targetOf (c .before .before .before .before .before .before .layout .ensures))
 
   count-is : c .before .before .before .record-count .result ≡ recordCount file
   count-is = c .before .before .before .record-count .ensures .0
@@ -72,7 +74,8 @@ module _ (c : tie.After-conversion-code) where
   -- the length of the converted file
   size-is : length (converted file) ≡ target .layout .header + headerSize + target .layout .«record_size» * c .before .before .before .record-count .result
   size-is =
-      sym (ap length (target-carried .bytes)) ∙ layout-length file (whole file (start .pre)) (target .layout) (bounds-of (c .before .before .before .before .before))
+      sym (ap length (target-carried .bytes))
+      ∙ layout-length file (whole file (start .pre)) (target .layout) (bounds-of (c .before .before .before .before .before))
       ∙ ap (λ (k : ℕ). target .layout .header + headerSize + target .layout .«record_size» * k) (sym count-is)
 
   length-is : c .before .before .record-start .result ≡ length (converted file)
@@ -119,7 +122,8 @@ returns-2 c =
     let zero-is = c .before .before .before .before .if1 .left in
     let is = target-carried e in
     taken-by (file e) (out e) (sym zero-is ∙ code-is e) (is .edition) (length-is e)
-    (c .before .before .write-file .ensures ∙ ap (λ (l : List ℕ). sets (out e) 0 l) (is .bytes) ∙ stores-fill (converted (file e)) (out e) (omega (arith, fits e zero-is, length-is e)))
+    (c .before .before .write-file .ensures ∙ ap (λ (l : List ℕ). sets (out e) 0 l) (is .bytes)
+    ∙ stores-fill (converted (file e)) (out e) (omega (arith, fits e zero-is, length-is e)))
 
 pub carry-spec : {M : Type 1} → statement M
 carry-spec =

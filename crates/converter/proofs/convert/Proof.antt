@@ -19,13 +19,15 @@ enum-told c = search needs
 carry-requires : tie.Need-carry-requires
 carry-requires c κs =
     let s = c .before .before .before .before .before .before in
-    right-length _ _ (read-zero _ _ (sym (ap (λ (r : Reading). r .status) (c .before .before .before .read-polygon .ensures .0)) ∙ c .before .enum-told .given .1))
+    right-length _ _
+    (read-zero _ _ (sym (ap (λ (r : Reading). r .status) (c .before .before .before .read-polygon .ensures .0)) ∙ c .before .enum-told .given .1))
 
 returns : tie.Need-returns
 returns c =
     let s = c .before .before .before .before .before .before in
     promised (now (s .args .file)) (now (s .args .out))
-    (call-refused (now (s .args .file)) (now (s .args .out)) (sym (ap (λ (r : Reading). r .status) (c .before .before .before .read-polygon .ensures .0)) ∙ c .before .status .given .1))
+    (call-refused (now (s .args .file)) (now (s .args .out))
+    (sym (ap (λ (r : Reading). r .status) (c .before .before .before .read-polygon .ensures .0)) ∙ c .before .status .given .1))
 
 same-length : tie.Need-same-length
 same-length c = search needs
@@ -34,7 +36,8 @@ returns-2 : tie.Need-returns-2
 returns-2 c =
     let s = c .before .before .before .before .before .before .before .before .before in
     let told = c .before .before .before .before in
-    let none = read-zero _ (now (s .args .file)) (sym (ap (λ (r : Reading). r .status) (told .before .before .read-polygon .ensures .0)) ∙ told .enum-told .given .1) in
+    let none = read-zero _ (now (s .args .file))
+    (sym (ap (λ (r : Reading). r .status) (told .before .before .read-polygon .ensures .0)) ∙ told .enum-told .given .1) in
     promised (now (s .args .file)) (now (s .args .out)) (c .before .before .carry .ensures ∙ call-read (now (s .args .file)) (now (s .args .out)) none)
 
 pub convert-spec : {M : Type 1} → statement M

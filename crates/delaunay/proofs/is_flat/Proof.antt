@@ -127,7 +127,8 @@ returns c =
     let e = c .before .before .before in
     let s = at e in
     let g = base s in
-    sym (found-solid (valid g) (g .before .before .lift-vertices .ensures) (C g) (D s) (g .before .loop .inv .0) (s .before .loop2 .inv .0) (d<n s) (sym (pair-of e) ∙ other-bits (ball e .orient) (c .if1 .taken)))
+    sym (found-solid (valid g) (g .before .before .lift-vertices .ensures) (C g) (D s) (g .before .loop .inv .0)
+    (s .before .loop2 .inv .0) (d<n s) (sym (pair-of e) ∙ other-bits (ball e .orient) (c .if1 .taken)))
 
 add-d-2 : At tie.Need-add-d-2
 add-d-2 c = let s = at (c .before .before .before) in omega (arith, valid (base s) .most, d<n s)
@@ -138,8 +139,11 @@ loop2-less c = omega (arith, d<n (at (c .before .before .before)))
 loop2-again : At tie.Need-loop2-again
 loop2-again c =
     let e = c .before .before .before in
-    let s = at e in
-    (omega (arith, s .before .loop2 .inv .0), coplanar-with-on (sym (pair-of e) ∙ zero-bits (ball e .orient) (signed-fits tt (ball-in e .orient-in)) (c .if1 .left)) (s .before .loop2 .inv .1))
+    let s = at e in (
+      omega (arith, s .before .loop2 .inv .0),
+      coplanar-with-on (sym (pair-of e) ∙ zero-bits (ball e .orient) (signed-fits tt (ball-in e .orient-in)) (c .if1 .left))
+          (s .before .loop2 .inv .1),
+    )
 
 add-c : At tie.Need-add-c
 add-c c = let g = c .before .before .before .before .before in omega (arith, valid g .most, c<n g)
@@ -148,16 +152,22 @@ loop-less : At tie.Need-loop-less
 loop-less c = omega (arith, c<n (c .before .before .before .before .before))
 
 loop-again : At tie.Need-loop-again
-loop-again c = let g = c .before .before .before .before .before in (omega (arith, g .before .loop .inv .0), coplanar-on (λ h. omega (arith, c .loop2-test .left)) (c .before .loop2 .inv .1) (g .before .loop .inv .1))
+loop-again c =
+    let g = c .before .before .before .before .before in (
+      omega (arith, g .before .loop .inv .0),
+      coplanar-on (λ h. omega (arith, c .loop2-test .left)) (c .before .loop2 .inv .1) (g .before .loop .inv .1),
+    )
 
 returns-2 : At tie.Need-returns-2
 returns-2 c =
     let s = c .before .before .before in
-    sym (all-coplanar (s .pre) (c .before .before .lift-vertices .ensures) (c .before .loop .c) (λ h. omega (arith, c .loop-test .left)) (c .before .loop .inv .1))
+    sym (all-coplanar (s .pre) (c .before .before .lift-vertices .ensures) (c .before .loop .c)
+    (λ h. omega (arith, c .loop-test .left)) (c .before .loop .inv .1))
 
 pub is-flat-spec : {M : Type 1} → statement M
 is-flat-spec =
     tie.close
-    (tie.spec Inv-loop2 μ-loop2 Inv-loop μ-loop lift-vertices-requires loop-holds array-copy-out-pencil-through mul-pencil-through array-copy-out-pencil-through-2
+    (tie.spec Inv-loop2 μ-loop2 Inv-loop μ-loop lift-vertices-requires loop-holds array-copy-out-pencil-through
+    mul-pencil-through array-copy-out-pencil-through-2
     pencil-through-requires add-d loop2-holds mul-circumsphere array-copy-out-circumsphere circumsphere-requires returns add-d-2 loop2-less loop2-again add-c
     loop-less loop-again returns-2)

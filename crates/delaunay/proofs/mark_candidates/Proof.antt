@@ -10,7 +10,9 @@ is-flat-requires : tie.Need-is-flat-requires
 is-flat-requires c κs = search needs
 
 mark-triangles-requires : tie.Need-mark-triangles-requires
-mark-triangles-requires c κs = let f = c .before .before in (f .before .pre .0, flat-plane (f .before .args .p) (sym (f .is-flat .ensures) ∙ c .before .if1 .taken), f .before .pre .1)
+mark-triangles-requires c κs =
+    let f = c .before .before in
+    (f .before .pre .0, flat-plane (f .before .args .p) (sym (f .is-flat .ensures) ∙ c .before .if1 .taken), f .before .pre .1)
 
 returns : tie.Need-returns
 returns c =

@@ -15,13 +15,16 @@ slice-relend-prefix-find-2 : tie.Need-slice-relend-prefix-find-2
 slice-relend-prefix-find-2 c = search needs
 
 slice-aggregate-find-2 : tie.Need-slice-aggregate-find-2
-slice-aggregate-find-2 c = sym (length-take-le (c .before .before .before .args .w) (c .before .before .before .args .weights .now) (c .before .before .before .pre .1))
+slice-aggregate-find-2 c =
+    sym (length-take-le (c .before .before .before .args .w) (c .before .before .before .args .weights .now) (c .before .before .before .pre .1))
 
 slice-relend-prefix-find-3 : tie.Need-slice-relend-prefix-find-3
 slice-relend-prefix-find-3 c = search needs
 
 slice-aggregate-find-3 : tie.Need-slice-aggregate-find-3
-slice-aggregate-find-3 c = sym (length-take-le (c .before .before .before .before .args .r) (c .before .before .before .before .args .rows .now) (c .before .before .before .before .pre .2))
+slice-aggregate-find-3 c =
+    sym (length-take-le (c .before .before .before .before .args .r) (c .before .before .before .before .args .rows .now)
+    (c .before .before .before .before .pre .2))
 
 find-requires : tie.Need-find-requires
 find-requires c κs = search needs

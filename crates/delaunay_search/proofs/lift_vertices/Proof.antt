@@ -31,7 +31,9 @@ element-copy-out-lift : tie.Need-element-copy-out-lift Inv-loop μ-loop
 element-copy-out-lift c = let s = c .before .before .before .before in omega (arith, s .pre .0 .most)
 
 lift-requires-2 : tie.Need-lift-requires-2 Inv-loop μ-loop
-lift-requires-2 c κs = let s = c .before .before .before .before .before in (s .pre .0 .on-grid (s .args .a) (s .pre .1), s .pre .0 .on-grid (c .before .before .loop .v) (omega arith))
+lift-requires-2 c κs =
+    let s = c .before .before .before .before .before in
+    (s .pre .0 .on-grid (s .args .a) (s .pre .1), s .pre .0 .on-grid (c .before .before .loop .v) (omega arith))
 
 mul-lifted : tie.Need-mul-lifted Inv-loop μ-loop
 mul-lifted c = let s = c .before .before .before .before .before .before in omega (arith, s .pre .0 .most)
@@ -56,4 +58,5 @@ returns c = record { at = λ v h. c .before .loop .inv .1 .at v (omega arith) }
 pub lift-vertices-spec : {M : Type 1} → statement M
 lift-vertices-spec =
     tie.close
-    (tie.spec Inv-loop μ-loop mul-base element-copy-out-base lift-requires loop-holds mul-lift element-copy-out-lift lift-requires-2 mul-lifted array-set-from-lifted add-v loop-less loop-again returns)
+    (tie.spec Inv-loop μ-loop mul-base element-copy-out-base lift-requires loop-holds mul-lift element-copy-out-lift
+    lift-requires-2 mul-lifted array-set-from-lifted add-v loop-less loop-again returns)

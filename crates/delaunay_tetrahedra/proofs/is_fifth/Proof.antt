@@ -12,7 +12,9 @@ use Rattle.delaunay_tetrahedra.proofs.is_fifth.Statement.{statement}
 use Rattle.delaunay_tetrahedra.proofs.is_fifth.Tie as tie
 
 returns : tie.Need-returns
-returns c = let g = c .before .args in sym (ap (λ (t : Bool). both (not t) (isOn (g .place))) (either-right (isOneOf (g .a) (g .b) (g .c) (g .v)) _ (eq-eqb _ _ (c .if1 .taken))))
+returns c =
+    let g = c .before .args in
+    sym (ap (λ (t : Bool). both (not t) (isOn (g .place))) (either-right (isOneOf (g .a) (g .b) (g .c) (g .v)) _ (eq-eqb _ _ (c .if1 .taken))))
 
 is-fourth-requires : tie.Need-is-fourth-requires
 is-fourth-requires c κs = search needs
@@ -21,7 +23,9 @@ returns-2 : tie.Need-returns-2
 returns-2 c =
     let g = c .before .before .args in
     let corner = isOneOf (g .a) (g .b) (g .c) (g .v) in
-    c .is-fourth .ensures ∙ sym (ap (λ (t : Bool). both (not (either corner t)) (isOn (g .place))) (ne-eqb _ _ (c .before .if1 .left)) ∙ ap (λ (t : Bool). both (not t) (isOn (g .place))) (either-no corner))
+    c .is-fourth .ensures
+    ∙ sym (ap (λ (t : Bool). both (not (either corner t)) (isOn (g .place))) (ne-eqb _ _ (c .before .if1 .left))
+    ∙ ap (λ (t : Bool). both (not t) (isOn (g .place))) (either-no corner))
 
 pub is-fifth-spec : {M : Type 1} → statement M
 is-fifth-spec = tie.close (tie.spec returns is-fourth-requires returns-2)

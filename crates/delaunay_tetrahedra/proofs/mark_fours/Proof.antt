@@ -19,22 +19,10 @@ use Rattle.delaunay_search.proofs.Scanning.{Scanned, Passed, scanned-in}
 use Rattle.delaunay_tetrahedra.proofs.Counting.{not-counts-flat}
 use Rattle.delaunay_search.proofs.Lifting.{lift-in}
 use Rattle.delaunay_tetrahedra.proofs.Corners.{Three, vertex-in, pencil-in, none-counts, sphere-in, flat-is}
-use Rattle.delaunay_tetrahedra.proofs.Tetrahedra.{hasFifth, Kept, kept-skip, kept-leave, Four, four-dropped, three-left, vertex-passed, four-counts, fifth-passed, four-cospherical, four-marked, twelve-due, all-marked}
+use Rattle.delaunay_tetrahedra.proofs.Tetrahedra.{Hints, Scan, hasFifth, Kept, kept-skip, kept-leave, Four, four-dropped, three-left, vertex-passed}
+use Rattle.delaunay_tetrahedra.proofs.Tetrahedra.{four-counts, fifth-passed, four-cospherical, four-marked, twelve-due, all-marked}
 use Rattle.delaunay_tetrahedra.proofs.mark_fours.Statement.{statement}
 use Rattle.delaunay_tetrahedra.proofs.mark_fours.Tie as tie
-
--- the vertices that are remembered
-record Hints (n last apex : ℕ) : Type 0 where
-  last<n : last < n
-  apex<n : apex < n
-
--- in the scan: the four is the same
-record Scan (p : Polygon) (a b c₀ d₀ last apex c d i : ℕ) : Type 0 where
-  same-c : c ≡ c₀
-  same-d : d ≡ d₀
-  ahead : i ≤ p .n + 1
-  known : Hints (p .n) last apex
-  scanned : Scanned (p .n) (insideFour p a b c d) (i - 1)
 
 abbrev Inv-loop3 : tie.InvT-loop3
 Inv-loop3 p masks n last₀ apex₀ a lifted b c₀ pencil d₀ ball i₀ a-end b-end c-end i-end last apex c d i = Scan p a b c₀ d₀ last apex c d i
@@ -74,7 +62,8 @@ abbrev μ-loop : tie.MeasureT-loop
 
 -- a place of the code, or what is needed there, with these
 abbrev At :
-    (tie.InvT-loop3 → tie.MeasureT-loop3 → tie.InvT-loop4 → tie.MeasureT-loop4 → tie.InvT-four → tie.MeasureT-four → tie.InvT-three → tie.MeasureT-three → tie.InvT-loop2 → tie.MeasureT-loop2 → tie.InvT-loop → tie.MeasureT-loop → Type 0) →
+    (tie.InvT-loop3 → tie.MeasureT-loop3 → tie.InvT-loop4 → tie.MeasureT-loop4 → tie.InvT-four → tie.MeasureT-four → tie.InvT-three →
+    tie.MeasureT-three → tie.InvT-loop2 → tie.MeasureT-loop2 → tie.InvT-loop → tie.MeasureT-loop → Type 0) →
     Type 0
 At place = place Inv-loop3 μ-loop3 Inv-loop4 μ-loop4 Inv-four μ-four Inv-three μ-three Inv-loop2 μ-loop2 Inv-loop μ-loop
 
@@ -344,8 +333,11 @@ three-again-2 : At tie.Need-three-again-2
 three-again-2 c =
     let t = c .before .before .before .before in
     let w = t .before .before .before .before in
-    let f = still (turn w) in
-    (record { last<n = v<n w; apex<n = f .d<n }, kept-then (entered (base (tried (turn w)))) (three-left f _ (v<n w) (t .before .before .locate .ensures) (t .enum-told .given .1) (sym (c .before .separates .ensures) ∙ c .if3 .taken)))
+    let f = still (turn w) in (
+      record { last<n = v<n w; apex<n = f .d<n },
+      kept-then (entered (base (tried (turn w))))
+          (three-left f _ (v<n w) (t .before .before .locate .ensures) (t .enum-told .given .1) (sym (c .before .separates .ensures) ∙ c .if3 .taken)),
+    )
 
 add-d-3 : At tie.Need-add-d-3
 add-d-3 c = let f = still (turn (c .before .before .before .before .before .before .before .before)) in omega (arith, f .three .valid .most, f .d<n)
@@ -445,7 +437,8 @@ four-again-3 c =
     let long = f .kept .long ∙ g .before .three .inv .1 .long ∙ g .before .before .before .loop2 .inv .1 .long ∙ g .before .before .before .before .before .before .loop .inv .1 .long ∙ start g .pre .1 in (
       l .loop3 .inv .same-c ∙ same-c (tried l),
       l .loop3 .inv .known,
-      subst (λ (masks : List ℕ). Kept (polygon g) (g .before .three .masks) masks (λ P. left4 (polygon g .n) P (A g) (B g) (C g) (C g + 1)) (λ P. left4 (polygon g .n) P (A g) (B g) (l .loop3 .c) (l .loop3 .d + 1))) (sym (c .insert-faces .ensures))
+      subst (λ (masks : List ℕ). Kept (polygon g) (g .before .three .masks) masks (λ P. left4 (polygon g .n) P (A g) (B g) (C g) (C g + 1))
+          (λ P. left4 (polygon g .n) P (A g) (B g) (l .loop3 .c) (l .loop3 .d + 1))) (sym (c .insert-faces .ensures))
           (four-marked f (full q) _ (o .loop4-test .left) (o .before .loop4 .inv) long),
     )
 
@@ -467,7 +460,12 @@ loop2-less : At tie.Need-loop2-less
 loop2-less c = omega arith
 
 loop2-again : At tie.Need-loop2-again
-loop2-again c = (c .before .three .inv .0, kept-turn (λ P. out3 _ P _ _ _ (omega (arith, c .three-test .left))) (kept-then (kept-turn (λ P. into3 _ P _ _ (omega (arith, c .before .before .loop2-test .taken))) (c .before .before .before .loop2 .inv .1)) (c .before .three .inv .1)))
+loop2-again c = (
+  c .before .three .inv .0,
+  kept-turn (λ P. out3 _ P _ _ _ (omega (arith, c .three-test .left)))
+      (kept-then (kept-turn (λ P. into3 _ P _ _ (omega (arith, c .before .before .loop2-test .taken))) (c .before .before .before .loop2 .inv .1))
+      (c .before .three .inv .1)),
+)
 
 add-a : At tie.Need-add-a
 add-a c = omega arith
@@ -476,7 +474,12 @@ loop-less : At tie.Need-loop-less
 loop-less c = omega arith
 
 loop-again : At tie.Need-loop-again
-loop-again c = (c .before .loop2 .inv .0, kept-turn (λ P. out2 _ P _ _ (omega (arith, c .loop2-test .left))) (kept-then (kept-turn (λ P. into2 _ P _ (omega (arith, c .before .before .before .loop-test .taken))) (c .before .before .before .before .loop .inv .1)) (c .before .loop2 .inv .1)))
+loop-again c = (
+  c .before .loop2 .inv .0,
+  kept-turn (λ P. out2 _ P _ _ (omega (arith, c .loop2-test .left)))
+      (kept-then (kept-turn (λ P. into2 _ P _ (omega (arith, c .before .before .before .loop-test .taken))) (c .before .before .before .before .loop .inv .1))
+      (c .before .loop2 .inv .1)),
+)
 
 returns-2 : At tie.Need-returns-2
 returns-2 c = all-marked (c .before .before .args .p) _ (omega (arith, c .loop-test .left)) (c .before .loop .inv .1)

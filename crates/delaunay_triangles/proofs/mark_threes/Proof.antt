@@ -17,7 +17,9 @@ use Rattle.delaunay_triangles.specs.Triangles.{insideThree, countsInPlan
 use Rattle.delaunay_search.proofs.Marking.{kept-start, kept-turn, kept-then}
 use Rattle.delaunay_search.proofs.Scanning.{Scanned, Passed, scanned-in}
 use Rattle.delaunay_search.proofs.Lifting.{lift-in}
-use Rattle.delaunay_triangles.proofs.Triangles.{hasFourth, Kept, Triangle, vertex-in, circle-in, line-is, on-line, three-dropped, vertex-passed, three-counts, fourth-passed, three-cocircular, three-marked, twelve-due, all-marked}
+use Rattle.delaunay_triangles.proofs.Triangles.{hasFourth, Kept, Triangle, vertex-in, circle-in, line-is}
+use Rattle.delaunay_triangles.proofs.Triangles.{on-line, three-dropped, vertex-passed, three-counts, fourth-passed}
+use Rattle.delaunay_triangles.proofs.Triangles.{three-cocircular, three-marked, twelve-due, all-marked}
 use Rattle.delaunay_triangles.proofs.mark_threes.Statement.{statement}
 use Rattle.delaunay_triangles.proofs.mark_threes.Tie as tie
 
@@ -59,7 +61,8 @@ abbrev μ-loop : tie.MeasureT-loop
 μ-loop p masks₀ n last₀ a₀ a-end masks last a = n - a
 
 -- a place of the code, or what is needed there, with these
-abbrev At : (tie.InvT-loop3 → tie.MeasureT-loop3 → tie.InvT-loop4 → tie.MeasureT-loop4 → tie.InvT-three → tie.MeasureT-three → tie.InvT-loop2 → tie.MeasureT-loop2 → tie.InvT-loop → tie.MeasureT-loop → Type 0) → Type 0
+abbrev At : (tie.InvT-loop3 → tie.MeasureT-loop3 → tie.InvT-loop4 → tie.MeasureT-loop4 → tie.InvT-three → tie.MeasureT-three →
+    tie.InvT-loop2 → tie.MeasureT-loop2 → tie.InvT-loop → tie.MeasureT-loop → Type 0) → Type 0
 At place = place Inv-loop3 μ-loop3 Inv-loop4 μ-loop4 Inv-three μ-three Inv-loop2 μ-loop2 Inv-loop μ-loop
 
 sub-a-end : At tie.Need-sub-a-end
@@ -145,7 +148,9 @@ module _ (k : At tie.After-circle-through) where
   circle = k .circle-through .result
 
   abbrev TriangleAt : ℕ → Type 0
-  TriangleAt c = Triangle (polygon at) (A at) (B at) c (lifted at) circle (at .before .before .before .loop2 .masks) (at .before .three .masks) (λ P. left3 (polygon at .n) P (A at) (B at) (B at + 1))
+  TriangleAt c =
+      Triangle (polygon at) (A at) (B at) c (lifted at) circle (at .before .before .before .loop2 .masks)
+      (at .before .three .masks) (λ P. left3 (polygon at .n) P (A at) (B at) (B at + 1))
 
   triangle : TriangleAt (C at)
   triangle = record {
@@ -165,10 +170,14 @@ module _ (l : At tie.At-loop3) where
   round = l .before .before .before .before
 
   abbrev Proper : ℕ → Type 0
-  Proper c = TriangleAt round c × (collinear (vertex (polygon (at round)) (A (at round))) (vertex (polygon (at round)) (B (at round))) (vertex (polygon (at round)) c) ≡ false)
+  Proper c =
+      TriangleAt round c
+      × (collinear (vertex (polygon (at round)) (A (at round))) (vertex (polygon (at round)) (B (at round))) (vertex (polygon (at round)) c) ≡ false)
 
   proper : Proper (l .loop3 .c)
-  proper = subst Proper (sym (l .loop3 .inv .same-c)) (triangle round, sym (line-is (triangle round)) ∙ other-bits (circle round .orient) (λ z. l .before .if1 .left (omega (arith, z))))
+  proper =
+      subst Proper (sym (l .loop3 .inv .same-c))
+      (triangle round, sym (line-is (triangle round)) ∙ other-bits (circle round .orient) (λ z. l .before .if1 .left (omega (arith, z))))
 
 add-c-2 : At tie.Need-add-c-2
 add-c-2 c = let g = at (c .before .before .before) in omega (arith, valid g .most, c<n g)
@@ -179,8 +188,10 @@ three-less c = omega (arith, c<n (at (c .before .before .before)))
 three-again : At tie.Need-three-again
 three-again c =
     let k = c .before .before .before in
-    let t = triangle k in
-    (at k .before .three .inv .0, on-line t (sym (line-is t) ∙ zero-bits (circle k .orient) (signed-fits tt (circle-in t .orient-in)) (omega (arith, c .if1 .taken))))
+    let t = triangle k in (
+      at k .before .three .inv .0,
+      on-line t (sym (line-is t) ∙ zero-bits (circle k .orient) (signed-fits tt (circle-in t .orient-in)) (omega (arith, c .if1 .taken))),
+    )
 
 add-i-end : At tie.Need-add-i-end
 add-i-end c = let g = at (c .before .before .before) in omega (arith, valid g .most, c<n g)
@@ -197,7 +208,9 @@ module _ (w : At tie.After-scanned) where
   turn = w .before .before
 
   v<n : w .scanned .result < polygon (at (round turn)) .n
-  v<n = scanned-in _ (turn .loop3 .last) (turn .loop3 .i) _ (turn .loop3 .inv .last<n) (omega (arith, w .before .loop3-test .taken, c<n (at (round turn)))) (w .scanned .ensures)
+  v<n =
+      scanned-in _ (turn .loop3 .last) (turn .loop3 .i) _ (turn .loop3 .inv .last<n)
+      (omega (arith, w .before .loop3-test .taken, c<n (at (round turn)))) (w .scanned .ensures)
 
 mul-locate : At tie.Need-mul-locate
 mul-locate c = omega (arith, valid (at (round (turn c))) .most, v<n c)
@@ -238,7 +251,8 @@ loop3-again c =
       same-c = l .loop3 .inv .same-c;
       ahead = omega (arith, w .before .loop3-test .taken, c<n (at (round l)));
       last<n = l .loop3 .inv .last<n;
-      scanned = vertex-passed (t .0) (t .1) _ (v<n w) (c .before .locate .ensures) (not-tagged _ (c .match .keys2)) (l .loop3 .last) (l .loop3 .i) (w .scanned .ensures) (l .loop3 .inv .scanned);
+      scanned = vertex-passed (t .0) (t .1) _ (v<n w) (c .before .locate .ensures) (not-tagged _ (c .match .keys2))
+          (l .loop3 .last) (l .loop3 .i) (w .scanned .ensures) (l .loop3 .inv .scanned);
     }
 
 loop4-holds : At tie.Need-loop4-holds
@@ -287,7 +301,8 @@ loop4-again c =
     let m = c .before .before .before .before in
     let q = m .before .before in
     let t = proper (scan q) in
-    fourth-passed (t .0) (t .1) (full q) _ (m .loop4-test .taken) (c .before .before .locate2 .ensures) (c .before .is-fourth .ensures) (c .if2 .left) (m .before .loop4 .inv)
+    fourth-passed (t .0) (t .1) (full q) _ (m .loop4-test .taken) (c .before .before .locate2 .ensures)
+    (c .before .is-fourth .ensures) (c .if2 .left) (m .before .loop4 .inv)
 
 insert-requires : At tie.Need-insert-requires
 insert-requires c κs =
@@ -308,9 +323,11 @@ three-again-3 c =
     let l = scan q in
     let g = at (round l) in
     let t = proper l in
-    let long = g .before .three .inv .1 .long ∙ g .before .before .before .loop2 .inv .1 .long ∙ g .before .before .before .before .before .before .loop .inv .1 .long ∙ start g .pre .2 in (
+    let long = g .before .three .inv .1 .long ∙ g .before .before .before .loop2 .inv .1 .long
+    ∙ g .before .before .before .before .before .before .loop .inv .1 .long ∙ start g .pre .2 in (
       l .loop3 .inv .last<n,
-      subst (λ (masks : List ℕ). Kept (polygon g) (g .before .before .before .loop2 .masks) masks (λ P. left3 (polygon g .n) P (A g) (B g) (B g + 1)) (λ P. left3 (polygon g .n) P (A g) (B g) (l .loop3 .c + 1))) (sym (c .insert .ensures))
+      subst (λ (masks : List ℕ). Kept (polygon g) (g .before .before .before .loop2 .masks) masks (λ P. left3 (polygon g .n) P (A g) (B g) (B g + 1))
+          (λ P. left3 (polygon g .n) P (A g) (B g) (l .loop3 .c + 1))) (sym (c .insert .ensures))
           (three-marked (t .0) (t .1) (full q) _ (omega (arith, o .loop4-test .left)) (o .before .loop4 .inv) long),
     )
 
@@ -321,7 +338,12 @@ loop2-less : At tie.Need-loop2-less
 loop2-less c = omega arith
 
 loop2-again : At tie.Need-loop2-again
-loop2-again c = (c .before .three .inv .0, kept-turn (λ P. out3 _ P _ _ _ (omega (arith, c .three-test .left))) (kept-then (kept-turn (λ P. into3 _ P _ _ (omega (arith, c .before .before .loop2-test .taken))) (c .before .before .before .loop2 .inv .1)) (c .before .three .inv .1)))
+loop2-again c = (
+  c .before .three .inv .0,
+  kept-turn (λ P. out3 _ P _ _ _ (omega (arith, c .three-test .left)))
+      (kept-then (kept-turn (λ P. into3 _ P _ _ (omega (arith, c .before .before .loop2-test .taken))) (c .before .before .before .loop2 .inv .1))
+      (c .before .three .inv .1)),
+)
 
 add-a : At tie.Need-add-a
 add-a c = omega arith
@@ -330,7 +352,12 @@ loop-less : At tie.Need-loop-less
 loop-less c = omega arith
 
 loop-again : At tie.Need-loop-again
-loop-again c = (c .before .loop2 .inv .0, kept-turn (λ P. out2 _ P _ _ (omega (arith, c .loop2-test .left))) (kept-then (kept-turn (λ P. into2 _ P _ (omega (arith, c .before .before .before .loop-test .taken))) (c .before .before .before .before .loop .inv .1)) (c .before .loop2 .inv .1)))
+loop-again c = (
+  c .before .loop2 .inv .0,
+  kept-turn (λ P. out2 _ P _ _ (omega (arith, c .loop2-test .left)))
+      (kept-then (kept-turn (λ P. into2 _ P _ (omega (arith, c .before .before .before .loop-test .taken)))
+      (c .before .before .before .before .loop .inv .1)) (c .before .loop2 .inv .1)),
+)
 
 returns-2 : At tie.Need-returns-2
 returns-2 c = all-marked (c .before .before .args .p) _ (omega (arith, c .loop-test .left)) (c .before .loop .inv .1)
@@ -338,8 +365,11 @@ returns-2 c = all-marked (c .before .before .args .p) _ (omega (arith, c .loop-t
 pub mark-threes-spec : {M : Type 1} → statement M
 mark-threes-spec =
     tie.close
-    (tie.spec Inv-loop3 μ-loop3 Inv-loop4 μ-loop4 Inv-three μ-three Inv-loop2 μ-loop2 Inv-loop μ-loop sub-a-end loop-holds lift-vertices-requires add-b sub-b-end
+    (tie.spec Inv-loop3 μ-loop3 Inv-loop4 μ-loop4 Inv-three μ-three Inv-loop2 μ-loop2 Inv-loop μ-loop sub-a-end
+    loop-holds lift-vertices-requires add-b sub-b-end
     loop2-holds add-c three-holds mul-circle-through array-copy-out-circle-through mul-circle-through-2 array-copy-out-circle-through-2 circle-through-requires
-    add-c-2 three-less three-again add-i-end loop3-holds scanned-requires mul-locate array-copy-out-locate locate-requires enum-told add-c-3 three-less-2 three-again-2 add-i loop3-less
-    loop3-again loop4-holds mul-locate-2 array-copy-out-locate-2 locate-requires-2 is-fourth-requires returns add-w loop4-less loop4-again insert-requires add-c-4
+    add-c-2 three-less three-again add-i-end loop3-holds scanned-requires mul-locate array-copy-out-locate
+    locate-requires enum-told add-c-3 three-less-2 three-again-2 add-i loop3-less
+    loop3-again loop4-holds mul-locate-2 array-copy-out-locate-2 locate-requires-2 is-fourth-requires returns
+    add-w loop4-less loop4-again insert-requires add-c-4
     three-less-3 three-again-3 add-b-2 loop2-less loop2-again add-a loop-less loop-again returns-2)

@@ -22,8 +22,13 @@ dot-held c = let s = c .before in returned tt (c .dot .ensures) (normals-dot (s 
 
 bend-requires : tie.Need-bend-requires
 bend-requires c κs =
-    let s = c .before in
-    (at-most-held (dot-held c), s .pre .4 .above-0, omega (arith, s .pre .4 .is, length-bound (s .pre .4 .within)), s .pre .2 .above-0, omega (arith, s .pre .2 .is, length-bound (s .pre .2 .within)))
+    let s = c .before in (
+      at-most-held (dot-held c),
+      s .pre .4 .above-0,
+      omega (arith, s .pre .4 .is, length-bound (s .pre .4 .within)),
+      s .pre .2 .above-0,
+      omega (arith, s .pre .2 .is, length-bound (s .pre .2 .within)),
+    )
 
 bend-weight-requires : tie.Need-bend-weight-requires
 bend-weight-requires c κs = (c .before .before .pre .0, subst (λ (b : ℕ). b ≤ maxBend) (sym (c .bend .ensures)) (bend-bound _ _ _))
@@ -39,7 +44,8 @@ returns c =
     let s = c .before .before .before in
     ap (λ (w : ℕ). s .args .o ∷ s .args .i ∷ w ∷ [])
     (c .bend-weight .ensures
-    ∙ ap (λ (b : ℕ). bendWeightOf (s .args .factor) b) (c .before .bend .ensures ∙ (λ i. bendOf (dot-held (c .before .before) .value i) (s .pre .4 .is i) (s .pre .2 .is i))))
+    ∙ ap (λ (b : ℕ). bendWeightOf (s .args .factor) b)
+    (c .before .bend .ensures ∙ (λ i. bendOf (dot-held (c .before .before) .value i) (s .pre .4 .is i) (s .pre .2 .is i))))
 
 pub row-spec : {M : Type 1} → statement M
 row-spec =

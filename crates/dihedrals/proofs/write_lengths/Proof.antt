@@ -24,7 +24,8 @@ abbrev measure : Polygon → List ℕ → ℕ
 measure p t = lengthOf (faceNormal p t)
 
 abbrev Inv-loop : tie.InvT-loop
-Inv-loop candidates out₀ vertices i₀ i-end out i = Writing (lengthsOf (kept vertices) candidates) (map (measure (kept vertices)) (drop i candidates)) out₀ 0 out i
+Inv-loop candidates out₀ vertices i₀ i-end out i =
+    Writing (lengthsOf (kept vertices) candidates) (map (measure (kept vertices)) (drop i candidates)) out₀ 0 out i
 
 abbrev μ-loop : tie.MeasureT-loop
 μ-loop candidates out₀ vertices i₀ i-end out i = length candidates - i
@@ -56,8 +57,18 @@ array-read-wide-3 c = search needs
 wide-requires-3 : tie.Need-wide-requires-3 Inv-loop μ-loop
 wide-requires-3 c κs = search needs
 
-corners : (g : tie.After-wide3 Inv-loop μ-loop) → let s = g .before .before .before .before .before .before .before .before in Read (s .args .p) (entryAt (s .args .candidates .now) (g .before .before .before .before .before .loop .i)) (g .before .before .wide .result) (g .before .wide2 .result) (g .wide3 .result)
-corners g = let s = g .before .before .before .before .before .before .before .before in record { valid = s .pre .0 .valid; corners = s .pre .0 .corners (g .before .before .before .before .before .loop .i) (g .before .before .before .before .loop-test .taken); a-is = g .before .before .wide .ensures; b-is = g .before .wide2 .ensures; c-is = g .wide3 .ensures }
+corners : (g : tie.After-wide3 Inv-loop μ-loop) → let s = g .before .before .before .before .before .before .before .before in
+    Read (s .args .p) (entryAt (s .args .candidates .now) (g .before .before .before .before .before .loop .i))
+    (g .before .before .wide .result) (g .before .wide2 .result) (g .wide3 .result)
+corners g =
+    let s = g .before .before .before .before .before .before .before .before in
+    record {
+      valid = s .pre .0 .valid;
+      corners = s .pre .0 .corners (g .before .before .before .before .before .loop .i) (g .before .before .before .before .loop-test .taken);
+      a-is = g .before .before .wide .ensures;
+      b-is = g .before .wide2 .ensures;
+      c-is = g .wide3 .ensures;
+    }
 
 mul-normal : tie.Need-mul-normal Inv-loop μ-loop
 mul-normal c = let h = a<limit (corners c) in omega arith
@@ -81,20 +92,25 @@ normal-requires : tie.Need-normal-requires Inv-loop μ-loop
 normal-requires c κs = on-grid (corners (c .before .before .before))
 
 normal-length-requires : tie.Need-normal-length-requires Inv-loop μ-loop
-normal-length-requires c κs = let r = corners (c .before .before .before .before) in within-as (normal-is r (c .normal .ensures)) (face-within (r .valid) (r .corners))
+normal-length-requires c κs =
+    let r = corners (c .before .before .before .before) in
+    within-as (normal-is r (c .normal .ensures)) (face-within (r .valid) (r .corners))
 
 -- the length that is written next
 next : (c : tie.After-normal-length Inv-loop μ-loop) →
     let l = c .before .before .before .before .before .before .before .before .before .before in
     let s = c .before .before .before .before .before .before .before .before .before .before .before .before .before in
     let cs = s .args .candidates .now in
-    Writing (lengthsOf (s .args .p) cs) (c .normal-length .result ∷ map (measure (s .args .p)) (drop (l .loop .i + 1) cs)) (s .args .out .now) 0 (l .loop .out) (l .loop .i)
+    Writing (lengthsOf (s .args .p) cs) (c .normal-length .result ∷ map (measure (s .args .p)) (drop (l .loop .i + 1) cs))
+    (s .args .out .now) 0 (l .loop .out) (l .loop .i)
 next c =
     let l = c .before .before .before .before .before .before .before .before .before .before in
     let s = c .before .before .before .before .before .before .before .before .before .before .before .before .before in
     let cs = s .args .candidates .now in
     let e = c .normal-length .ensures ∙ ap lengthOf (normal-is (corners (c .before .before .before .before .before)) (c .before .normal .ensures)) in
-    turn (rest-step (measure (s .args .p)) cs (l .loop .i) [] (c .before .before .before .before .before .before .before .before .before .loop-test .taken) ∙ ap (λ (w : ℕ). w ∷ map (measure (s .args .p)) (drop (l .loop .i + 1) cs)) (sym e)) (l .loop .inv)
+    turn (rest-step (measure (s .args .p)) cs (l .loop .i) []
+    (c .before .before .before .before .before .before .before .before .before .loop-test .taken)
+    ∙ ap (λ (w : ℕ). w ∷ map (measure (s .args .p)) (drop (l .loop .i + 1) cs)) (sym e)) (l .loop .inv)
 
 mul-out : tie.Need-mul-out Inv-loop μ-loop
 mul-out c = let h = place (next c) in omega arith

@@ -37,19 +37,28 @@ edge-small cs s o (suc zero) h k = omega (arith, s .b<c o h, s .c<limit o h)
 edge-small cs s o (suc (suc e)) h k = absurd (omega arith)
 
 abbrev Inv-loop3 : tie.InvT-loop3
-Inv-loop3 candidates starts lengths out₀ factor vertices count₀ o t m a b c outer edge first last start end i₀ o-end out count i = (i ≤ end) × (end ≤ length candidates) × Writing (rowsOf (kept factor vertices) candidates) (map (rowAt (kept factor vertices) candidates o) (endingIn candidates i end last) ++ (over (edge + 1) 2 (rowsAt (kept factor vertices) candidates o) ++ over (o + 1) (length candidates) (rowsOn (kept factor vertices) candidates))) out₀ count₀ out count
+Inv-loop3 candidates starts lengths out₀ factor vertices count₀ o t m a b c outer edge first last start end i₀ o-end out count i =
+    (i ≤ end) × (end ≤ length candidates) × Writing (rowsOf (kept factor vertices) candidates)
+    (map (rowAt (kept factor vertices) candidates o) (endingIn candidates i end last)
+    ++ (over (edge + 1) 2 (rowsAt (kept factor vertices) candidates o)
+    ++ over (o + 1) (length candidates) (rowsOn (kept factor vertices) candidates))) out₀ count₀ out count
 
 abbrev μ-loop3 : tie.MeasureT-loop3
 μ-loop3 candidates starts lengths out₀ factor vertices count₀ o t m a b c outer edge first last start end i₀ o-end out count i = end - i
 
 abbrev Inv-loop2 : tie.InvT-loop2
-Inv-loop2 candidates starts lengths out₀ factor vertices count₀ o t m a b c outer edge₀ o-end out count edge = (edge ≤ 2) × Writing (rowsOf (kept factor vertices) candidates) (over edge 2 (rowsAt (kept factor vertices) candidates o) ++ over (o + 1) (length candidates) (rowsOn (kept factor vertices) candidates)) out₀ count₀ out count
+Inv-loop2 candidates starts lengths out₀ factor vertices count₀ o t m a b c outer edge₀ o-end out count edge =
+    (edge ≤ 2) × Writing (rowsOf (kept factor vertices) candidates)
+    (over edge 2 (rowsAt (kept factor vertices) candidates o) ++ over (o + 1) (length candidates) (rowsOn (kept factor vertices) candidates))
+    out₀ count₀ out count
 
 abbrev μ-loop2 : tie.MeasureT-loop2
 μ-loop2 candidates starts lengths out₀ factor vertices count₀ o t m a b c outer edge₀ o-end out count edge = 2 - edge
 
 abbrev Inv-loop : tie.InvT-loop
-Inv-loop candidates starts lengths out₀ factor vertices count₀ o₀ o-end out count o = (o ≤ length candidates) × Writing (rowsOf (kept factor vertices) candidates) (over o (length candidates) (rowsOn (kept factor vertices) candidates)) out₀ count₀ out count
+Inv-loop candidates starts lengths out₀ factor vertices count₀ o₀ o-end out count o =
+    (o ≤ length candidates)
+    × Writing (rowsOf (kept factor vertices) candidates) (over o (length candidates) (rowsOn (kept factor vertices) candidates)) out₀ count₀ out count
 
 abbrev μ-loop : tie.MeasureT-loop
 μ-loop candidates starts lengths out₀ factor vertices count₀ o₀ o-end out count o = length candidates - o
@@ -115,8 +124,18 @@ array-read-wide-3 c = search needs
 wide-requires-3 : tie.Need-wide-requires-3 Inv-loop3 μ-loop3 Inv-loop2 μ-loop2 Inv-loop μ-loop
 wide-requires-3 c κs = search needs
 
-corners : (w : tie.After-wide3 Inv-loop3 μ-loop3 Inv-loop2 μ-loop2 Inv-loop μ-loop) → let g = w .before .before .before .before .before in Read (p g) (entryAt (cs g) (O g)) (w .before .before .wide .result) (w .before .wide2 .result) (w .wide3 .result)
-corners w = let g = w .before .before .before .before .before in let s = g .before .before .before .before in record { valid = s .pre .0 .valid; corners = s .pre .0 .corners (O g) (o-in g); a-is = w .before .before .wide .ensures; b-is = w .before .wide2 .ensures; c-is = w .wide3 .ensures }
+corners : (w : tie.After-wide3 Inv-loop3 μ-loop3 Inv-loop2 μ-loop2 Inv-loop μ-loop) → let g = w .before .before .before .before .before in
+    Read (p g) (entryAt (cs g) (O g)) (w .before .before .wide .result) (w .before .wide2 .result) (w .wide3 .result)
+corners w =
+    let g = w .before .before .before .before .before in
+    let s = g .before .before .before .before in
+    record {
+      valid = s .pre .0 .valid;
+      corners = s .pre .0 .corners (O g) (o-in g);
+      a-is = w .before .before .wide .ensures;
+      b-is = w .before .wide2 .ensures;
+      c-is = w .wide3 .ensures;
+    }
 
 mul-normal : tie.Need-mul-normal Inv-loop3 μ-loop3 Inv-loop2 μ-loop2 Inv-loop μ-loop
 mul-normal c = let h = a<limit (corners c) in omega arith
@@ -144,8 +163,11 @@ normal-requires c κs = on-grid (corners (c .before .before .before))
 
 loop2-holds : tie.Need-loop2-holds Inv-loop3 μ-loop3 Inv-loop2 μ-loop2 Inv-loop μ-loop
 loop2-holds c =
-    let g = c .before .before .before .before .before .before .before .before .before in
-    (omega arith, enter (over-step (O g) (length (cs g)) (rowsOn (p g) (cs g)) (o-in g) ∙ ap (λ (l : List (List ℕ)). l ++ rest g) (edge-rows (p g) (cs g) (g .before .before .before .before .pre .0 .sorted) (O g) (o-in g))) (g .before .loop .inv .1))
+    let g = c .before .before .before .before .before .before .before .before .before in (
+      omega arith,
+      enter (over-step (O g) (length (cs g)) (rowsOn (p g) (cs g)) (o-in g) ∙ ap (λ (l : List (List ℕ)). l ++ rest g)
+          (edge-rows (p g) (cs g) (g .before .before .before .before .pre .0 .sorted) (O g) (o-in g))) (g .before .loop .inv .1),
+    )
 
 array-read-wide-4 : tie.Need-array-read-wide-4 Inv-loop3 μ-loop3 Inv-loop2 μ-loop2 Inv-loop μ-loop
 array-read-wide-4 c = omega (arith, c .loop2-test .taken)
@@ -240,8 +262,12 @@ module _ (n : tie.In-loop3 Inv-loop3 μ-loop3 Inv-loop2 μ-loop2 Inv-loop μ-loo
 
   -- what is left, with the candidate taken by its test
   after : (b : Bool) → eqb (vertexC (entryAt (cs face-at) I)) last-vertex ≡ b →
-      Writing (rowsOf (p face-at) (cs face-at)) (map (rowAt (p face-at) (cs face-at) (O face-at)) (when b I) ++ (map (rowAt (p face-at) (cs face-at) (O face-at)) (endingIn (cs face-at) (I + 1) (to (n .before .before .before .before)) last-vertex) ++ others edge-at)) (edge-at .before .loop2 .out) (edge-at .before .loop2 .count) (n .before .loop3 .out) (n .before .loop3 .count)
-  after b e = turn (ending-step (rowAt (p face-at) (cs face-at) (O face-at)) (cs face-at) I (to (n .before .before .before .before)) last-vertex (others edge-at) b (n .loop3-test .taken) e) (n .before .loop3 .inv .2)
+      Writing (rowsOf (p face-at) (cs face-at)) (map (rowAt (p face-at) (cs face-at) (O face-at)) (when b I)
+      ++ (map (rowAt (p face-at) (cs face-at) (O face-at)) (endingIn (cs face-at) (I + 1) (to (n .before .before .before .before)) last-vertex)
+      ++ others edge-at)) (edge-at .before .loop2 .out) (edge-at .before .loop2 .count) (n .before .loop3 .out) (n .before .loop3 .count)
+  after b e =
+      turn (ending-step (rowAt (p face-at) (cs face-at) (O face-at)) (cs face-at) I (to (n .before .before .before .before)) last-vertex
+      (others edge-at) b (n .loop3-test .taken) e) (n .before .loop3 .inv .2)
 
 mul-s : tie.Need-mul-s Inv-loop3 μ-loop3 Inv-loop2 μ-loop2 Inv-loop μ-loop
 mul-s c = omega (arith, i-in c, few (face-at c))
@@ -278,8 +304,18 @@ array-read-wide-7 c = search needs
 wide-requires-7 : tie.Need-wide-requires-7 Inv-loop3 μ-loop3 Inv-loop2 μ-loop2 Inv-loop μ-loop
 wide-requires-7 c κs = search needs
 
-corners2 : (w : tie.After-wide7 Inv-loop3 μ-loop3 Inv-loop2 μ-loop2 Inv-loop μ-loop) → let n = w .before .before .before .before .before .before in Read (p (face-at n)) (entryAt (cs (face-at n)) (I n)) (w .before .before .wide5 .result) (w .before .wide6 .result) (w .wide7 .result)
-corners2 w = let n = w .before .before .before .before .before .before in let s = face-at n .before .before .before .before in record { valid = s .pre .0 .valid; corners = s .pre .0 .corners (I n) (i-in n); a-is = w .before .before .wide5 .ensures; b-is = w .before .wide6 .ensures; c-is = w .wide7 .ensures }
+corners2 : (w : tie.After-wide7 Inv-loop3 μ-loop3 Inv-loop2 μ-loop2 Inv-loop μ-loop) → let n = w .before .before .before .before .before .before in
+    Read (p (face-at n)) (entryAt (cs (face-at n)) (I n)) (w .before .before .wide5 .result) (w .before .wide6 .result) (w .wide7 .result)
+corners2 w =
+    let n = w .before .before .before .before .before .before in
+    let s = face-at n .before .before .before .before in
+    record {
+      valid = s .pre .0 .valid;
+      corners = s .pre .0 .corners (I n) (i-in n);
+      a-is = w .before .before .wide5 .ensures;
+      b-is = w .before .wide6 .ensures;
+      c-is = w .wide7 .ensures;
+    }
 
 mul-normal-4 : tie.Need-mul-normal-4 Inv-loop3 μ-loop3 Inv-loop2 μ-loop2 Inv-loop μ-loop
 mul-normal-4 c = let h = a<limit (corners2 c) in omega arith
@@ -310,21 +346,35 @@ row-requires c κs =
     let w = c .before .before .before .before in
     let n = w .before .before .before .before .before .before in
     let g = face-at n in
-    let s = g .before .before .before .before .pre .0 in
-    (s .valid .bend-factor, omega (arith, o-in g, few g), face-measured s (O g) (o-in g) (normal-is (corners (n .before .before .before .before .before .before .before .before .before .before .before)) (n .before .before .before .before .before .before .before .normal .ensures)) (length-is g (O g) (o-in g)), omega (arith, i-in n, few g), face-measured s (I n) (i-in n) (normal-is (corners2 w) (c .normal2 .ensures)) (length-is g (I n) (i-in n)))
+    let s = g .before .before .before .before .pre .0 in (
+      s .valid .bend-factor,
+      omega (arith, o-in g, few g),
+      face-measured s (O g) (o-in g) (normal-is (corners (n .before .before .before .before .before .before .before .before .before .before .before))
+          (n .before .before .before .before .before .before .before .normal .ensures)) (length-is g (O g) (o-in g)),
+      omega (arith, i-in n, few g),
+      face-measured s (I n) (i-in n) (normal-is (corners2 w) (c .normal2 .ensures)) (length-is g (I n) (i-in n)),
+    )
 
 -- the row that is written next
 next : (r : tie.After-row Inv-loop3 μ-loop3 Inv-loop2 μ-loop2 Inv-loop μ-loop) →
     let n = r .before .before .before .before .before .before .before .before .before .before .before in
     let g = face-at n in
-    Writing (rowsOf (p g) (cs g)) (r .row .result ∷ (map (rowAt (p g) (cs g) (O g)) (endingIn (cs g) (I n + 1) (to (n .before .before .before .before)) (last-vertex n)) ++ others (edge-at n))) (edge-at n .before .loop2 .out) (edge-at n .before .loop2 .count) (n .before .loop3 .out) (n .before .loop3 .count)
+    Writing (rowsOf (p g) (cs g)) (r .row .result
+    ∷ (map (rowAt (p g) (cs g) (O g)) (endingIn (cs g) (I n + 1) (to (n .before .before .before .before)) (last-vertex n)) ++ others (edge-at n)))
+    (edge-at n .before .loop2 .out) (edge-at n .before .loop2 .count) (n .before .loop3 .out) (n .before .loop3 .count)
 next r =
     let n = r .before .before .before .before .before .before .before .before .before .before .before in
     let g = face-at n in
-    let e = r .row .ensures ∙ (λ h. O g ∷ I n ∷ bendWeightOf (p g .«bend_factor») (bendBetween (normal-is (corners2 (r .before .before .before .before .before)) (r .before .normal2 .ensures) h) (normal-is (corners (n .before .before .before .before .before .before .before .before .before .before .before)) (n .before .before .before .before .before .before .before .normal .ensures) h)) ∷ []) in
-    turn (ap (λ (l : List ℕ). l ∷ (map (rowAt (p g) (cs g) (O g)) (endingIn (cs g) (I n + 1) (to (n .before .before .before .before)) (last-vertex n)) ++ others (edge-at n))) (sym e)) (after n true (eq-eqb _ _ (r .before .before .before .before .before .before .before .before .before .if1 .taken)))
+    let e = r .row .ensures ∙ (λ h. O g ∷ I n ∷ bendWeightOf (p g .«bend_factor»)
+    (bendBetween (normal-is (corners2 (r .before .before .before .before .before)) (r .before .normal2 .ensures) h)
+    (normal-is (corners (n .before .before .before .before .before .before .before .before .before .before .before))
+    (n .before .before .before .before .before .before .before .normal .ensures) h)) ∷ []) in
+    turn (ap (λ (l : List ℕ). l
+    ∷ (map (rowAt (p g) (cs g) (O g)) (endingIn (cs g) (I n + 1) (to (n .before .before .before .before)) (last-vertex n)) ++ others (edge-at n)))
+    (sym e)) (after n true (eq-eqb _ _ (r .before .before .before .before .before .before .before .before .before .if1 .taken)))
 
-count-fits : (r : tie.After-row Inv-loop3 μ-loop3 Inv-loop2 μ-loop2 Inv-loop μ-loop) → r .before .before .before .before .before .before .before .before .before .before .before .before .loop3 .count * 12 + 12 < 2 ^ 63
+count-fits : (r : tie.After-row Inv-loop3 μ-loop3 Inv-loop2 μ-loop2 Inv-loop μ-loop) →
+    r .before .before .before .before .before .before .before .before .before .before .before .before .loop3 .count * 12 + 12 < 2 ^ 63
 count-fits r =
     let n = r .before .before .before .before .before .before .before .before .before .before .before in
     let g = face-at n in
@@ -356,7 +406,25 @@ loop3-again c =
       ⊎-elim
           (λ w. moved (w .10) (w .11) (push (next (record {
             before = record {
-              before = record { before = record { before = record { before = record { before = record { before = record { before = record { before = record { before = c .before; if1 = w .0 }; shared-slice-known3 = w .1 }; wide5 = w .2 }; wide6 = w .3 }; wide7 = w .4 }; normal-arg4 = w .5 }; normal-arg5 = w .6 }; normal-arg6 = w .7 };
+              before = record {
+                before = record {
+                  before = record {
+                    before = record {
+                      before = record {
+                        before = record {
+                          before = record { before = record { before = c .before; if1 = w .0 }; shared-slice-known3 = w .1 };
+                          wide5 = w .2;
+                        };
+                        wide6 = w .3;
+                      };
+                      wide7 = w .4;
+                    };
+                    normal-arg4 = w .5;
+                  };
+                  normal-arg5 = w .6;
+                };
+                normal-arg6 = w .7;
+              };
               normal2 = w .8;
             };
             row = w .9;
@@ -374,8 +442,11 @@ loop2-less c = omega (arith, c .before .before .before .before .before .loop2-te
 loop2-again : tie.Need-loop2-again Inv-loop3 μ-loop3 Inv-loop2 μ-loop2 Inv-loop μ-loop
 loop2-again c =
     let m = c .before .before .before .before .before in
-    let g = outer-at m in
-    (omega (arith, m .loop2-test .taken), leave (ending-end (rowAt (p g) (cs g) (O g)) (cs g) (c .before .loop3 .i) (to (c .before .before .before .before)) (getD (entryAt (cs g) (O g)) (E m + 1) 0) (others m) (c .loop3-test .left)) (m .before .loop2 .inv .1) (c .before .loop3 .inv .2))
+    let g = outer-at m in (
+      omega (arith, m .loop2-test .taken),
+      leave (ending-end (rowAt (p g) (cs g) (O g)) (cs g) (c .before .loop3 .i) (to (c .before .before .before .before))
+          (getD (entryAt (cs g) (O g)) (E m + 1) 0) (others m) (c .loop3-test .left)) (m .before .loop2 .inv .1) (c .before .loop3 .inv .2),
+    )
 
 add-o : tie.Need-add-o Inv-loop3 μ-loop3 Inv-loop2 μ-loop2 Inv-loop μ-loop
 add-o c = let g = c .before .before .before .before .before .before .before .before .before .before .before in omega (arith, o-in g, few g)
@@ -385,8 +456,11 @@ loop-less c = omega (arith, c .before .before .before .before .before .before .b
 
 loop-again : tie.Need-loop-again Inv-loop3 μ-loop3 Inv-loop2 μ-loop2 Inv-loop μ-loop
 loop-again c =
-    let g = c .before .before .before .before .before .before .before .before .before .before .before in
-    (omega (arith, o-in g), leave (over-none (c .before .loop2 .edge) 2 (rowsAt (p g) (cs g) (O g)) (rest g) (c .loop2-test .left)) (g .before .loop .inv .1) (c .before .loop2 .inv .1))
+    let g = c .before .before .before .before .before .before .before .before .before .before .before in (
+      omega (arith, o-in g),
+      leave (over-none (c .before .loop2 .edge) 2 (rowsAt (p g) (cs g) (O g)) (rest g) (c .loop2-test .left))
+          (g .before .loop .inv .1) (c .before .loop2 .inv .1),
+    )
 
 same-length : tie.Need-same-length Inv-loop3 μ-loop3 Inv-loop2 μ-loop2 Inv-loop μ-loop
 same-length c = c .before .loop .inv .1 .long
@@ -397,72 +471,11 @@ returns c = all (turn (over-end _ _ _ (c .loop-test .left)) (c .before .loop .in
 pub write-rows-spec : {M : Type 1} → statement M
 write-rows-spec =
     tie.close
-    (tie.spec
-    Inv-loop3
-    μ-loop3
-    Inv-loop2
-    μ-loop2
-    Inv-loop
-    μ-loop
-    loop-holds
-    mul-t
-    shared-slice-copy-out-t
-    mul-m
-    shared-slice-read-m
-    array-read-wide
-    wide-requires
-    array-read-wide-2
-    wide-requires-2
-    array-read-wide-3
-    wide-requires-3
-    mul-normal
-    array-copy-out-normal
-    mul-normal-2
-    array-copy-out-normal-2
-    mul-normal-3
-    array-copy-out-normal-3
-    normal-requires
-    loop2-holds
-    array-read-wide-4
-    wide-requires-4
-    add-last
-    array-read-last
-    mul-start
-    element-copy-out-start
-    add-end
-    mul-end
-    element-copy-out-end
-    loop3-holds
-    mul-s
-    shared-slice-copy-out-s
-    array-read-if1
-    mul-k
-    shared-slice-read-k
-    array-read-wide-5
-    wide-requires-5
-    array-read-wide-6
-    wide-requires-6
-    array-read-wide-7
-    wide-requires-7
-    mul-normal-4
-    array-copy-out-normal-4
-    mul-normal-5
-    array-copy-out-normal-5
-    mul-normal-6
-    array-copy-out-normal-6
-    normal-requires-2
-    row-requires
-    mul-t73
-    slice-set-from-out
-    add-count
-    add-i
-    loop3-less
-    loop3-again
-    add-edge
-    loop2-less
-    loop2-again
-    add-o
-    loop-less
-    loop-again
-    same-length
-    returns)
+    (tie.spec Inv-loop3 μ-loop3 Inv-loop2 μ-loop2 Inv-loop μ-loop loop-holds mul-t shared-slice-copy-out-t mul-m shared-slice-read-m array-read-wide
+    wide-requires array-read-wide-2 wide-requires-2 array-read-wide-3 wide-requires-3 mul-normal array-copy-out-normal mul-normal-2
+    array-copy-out-normal-2 mul-normal-3 array-copy-out-normal-3 normal-requires loop2-holds array-read-wide-4 wide-requires-4 add-last
+    array-read-last mul-start element-copy-out-start add-end mul-end element-copy-out-end loop3-holds mul-s shared-slice-copy-out-s
+    array-read-if1 mul-k shared-slice-read-k array-read-wide-5 wide-requires-5 array-read-wide-6 wide-requires-6 array-read-wide-7
+    wide-requires-7 mul-normal-4 array-copy-out-normal-4 mul-normal-5 array-copy-out-normal-5 mul-normal-6 array-copy-out-normal-6
+    normal-requires-2 row-requires mul-t73 slice-set-from-out add-count add-i loop3-less loop3-again add-edge loop2-less loop2-again add-o
+    loop-less loop-again same-length returns)

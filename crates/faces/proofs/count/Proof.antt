@@ -71,8 +71,10 @@ loop3-again c =
     let n = u .before .args .n in
     let P = has (u .before .args .masks .now) in
     ⊎-elim
-    (λ w. count-moved (w .1) (count-push (count-turn (next-listed n P (u .loop .i) (m .loop2 .j) (l .loop3 .k) {t = true} (omega arith) (sym (w .0 .taken) ∙ c .before .contains .ensures)) (l .loop3 .inv))))
-    (λ w. count-moved (w .1) (count-turn (next-listed n P (u .loop .i) (m .loop2 .j) (l .loop3 .k) {t = false} (omega arith) (sym (w .0 .left) ∙ c .before .contains .ensures)) (l .loop3 .inv)))
+    (λ w. count-moved (w .1) (count-push (count-turn (next-listed n P (u .loop .i) (m .loop2 .j) (l .loop3 .k) {t = true}
+    (omega arith) (sym (w .0 .taken) ∙ c .before .contains .ensures)) (l .loop3 .inv))))
+    (λ w. count-moved (w .1) (count-turn (next-listed n P (u .loop .i) (m .loop2 .j) (l .loop3 .k) {t = false}
+    (omega arith) (sym (w .0 .left) ∙ c .before .contains .ensures)) (l .loop3 .inv)))
     (c .if1 .came)
 
 add-j-2 : tie.Need-add-j-2 Inv-loop3 μ-loop3 Inv-loop2 μ-loop2 Inv-loop μ-loop

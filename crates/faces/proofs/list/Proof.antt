@@ -69,12 +69,14 @@ next : (c : tie.Then1 Inv-loop3 μ-loop3 Inv-loop2 μ-loop2 Inv-loop μ-loop) �
     let u = m .before .before in
     let n = u .before .args .n in
     let P = has (u .before .args .masks .now) in
-    Writing (triplesOf n P) (triple (u .loop .a) (m .loop2 .b) (l .loop3 .c) ∷ left3 n (listed P) (u .loop .a) (m .loop2 .b) (l .loop3 .c + 1)) (m .loop2 .out) (m .loop2 .count) (l .loop3 .out) (l .loop3 .count)
+    Writing (triplesOf n P) (triple (u .loop .a) (m .loop2 .b) (l .loop3 .c) ∷ left3 n (listed P) (u .loop .a) (m .loop2 .b) (l .loop3 .c + 1))
+    (m .loop2 .out) (m .loop2 .count) (l .loop3 .out) (l .loop3 .count)
 next c =
     let l = c .before .before .before in
     let m = l .before .before in
     let u = m .before .before in
-    turn (next-listed (u .before .args .n) (has (u .before .args .masks .now)) (u .loop .a) (m .loop2 .b) (l .loop3 .c) {t = true} (omega arith) (sym (c .if1 .taken) ∙ c .before .contains .ensures)) (l .loop3 .inv)
+    turn (next-listed (u .before .args .n) (has (u .before .args .masks .now)) (u .loop .a) (m .loop2 .b) (l .loop3 .c)
+    {t = true} (omega arith) (sym (c .if1 .taken) ∙ c .before .contains .ensures)) (l .loop3 .inv)
 
 slice-set-from-out :
     tie.Need-slice-set-from-out Inv-loop3 μ-loop3 Inv-loop2 μ-loop2 Inv-loop μ-loop
@@ -96,7 +98,8 @@ loop3-again c =
     let u = m .before .before in
     ⊎-elim
     (λ w. moved (w .1) (w .2) (push (next (record { before = c .before; if1 = w .0 }))))
-    (λ w. moved (w .1) (w .2) (turn (next-listed (u .before .args .n) (has (u .before .args .masks .now)) (u .loop .a) (m .loop2 .b) (l .loop3 .c) {t = false} (omega arith) (sym (w .0 .left) ∙ c .before .contains .ensures)) (l .loop3 .inv)))
+    (λ w. moved (w .1) (w .2) (turn (next-listed (u .before .args .n) (has (u .before .args .masks .now)) (u .loop .a) (m .loop2 .b)
+    (l .loop3 .c) {t = false} (omega arith) (sym (w .0 .left) ∙ c .before .contains .ensures)) (l .loop3 .inv)))
     (c .if1 .came)
 
 add-b-2 : tie.Need-add-b-2 Inv-loop3 μ-loop3 Inv-loop2 μ-loop2 Inv-loop μ-loop

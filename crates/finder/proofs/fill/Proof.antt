@@ -122,7 +122,8 @@ returns-6 c =
     let r = rows-are g in
     let w = c .before .before .before .before .write-lists .ensures in
     (λ i. finding (Lists (n i) (r i)) (w .the-candidates i) (w .the-weights i) (w .the-rows i))
-    ∙ sym (no _ _ (ge-via (triangles-are g) (e .before .before .before .before .if1 .left)) ∙ no _ _ (ge-via n (e .before .before .before .if2 .left)) ∙ no _ _ (ge-via n (e .before .before .if3 .left)) ∙ no _ _ (ge-via n (e .before .if4 .left)) ∙ no _ _ (ge-via r (e .if5 .left)))
+    ∙ sym (no _ _ (ge-via (triangles-are g) (e .before .before .before .before .if1 .left)) ∙ no _ _ (ge-via n (e .before .before .before .if2 .left))
+    ∙ no _ _ (ge-via n (e .before .before .if3 .left)) ∙ no _ _ (ge-via n (e .before .if4 .left)) ∙ no _ _ (ge-via r (e .if5 .left)))
 
 pub fill-spec : {M : Type 1} → statement M
 fill-spec =

@@ -23,8 +23,10 @@ returns : tie.Need-returns
 returns c =
     let s = c .before .before .before .before .before .before .before .before .before in
     let n = beside-enough (s .args .p) (s .args .candidates .now) (s .args .weights .now) (s .args .rows .now) in
-    let e = c .before .before .before .before .find-beside .ensures in
-    (e .0 ∙ ap (λ (k : ℕ). findBy k (s .args .p) (s .args .candidates .now) (s .args .weights .now) (s .args .rows .now)) n, e .1 ∙ ap (λ (k : ℕ). dueValues k (s .args .p)) n)
+    let e = c .before .before .before .before .find-beside .ensures in (
+      e .0 ∙ ap (λ (k : ℕ). findBy k (s .args .p) (s .args .candidates .now) (s .args .weights .now) (s .args .rows .now)) n,
+      e .1 ∙ ap (λ (k : ℕ). dueValues k (s .args .p)) n,
+    )
 
 pub find-spec : {M : Type 1} → statement M
 find-spec =

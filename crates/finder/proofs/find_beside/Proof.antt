@@ -21,10 +21,15 @@ search-requires c κs = search needs
 
 -- the number and the counts, from the answer
 values : (s : tie.Start) {x : Found} {c r : List (List ℕ)} {w : List ℕ} →
-    finding x c w r ≡ findBesideCall (s .args .p) (s .args .triangle-places) (s .args .work-places) (s .args .candidates .now) (s .args .weights .now) (s .args .rows .now) →
-    (finding x c w r ≡ findBesideCall (s .args .p) (s .args .triangle-places) (s .args .work-places) (s .args .candidates .now) (s .args .weights .now) (s .args .rows .now)) × (valuesOf x ≡ dueValues (besideNumber (s .args .p) (s .args .triangle-places) (s .args .work-places) (s .args .candidates .now) (s .args .weights .now) (s .args .rows .now)) (s .args .p))
+    finding x c w r ≡ findBesideCall (s .args .p) (s .args .triangle-places) (s .args .work-places)
+    (s .args .candidates .now) (s .args .weights .now) (s .args .rows .now) →
+    (finding x c w r ≡ findBesideCall (s .args .p) (s .args .triangle-places) (s .args .work-places)
+    (s .args .candidates .now) (s .args .weights .now) (s .args .rows .now))
+    × (valuesOf x ≡ dueValues (besideNumber (s .args .p) (s .args .triangle-places) (s .args .work-places)
+    (s .args .candidates .now) (s .args .weights .now) (s .args .rows .now)) (s .args .p))
 values s e =
-    values-found (s .args .p) (besideNumber (s .args .p) (s .args .triangle-places) (s .args .work-places) (s .args .candidates .now) (s .args .weights .now) (s .args .rows .now)) (s .args .candidates .now) (s .args .weights .now) (s .args .rows .now) e
+    values-found (s .args .p) (besideNumber (s .args .p) (s .args .triangle-places) (s .args .work-places) (s .args .candidates .now)
+    (s .args .weights .now) (s .args .rows .now)) (s .args .candidates .now) (s .args .weights .now) (s .args .rows .now) e
 
 new-requires : tie.Need-new-requires
 new-requires c κs = search needs
@@ -73,7 +78,8 @@ returns-2 c =
     let p = polygon g in
     values s
     (c .before .before .before .before .fill .ensures
-    ∙ ap (λ (l : List (List ℕ)). fillOr13 p l (s .args .triangle-places) (s .args .work-places) (s .args .candidates .now) (s .args .weights .now) (s .args .rows .now)) (candidates-are g)
+    ∙ ap (λ (l : List (List ℕ)). fillOr13 p l (s .args .triangle-places) (s .args .work-places) (s .args .candidates .now)
+    (s .args .weights .now) (s .args .rows .now)) (candidates-are g)
     ∙ filled-is p (s .args .triangle-places) (s .args .work-places) (s .args .candidates .now) (s .args .weights .now) (s .args .rows .now) (none-due g))
 
 pub find-beside-spec : {M : Type 1} → statement M

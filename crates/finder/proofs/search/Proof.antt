@@ -56,7 +56,9 @@ returns-3 : tie.Need-returns-3
 unfolding numberDue
 returns-3 c =
     let g = c .before .before .before in
-    let none : (x y z : ℕ) → x < 64 → y < 64 → z < 64 → has (g .before .before .args .masks .now) x y z ≡ false = λ x y z hx hy hz. subst (λ (m : List ℕ). has m x y z ≡ false) (sym (g .before .before .pre)) (none-in 4096 (omega arith) (record { first = hx; second = hy; third = hz })) in
+    let none : (x y z : ℕ) → x < 64 → y < 64 → z < 64 → has (g .before .before .args .masks .now) x y z ≡ false =
+    λ x y z hx hy hz. subst (λ (m : List ℕ). has m x y z ≡ false) (sym (g .before .before .pre))
+    (none-in 4096 (omega arith) (record { first = hx; second = hy; third = hz })) in
     record {
       is-due = sym (yes _ _ (eq-eqb (codeOf (polygon g)) 0 (code-0 g)) ∙ no _ _ (sym (c .before .mark-candidates .ensures .searched .found) ∙ c .if2 .left));
       listed = λ z. listed-are (polygon g) (valid g .most) none (c .if2 .left) (c .before .mark-candidates .ensures);

@@ -126,8 +126,10 @@ returns c =
       the-weights =
           c .before .before .write-weights .ensures
           ∙ (λ i. filled (weightsOf (polygon g) (found-are g i)) (made w i))
-          ∙ filled-over (weightsOf (polygon g) (triangles g)) (lengthsOf (polygon g) (triangles g)) (s .args .weights .now) (length-map (triangles g) (ownWeight (polygon g)) ∙ sym (length-map (triangles g) (λ t. lengthOf (faceNormal (polygon g) t))));
-      the-rows = c .before .before .before .before .before .write-rows .ensures ∙ ap (λ (l : List (List ℕ)). filled (rowsOf (polygon g) l) (s .args .rows .now)) (found-are g);
+          ∙ filled-over (weightsOf (polygon g) (triangles g)) (lengthsOf (polygon g) (triangles g)) (s .args .weights .now)
+          (length-map (triangles g) (ownWeight (polygon g)) ∙ sym (length-map (triangles g) (λ t. lengthOf (faceNormal (polygon g) t))));
+      the-rows = c .before .before .before .before .before .write-rows .ensures
+          ∙ ap (λ (l : List (List ℕ)). filled (rowsOf (polygon g) l) (s .args .rows .now)) (found-are g);
     }
 
 pub write-lists-spec : {M : Type 1} → statement M

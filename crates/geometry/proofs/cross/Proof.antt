@@ -8,13 +8,16 @@ use Rattle.geometry.proofs.cross.Statement.{statement}
 use Rattle.geometry.proofs.cross.Tie as tie
 
 module _ (s : tie.Start) where
-  held-x : Holds (third + third) (crossOf (s .args .u) (s .args .v) .x) (bits (bits (s .args .u .y) *ℤ bits (s .args .v .z)) -ℤ bits (bits (s .args .u .z) *ℤ bits (s .args .v .y)))
+  held-x : Holds (third + third) (crossOf (s .args .u) (s .args .v) .x)
+      (bits (bits (s .args .u .y) *ℤ bits (s .args .v .z)) -ℤ bits (bits (s .args .u .z) *ℤ bits (s .args .v .y)))
   held-x = product-held tt (s .pre .left .in-y) (s .pre .right .in-z) (s .pre .yz) -! product-held tt (s .pre .left .in-z) (s .pre .right .in-y) (s .pre .zy)
 
-  held-y : Holds (third + third) (crossOf (s .args .u) (s .args .v) .y) (bits (bits (s .args .u .z) *ℤ bits (s .args .v .x)) -ℤ bits (bits (s .args .u .x) *ℤ bits (s .args .v .z)))
+  held-y : Holds (third + third) (crossOf (s .args .u) (s .args .v) .y)
+      (bits (bits (s .args .u .z) *ℤ bits (s .args .v .x)) -ℤ bits (bits (s .args .u .x) *ℤ bits (s .args .v .z)))
   held-y = product-held tt (s .pre .left .in-z) (s .pre .right .in-x) (s .pre .zx) -! product-held tt (s .pre .left .in-x) (s .pre .right .in-z) (s .pre .xz)
 
-  held-z : Holds (third + third) (crossOf (s .args .u) (s .args .v) .z) (bits (bits (s .args .u .x) *ℤ bits (s .args .v .y)) -ℤ bits (bits (s .args .u .y) *ℤ bits (s .args .v .x)))
+  held-z : Holds (third + third) (crossOf (s .args .u) (s .args .v) .z)
+      (bits (bits (s .args .u .x) *ℤ bits (s .args .v .y)) -ℤ bits (bits (s .args .u .y) *ℤ bits (s .args .v .x)))
   held-z = product-held tt (s .pre .left .in-x) (s .pre .right .in-y) (s .pre .xy) -! product-held tt (s .pre .left .in-y) (s .pre .right .in-x) (s .pre .yx)
 
 mul-t9 : tie.Need-mul-t9

@@ -50,8 +50,17 @@ loop-again c =
     let a = l .before .args in
     let P = has (a .masks .now) in
     ⊎-elim
-    (λ w. (omega (arith, w .1, l .loop .inv .0), count-moved (w .1) (count-push (count-turn (one P (a .i) (a .j) (l .loop .x) {t = true} (omega arith) (sym (w .0 .taken) ∙ c .before .contains .ensures)) (l .loop .inv .1)))))
-    (λ w. (omega (arith, w .1, l .loop .inv .0), count-moved (w .1) (count-turn (one P (a .i) (a .j) (l .loop .x) {t = false} (omega arith) (sym (w .0 .left) ∙ c .before .contains .ensures)) (l .loop .inv .1))))
+    (λ w. (
+      omega (arith, w .1, l .loop .inv .0),
+      count-moved (w .1)
+          (count-push (count-turn (one P (a .i) (a .j) (l .loop .x) {t = true} (omega arith) (sym (w .0 .taken) ∙ c .before .contains .ensures))
+          (l .loop .inv .1))),
+    ))
+    (λ w. (
+      omega (arith, w .1, l .loop .inv .0),
+      count-moved (w .1) (count-turn (one P (a .i) (a .j) (l .loop .x) {t = false} (omega arith) (sym (w .0 .left) ∙ c .before .contains .ensures))
+          (l .loop .inv .1)),
+    ))
     (c .if1 .came)
 
 returns : tie.Need-returns Inv-loop μ-loop

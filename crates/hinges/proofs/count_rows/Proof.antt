@@ -78,12 +78,16 @@ module _ (s : tie.After-count-beneath2 Inv-loop3 μ-loop3 Inv-loop2 μ-loop2 Inv
   abbrev P : ℕ → ℕ → ℕ → Bool
   P = has (u .before .args .masks .now)
 
-  counted : Counting (left1 n (hung P) 0) (left3 n (hung P) (u .loop .a) (m .loop2 .b) (l .loop3 .c + 1)) (l .loop3 .count + (s .before .count-beneath .result + s .count-beneath2 .result))
+  counted : Counting (left1 n (hung P) 0) (left3 n (hung P) (u .loop .a) (m .loop2 .b) (l .loop3 .c + 1))
+      (l .loop3 .count + (s .before .count-beneath .result + s .count-beneath2 .result))
   counted =
       let on = beneath P (u .loop .a) (m .loop2 .b) in
       let beside = beneath P (m .loop2 .b) (l .loop3 .c) in
-      count-moved (ap (λ (k : ℕ). l .loop3 .count + k) ((λ i. s .before .count-beneath .ensures i + s .count-beneath2 .ensures i) ∙ sym (length-append on beside)))
-      (count-part (on ++ beside) (count-turn (next-hung n P (u .loop .a) (m .loop2 .b) (l .loop3 .c) {t = true} (omega arith) (sym (s .before .before .if1 .taken) ∙ s .before .before .before .contains .ensures)) (l .loop3 .inv)))
+      count-moved (ap (λ (k : ℕ). l .loop3 .count + k)
+      ((λ i. s .before .count-beneath .ensures i + s .count-beneath2 .ensures i) ∙ sym (length-append on beside)))
+      (count-part (on ++ beside)
+      (count-turn (next-hung n P (u .loop .a) (m .loop2 .b) (l .loop3 .c) {t = true} (omega arith)
+      (sym (s .before .before .if1 .taken) ∙ s .before .before .before .contains .ensures)) (l .loop3 .inv)))
 
   few : l .loop3 .count + (s .before .count-beneath .result + s .count-beneath2 .result) ≤ maxPairs
   few = omega (arith, counted .sum, pairs-bound n P (u .before .pre))
@@ -106,8 +110,10 @@ loop3-again c =
     let m = l .before .before in
     let u = m .before .before in
     ⊎-elim
-    (λ w. count-moved (w .3) (counted (record { before = record { before = record { before = c .before; if1 = w .0 }; count-beneath = w .1 }; count-beneath2 = w .2 })))
-    (λ w. count-moved (w .1) (count-turn (next-hung (u .before .args .n) (has (u .before .args .masks .now)) (u .loop .a) (m .loop2 .b) (l .loop3 .c) {t = false} (omega arith) (sym (w .0 .left) ∙ c .before .contains .ensures)) (l .loop3 .inv)))
+    (λ w. count-moved (w .3)
+    (counted (record { before = record { before = record { before = c .before; if1 = w .0 }; count-beneath = w .1 }; count-beneath2 = w .2 })))
+    (λ w. count-moved (w .1) (count-turn (next-hung (u .before .args .n) (has (u .before .args .masks .now)) (u .loop .a) (m .loop2 .b)
+    (l .loop3 .c) {t = false} (omega arith) (sym (w .0 .left) ∙ c .before .contains .ensures)) (l .loop3 .inv)))
     (c .if1 .came)
 
 add-b-2 : tie.Need-add-b-2 Inv-loop3 μ-loop3 Inv-loop2 μ-loop2 Inv-loop μ-loop

@@ -43,7 +43,10 @@ module _ (x : ℕ) (h : x < 2 ^ 52) where
   sum-small = omega (arith, power-is, power-small, shifted-below x (below h))
 
   first : Inv x ((1 * 2 ^ k % 2 ^ 64 + x / 2 ^ k) / 2)
-  first = record { over = subst (λ (p : ℕ). x < ((p + x / 2 ^ k) / 2 + 1) * ((p + x / 2 ^ k) / 2 + 1)) (sym power-is) (next-above x (2 ^ k) (pow-pos k)); small = omega (arith, sum-small) }
+  first = record {
+    over = subst (λ (p : ℕ). x < ((p + x / 2 ^ k) / 2 + 1) * ((p + x / 2 ^ k) / 2 + 1)) (sym power-is) (next-above x (2 ^ k) (pow-pos k));
+    small = omega (arith, sum-small);
+  }
 
 step : (x r : ℕ) → Inv x r → x < r * r → Inv x (next x r)
 step x r i h = record { over = next-above x r (guess-above-0 x r h); small = omega (arith, i .small, next-below x r h) }

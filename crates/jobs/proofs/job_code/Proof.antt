@@ -23,25 +23,38 @@ count-code-requires c κs = search needs
 
 returns : tie.Need-returns
 unfolding jobCode
-returns c = let f = unless-fails (countFits (c .before .before .before .args .n)) 14 (λ e. c .if1 .taken (c .before .count-code .ensures ∙ e)) in c .before .count-code .ensures ∙ no 0 14 f ∙ sym (no _ _ f)
+returns c =
+    let f = unless-fails (countFits (c .before .before .before .args .n)) 14 (λ e. c .if1 .taken (c .before .count-code .ensures ∙ e)) in
+    c .before .count-code .ensures ∙ no 0 14 f ∙ sym (no _ _ f)
 
 sub-if2 : tie.Need-sub-if2
-sub-if2 c = let h = three (c .before .before .before .args .n) (fits (c .before .before .before .args .n) (sym (c .before .count-code .ensures) ∙ c .if1 .left)) in omega arith
+sub-if2 c =
+    let h =
+    three (c .before .before .before .args .n) (fits (c .before .before .before .args .n) (sym (c .before .count-code .ensures) ∙ c .if1 .left)) in
+    omega arith
 
 returns-2 : tie.Need-returns-2
 unfolding jobCode
-returns-2 c = sym (yes _ _ (fits (c .before .before .before .before .args .n) (sym (c .before .before .count-code .ensures) ∙ c .before .if1 .left)) ∙ no _ _ (lt-leb _ _ (c .if2 .taken)))
+returns-2 c =
+    sym (yes _ _ (fits (c .before .before .before .before .args .n) (sym (c .before .before .count-code .ensures) ∙ c .before .if1 .left))
+    ∙ no _ _ (lt-leb _ _ (c .if2 .taken)))
 
 returns-3 : tie.Need-returns-3
 unfolding jobCode
-returns-3 c = sym (yes _ _ (fits (c .before .before .before .before .before .args .n) (sym (c .before .before .before .count-code .ensures) ∙ c .before .before .if1 .left)) ∙ yes _ _ (le-leb _ _ (c .before .if2 .left)) ∙ no _ _ (lt-leb _ _ (c .if3 .taken)))
+returns-3 c =
+    sym (yes _ _
+    (fits (c .before .before .before .before .before .args .n) (sym (c .before .before .before .count-code .ensures) ∙ c .before .before .if1 .left))
+    ∙ yes _ _ (le-leb _ _ (c .before .if2 .left)) ∙ no _ _ (lt-leb _ _ (c .if3 .taken)))
 
 lists-code-requires : tie.Need-lists-code-requires
 lists-code-requires c κs = search needs
 
 returns-4 : tie.Need-returns-4
 unfolding jobCode
-returns-4 c = c .lists-code .ensures ∙ sym (yes _ _ (fits (c .before .before .before .before .before .before .args .n) (sym (c .before .before .before .before .count-code .ensures) ∙ c .before .before .before .if1 .left)) ∙ yes _ _ (le-leb _ _ (c .before .before .if2 .left)) ∙ yes _ _ (le-leb _ _ (c .before .if3 .left)))
+returns-4 c =
+    c .lists-code .ensures ∙ sym (yes _ _ (fits (c .before .before .before .before .before .before .args .n)
+    (sym (c .before .before .before .before .count-code .ensures) ∙ c .before .before .before .if1 .left))
+    ∙ yes _ _ (le-leb _ _ (c .before .before .if2 .left)) ∙ yes _ _ (le-leb _ _ (c .before .if3 .left)))
 
 pub job-code-spec : {M : Type 1} → statement M
 job-code-spec =

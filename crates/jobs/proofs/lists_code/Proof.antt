@@ -23,25 +23,44 @@ rows-fit-requires c κs = search needs
 
 returns-3 : tie.Need-returns-3
 unfolding listsCode
-returns-3 c = sym (yes _ _ (le-leb _ _ (c .before .before .before .before .if1 .left)) ∙ yes _ _ (sym (c .before .before .before .candidates-fit .ensures) ∙ not-false _ (c .before .before .if2 .left)) ∙ no _ _ (sym (c .before .rows-fit .ensures) ∙ not-true _ (c .if3 .taken)))
+returns-3 c =
+    sym (yes _ _ (le-leb _ _ (c .before .before .before .before .if1 .left))
+    ∙ yes _ _ (sym (c .before .before .before .candidates-fit .ensures) ∙ not-false _ (c .before .before .if2 .left))
+    ∙ no _ _ (sym (c .before .rows-fit .ensures) ∙ not-true _ (c .if3 .taken)))
 
 weights-fit-requires : tie.Need-weights-fit-requires
 weights-fit-requires c κs = search needs
 
 returns-4 : tie.Need-returns-4
 unfolding listsCode
-returns-4 c = sym (yes _ _ (le-leb _ _ (c .before .before .before .before .before .before .if1 .left)) ∙ yes _ _ (sym (c .before .before .before .before .before .candidates-fit .ensures) ∙ not-false _ (c .before .before .before .before .if2 .left)) ∙ yes _ _ (sym (c .before .before .before .rows-fit .ensures) ∙ not-false _ (c .before .before .if3 .left)) ∙ no _ _ (no _ _ (sym (c .before .weights-fit .ensures) ∙ not-true _ (c .if4 .taken))))
+returns-4 c =
+    sym (yes _ _ (le-leb _ _ (c .before .before .before .before .before .before .if1 .left))
+    ∙ yes _ _ (sym (c .before .before .before .before .before .candidates-fit .ensures) ∙ not-false _ (c .before .before .before .before .if2 .left))
+    ∙ yes _ _ (sym (c .before .before .before .rows-fit .ensures) ∙ not-false _ (c .before .before .if3 .left))
+    ∙ no _ _ (no _ _ (sym (c .before .weights-fit .ensures) ∙ not-true _ (c .if4 .taken))))
 
 row-weights-fit-requires : tie.Need-row-weights-fit-requires
 row-weights-fit-requires c κs = search needs
 
 returns-5 : tie.Need-returns-5
 unfolding listsCode
-returns-5 c = sym (yes _ _ (le-leb _ _ (c .before .before .before .before .before .before .before .before .if1 .left)) ∙ yes _ _ (sym (c .before .before .before .before .before .before .before .candidates-fit .ensures) ∙ not-false _ (c .before .before .before .before .before .before .if2 .left)) ∙ yes _ _ (sym (c .before .before .before .before .before .rows-fit .ensures) ∙ not-false _ (c .before .before .before .before .if3 .left)) ∙ no _ _ (yes _ _ (sym (c .before .before .before .weights-fit .ensures) ∙ not-false _ (c .before .before .if4 .left)) ∙ sym (c .before .row-weights-fit .ensures) ∙ not-true _ (c .if5 .taken)))
+returns-5 c =
+    sym (yes _ _ (le-leb _ _ (c .before .before .before .before .before .before .before .before .if1 .left)) ∙ yes _ _
+    (sym (c .before .before .before .before .before .before .before .candidates-fit .ensures)
+    ∙ not-false _ (c .before .before .before .before .before .before .if2 .left)) ∙ yes _ _
+    (sym (c .before .before .before .before .before .rows-fit .ensures) ∙ not-false _ (c .before .before .before .before .if3 .left)) ∙ no _ _
+    (yes _ _ (sym (c .before .before .before .weights-fit .ensures) ∙ not-false _ (c .before .before .if4 .left))
+    ∙ sym (c .before .row-weights-fit .ensures) ∙ not-true _ (c .if5 .taken)))
 
 returns-6 : tie.Need-returns-6
 unfolding listsCode
-returns-6 c = sym (yes _ _ (le-leb _ _ (c .before .before .before .before .before .before .before .before .if1 .left)) ∙ yes _ _ (sym (c .before .before .before .before .before .before .before .candidates-fit .ensures) ∙ not-false _ (c .before .before .before .before .before .before .if2 .left)) ∙ yes _ _ (sym (c .before .before .before .before .before .rows-fit .ensures) ∙ not-false _ (c .before .before .before .before .if3 .left)) ∙ yes _ _ (both-true (sym (c .before .before .before .weights-fit .ensures) ∙ not-false _ (c .before .before .if4 .left)) (sym (c .before .row-weights-fit .ensures) ∙ not-false _ (c .if5 .left))))
+returns-6 c =
+    sym (yes _ _ (le-leb _ _ (c .before .before .before .before .before .before .before .before .if1 .left)) ∙ yes _ _
+    (sym (c .before .before .before .before .before .before .before .candidates-fit .ensures)
+    ∙ not-false _ (c .before .before .before .before .before .before .if2 .left)) ∙ yes _ _
+    (sym (c .before .before .before .before .before .rows-fit .ensures) ∙ not-false _ (c .before .before .before .before .if3 .left)) ∙ yes _ _
+    (both-true (sym (c .before .before .before .weights-fit .ensures) ∙ not-false _ (c .before .before .if4 .left))
+    (sym (c .before .row-weights-fit .ensures) ∙ not-false _ (c .if5 .left))))
 
 pub lists-code-spec : {M : Type 1} → statement M
 lists-code-spec =

@@ -41,8 +41,11 @@ module _ (g : tie.Else1) where
   abbrev call : tie.Start
   call = g .before .before .before .before .before
 
-  formed : WellFormed (call .args .n) (call .args .candidates .now) (call .args .weights .now) (call .args .rows .now) × (length (call .args .candidates .now) ≤ length (call .args .work .now)) × (call .args .n ≤ call .args .n - 2 + 2)
-  formed = accepted-well-formed (jobOf (call .args .n) _ _ _) (call .args .n - 2) (length (call .args .work .now)) (sym (g .before .code-without-triangles .ensures) ∙ g .if1 .left)
+  formed : WellFormed (call .args .n) (call .args .candidates .now) (call .args .weights .now) (call .args .rows .now)
+      × (length (call .args .candidates .now) ≤ length (call .args .work .now)) × (call .args .n ≤ call .args .n - 2 + 2)
+  formed =
+      accepted-well-formed (jobOf (call .args .n) _ _ _) (call .args .n - 2) (length (call .args .work .now))
+      (sym (g .before .code-without-triangles .ensures) ∙ g .if1 .left)
 
 -- so is the list
 module _ (g : tie.Else2) where
@@ -73,7 +76,9 @@ block-starts-requires : tie.Need-block-starts-requires
 block-starts-requires c κs = formed (of-job c) .0 .ascending .by-first
 
 least-total-requires : tie.Need-least-total-requires
-least-total-requires c κs = let f = formed (of-job (c .before .before .before)) in (f .0, starts-of _ (f .0 .ascending .by-first) (c .before .before .block-starts .ensures), f .1)
+least-total-requires c κs =
+    let f = formed (of-job (c .before .before .before)) in
+    (f .0, starts-of _ (f .0 .ascending .by-first) (c .before .before .block-starts .ensures), f .1)
 
 clear-requires : tie.Need-clear-requires
 clear-requires c κs =
@@ -85,7 +90,11 @@ sub-excess c =
     let g = c .before .before .before .before .before .before .before .before .before .before in
     let s = call (of-job g) in
     let a = acceptable g in
-    omega (arith, c .before .before .before .before .before .before .least-total .ensures .0, excess-by-cost (job s) (formed (of-job g) .0 .valid) (a .set) (a .tiling .tiles) (s .args .stated) (a .total) .0)
+    omega (
+      arith,
+      c .before .before .before .before .before .before .least-total .ensures .0,
+      excess-by-cost (job s) (formed (of-job g) .0 .valid) (a .set) (a .tiling .tiles) (s .args .stated) (a .total) .0,
+    )
 
 same-length : tie.Need-same-length
 same-length c = search needs

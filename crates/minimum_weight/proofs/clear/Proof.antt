@@ -30,13 +30,23 @@ loop-less : tie.Need-loop-less Inv-loop μ-loop
 loop-less c = omega arith
 
 loop-again : tie.Need-loop-again Inv-loop μ-loop
-loop-again c = let l = c .before .loop in (omega arith, simp length-set (l .inv .1), ap (λ (t : List ℕ). set t (l .i) 0) (l .inv .2) ∙ fill-more (l .i) 0 (c .before .before .args .table .now) (omega arith))
+loop-again c =
+    let l = c .before .loop in (
+      omega arith,
+      simp length-set (l .inv .1),
+      ap (λ (t : List ℕ). set t (l .i) 0) (l .inv .2) ∙ fill-more (l .i) 0 (c .before .before .args .table .now) (omega arith),
+    )
 
 same-length : tie.Need-same-length Inv-loop μ-loop
 same-length c = c .before .loop .inv .1
 
 returns : tie.Need-returns Inv-loop μ-loop
-returns c = let s = c .before .before .args in let l = c .before .loop in let e : l .i ≡ s .n = omega arith in l .inv .2 ∙ ap (λ (k : ℕ). replicate k 0 ++ drop k (s .table .now)) e ∙ ap (λ (k : ℕ). replicate (s .n) 0 ++ drop k (s .table .now)) (sym (length-replicate (s .n) 0))
+returns c =
+    let s = c .before .before .args in
+    let l = c .before .loop in
+    let e : l .i ≡ s .n = omega arith in
+    l .inv .2 ∙ ap (λ (k : ℕ). replicate k 0 ++ drop k (s .table .now)) e
+    ∙ ap (λ (k : ℕ). replicate (s .n) 0 ++ drop k (s .table .now)) (sym (length-replicate (s .n) 0))
 
 pub clear-spec : {M : Type 1} → statement M
 clear-spec =

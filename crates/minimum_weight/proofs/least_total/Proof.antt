@@ -32,7 +32,8 @@ returns c =
     let ok = s .pre .0 in
     let v = ok .valid in
     let f = c .before .before .before .before .fill .ensures in
-    let e = found-edge (s .args .n) _ _ _ ok _ (length (s .args .candidates .now)) 0 (s .args .n - 1) (λ u l _ _. filled-ready _ _ (s .pre .2) f u l) (c .best-under .result) (c .best-under .ensures) .cost in
+    let e = found-edge (s .args .n) _ _ _ ok _ (length (s .args .candidates .now)) 0 (s .args .n - 1)
+    (λ u l _ _. filled-ready _ _ (s .pre .2) f u l) (c .best-under .result) (c .best-under .ensures) .cost in
     (e ∙ ap costOf (sym (answer-whole (s .args .n) _ _ _ ok)), f)
 
 pub least-total-spec : {M : Type 1} → statement M

@@ -13,7 +13,9 @@ use Rattle.patch_lines.proofs.lines_of.Statement.{statement}
 use Rattle.patch_lines.proofs.lines_of.Tie as tie
 
 abbrev Inv-loop : tie.InvT-loop
-Inv-loop candidates weights rows patch lines₀ k₀ k-end lines k = (k-end ≡ length patch) × Writing (map (lineOf candidates weights rows patch) patch) (map (lineOf candidates weights rows patch) (drop k patch)) (replicate linePlaces noLine) 0 lines k
+Inv-loop candidates weights rows patch lines₀ k₀ k-end lines k =
+    (k-end ≡ length patch) × Writing (map (lineOf candidates weights rows patch) patch)
+    (map (lineOf candidates weights rows patch) (drop k patch)) (replicate linePlaces noLine) 0 lines k
 
 abbrev μ-loop : tie.MeasureT-loop
 μ-loop candidates weights rows patch lines₀ k₀ k-end lines k = k-end - k
@@ -52,8 +54,11 @@ loop-less c = search needs
 loop-again : tie.Need-loop-again Inv-loop μ-loop
 loop-again c =
     let s = c .before .before .before .before .before .before .before in
-    let f = lineOf (now (s .args .candidates)) (now (s .args .weights)) (now (s .args .rows)) (now (s .args .patch)) in
-    (refl, push (turn (next-line f (now (s .args .patch)) (c .before .before .before .before .loop .k) (omega arith) (c .before .number .ensures) (c .line-of .ensures)) (c .before .before .before .before .loop .inv .1)))
+    let f = lineOf (now (s .args .candidates)) (now (s .args .weights)) (now (s .args .rows)) (now (s .args .patch)) in (
+      refl,
+      push (turn (next-line f (now (s .args .patch)) (c .before .before .before .before .loop .k) (omega arith)
+          (c .before .number .ensures) (c .line-of .ensures)) (c .before .before .before .before .loop .inv .1)),
+    )
 
 returns : tie.Need-returns Inv-loop μ-loop
 returns c =

@@ -46,8 +46,10 @@ returns c =
     let candidates = now (s .args .candidates) in
     let t = s .args .t in
     let o = c .before .before .before .before .number .result in
-    let e = sym (hangs-same candidates t o (c .before .before .before .before .before .before .before .before .candidate-at .ensures) (c .before .before .before .candidate-at2 .ensures)) ∙ sym (c .before .before .hangs-on .ensures) ∙ c .before .if1 .taken in
-    let next = under-found candidates (now (s .args .rows)) (now (s .args .patch)) t (c .before .before .before .before .before .before .before .loop .k) (omega arith) (c .before .before .before .before .number .ensures) e in
+    let e = sym (hangs-same candidates t o (c .before .before .before .before .before .before .before .before .candidate-at .ensures)
+    (c .before .before .before .candidate-at2 .ensures)) ∙ sym (c .before .before .hangs-on .ensures) ∙ c .before .if1 .taken in
+    let next = under-found candidates (now (s .args .rows)) (now (s .args .patch)) t
+    (c .before .before .before .before .before .before .before .loop .k) (omega arith) (c .before .before .before .before .number .ensures) e in
     c .row-weight .ensures ∙ sym next ∙ c .before .before .before .before .before .before .before .loop .inv .1
 
 add-k : tie.Need-add-k Inv-loop μ-loop
@@ -62,14 +64,17 @@ loop-again c =
     let candidates = now (s .args .candidates) in
     let t = s .args .t in
     let o = c .before .before .before .number .result in
-    let e = sym (hangs-same candidates t o (c .before .before .before .before .before .before .before .candidate-at .ensures) (c .before .before .candidate-at2 .ensures)) ∙ sym (c .before .hangs-on .ensures) ∙ c .if1 .left in
-    let next = under-next candidates (now (s .args .rows)) (now (s .args .patch)) t (c .before .before .before .before .before .before .loop .k) (omega arith) (c .before .before .before .number .ensures) e in
+    let e = sym (hangs-same candidates t o (c .before .before .before .before .before .before .before .candidate-at .ensures)
+    (c .before .before .candidate-at2 .ensures)) ∙ sym (c .before .hangs-on .ensures) ∙ c .if1 .left in
+    let next = under-next candidates (now (s .args .rows)) (now (s .args .patch)) t (c .before .before .before .before .before .before .loop .k)
+    (omega arith) (c .before .before .before .number .ensures) e in
     (refl, sym next ∙ c .before .before .before .before .before .before .loop .inv .1)
 
 returns-2 : tie.Need-returns-2 Inv-loop μ-loop
 returns-2 c =
     let s = c .before .before .before .before in
-    sym (under-end (now (s .args .candidates)) (now (s .args .rows)) (now (s .args .patch)) (s .args .t) (c .before .loop .k) (omega arith)) ∙ c .before .loop .inv .1
+    sym (under-end (now (s .args .candidates)) (now (s .args .rows)) (now (s .args .patch)) (s .args .t) (c .before .loop .k) (omega arith))
+    ∙ c .before .loop .inv .1
 
 pub row-under-spec : {M : Type 1} → statement M
 row-under-spec =

@@ -53,12 +53,20 @@ slice-aggregate-lines-of-3 : tie.Need-slice-aggregate-lines-of-3
 slice-aggregate-lines-of-3 c = sym (length-take-le _ _ (c .before .before .before .before .before .row-count .ensures .1))
 
 lines-of-requires : tie.Need-lines-of-requires
-lines-of-requires c κs = lines-ready _ _ _ (c .before .before .before .before .before .before .before .before .before .before .before .before .before .patch-file .ensures .0) 4096 refl (c .before .before .before .before .before .row-count .ensures .0) (c .before .before .before .part .ensures)
+lines-of-requires c κs =
+    lines-ready _ _ _
+    (c .before .before .before .before .before .before .before .before .before .before .before .before .before .patch-file .ensures .0) 4096 refl
+    (c .before .before .before .before .before .row-count .ensures .0) (c .before .before .before .part .ensures)
 
 returns : tie.Need-returns
 returns c =
-    let s = c .before .before .before .before .before .before .before .before .before .before .before .before .before .before .before .before .before .before .before .before .before in
-    printed (s .args .limit) (now (s .args .file)) (c .before .before .before .before .before .before .before .before .before .before .before .before .before .before .patch-file .ensures .0) (c .before .before .before .before .before .before .before .before .vertices-of .ensures) (c .before .before .before .before .before .before .row-count .ensures .0) (c .before .before .before .before .part .ensures) (c .lines-of .ensures)
+    let s = c .before .before .before .before .before .before .before .before .before .before .before .before .before
+    .before .before .before .before .before .before .before .before in
+    printed (s .args .limit) (now (s .args .file))
+    (c .before .before .before .before .before .before .before .before .before .before .before .before .before .before .patch-file .ensures .0)
+    (c .before .before .before .before .before .before .before .before .vertices-of .ensures)
+    (c .before .before .before .before .before .before .row-count .ensures .0)
+    (c .before .before .before .before .part .ensures) (c .lines-of .ensures)
 
 pub printout-of-spec : {M : Type 1} → statement M
 printout-of-spec =

@@ -43,10 +43,14 @@ same-length-5 c = search needs
 
 returns-2 : tie.Need-returns-2
 returns-2 c =
-    let s = c .before .before .before .before .before .before .before .before .before .before .before .before .before .before .before .before .before .before .before .before .before .before in
+    let s = c .before .before .before .before .before .before .before .before .before .before .before .before .before
+    .before .before .before .before .before .before .before .before .before in
     let t = (tables (now (s .args .triangles)) (now (s .args .candidates)) (now (s .args .weights)) (now (s .args .rows)) (now (s .args .work))) in
     file-values (s .args .limit) (now (s .args .file)) t
-    (file-read (s .args .limit) (now (s .args .file)) t (c .before .before .before .before .before .before .before .before .before .before .before .before .before .before .enum-told .given .1) (c .before .before .before .before .before .before .before .before .before .before .before .before .before .before .before .before .before .read-polygon .ensures .0) (c .before .before .before .before .before .before .before .before .patch-polygon .ensures .0))
+    (file-read (s .args .limit) (now (s .args .file)) t
+    (c .before .before .before .before .before .before .before .before .before .before .before .before .before .before .enum-told .given .1)
+    (c .before .before .before .before .before .before .before .before .before .before .before .before .before .before .before .before
+    .before .read-polygon .ensures .0) (c .before .before .before .before .before .before .before .before .patch-polygon .ensures .0))
 
 pub patch-file-spec : {M : Type 1} → statement M
 patch-file-spec =

@@ -19,8 +19,11 @@ enum-known-found-2 c = search needs
 
 triangulate-first-requires : tie.Need-triangulate-first-requires
 triangulate-first-requires c κs =
-    let s = c .before .before .before .before .before .before .before .before .before .before .before .before .before .before .before .before .before .before .before in
-    let r = ready (s .args .p) (now (s .args .triangles)) (now (s .args .candidates)) (now (s .args .weights)) (now (s .args .rows)) (now (s .args .work)) (c .before .before .before .before .before .before .found2 .given .1) (c .before .before .before .before .before .before .before .before .before .before .before .before .find-beside .ensures .0) in
+    let s = c .before .before .before .before .before .before .before .before .before .before .before .before
+    .before .before .before .before .before .before .before in
+    let r = ready (s .args .p) (now (s .args .triangles)) (now (s .args .candidates)) (now (s .args .weights))
+    (now (s .args .rows)) (now (s .args .work)) (c .before .before .before .before .before .before .found2 .given .1)
+    (c .before .before .before .before .before .before .before .before .before .before .before .before .find-beside .ensures .0) in
     ((r .candidate-places, r .weight-places, r .row-places, r .work-places, r .triangle-places), r .formed)
 
 same-length : tie.Need-same-length
@@ -35,8 +38,10 @@ same-length-3 c = search needs
 returns : tie.Need-returns
 returns c =
     let s = c .before .before .before .before .before .before .before .before .before .before .before .before .before .before in
-    polygon-values (s .args .p) (tables (now (s .args .triangles)) (now (s .args .candidates)) (now (s .args .weights)) (now (s .args .rows)) (now (s .args .work)))
-    (find-refused (s .args .p) (now (s .args .triangles)) (now (s .args .candidates)) (now (s .args .weights)) (now (s .args .rows)) (now (s .args .work)) (c .before .found .given .1) (c .before .before .before .before .before .before .before .find-beside .ensures .0))
+    polygon-values (s .args .p)
+    (tables (now (s .args .triangles)) (now (s .args .candidates)) (now (s .args .weights)) (now (s .args .rows)) (now (s .args .work)))
+    (find-refused (s .args .p) (now (s .args .triangles)) (now (s .args .candidates)) (now (s .args .weights)) (now (s .args .rows))
+    (now (s .args .work)) (c .before .found .given .1) (c .before .before .before .before .before .before .before .find-beside .ensures .0))
 
 same-length-4 : tie.Need-same-length-4
 same-length-4 c = search needs
@@ -55,9 +60,14 @@ same-length-8 c = search needs
 
 returns-2 : tie.Need-returns-2
 returns-2 c =
-    let s = c .before .before .before .before .before .before .before .before .before .before .before .before .before .before .before .before .before .before .before .before .before .before .before .before in
-    polygon-values (s .args .p) (tables (now (s .args .triangles)) (now (s .args .candidates)) (now (s .args .weights)) (now (s .args .rows)) (now (s .args .work)))
-    (patched-all (s .args .p) (now (s .args .triangles)) (now (s .args .candidates)) (now (s .args .weights)) (now (s .args .rows)) (now (s .args .work)) (c .before .before .before .before .before .before .before .before .before .before .before .found2 .given .1) (c .before .before .before .before .before .before .before .before .before .before .before .before .before .before .before .before .before .find-beside .ensures .0) (c .before .before .before .before .triangulate-first .ensures))
+    let s = c .before .before .before .before .before .before .before .before .before .before .before .before .before .before
+    .before .before .before .before .before .before .before .before .before .before in
+    polygon-values (s .args .p)
+    (tables (now (s .args .triangles)) (now (s .args .candidates)) (now (s .args .weights)) (now (s .args .rows)) (now (s .args .work)))
+    (patched-all (s .args .p) (now (s .args .triangles)) (now (s .args .candidates)) (now (s .args .weights)) (now (s .args .rows))
+    (now (s .args .work)) (c .before .before .before .before .before .before .before .before .before .before .before .found2 .given .1)
+    (c .before .before .before .before .before .before .before .before .before .before .before .before .before .before .before
+    .before .before .find-beside .ensures .0) (c .before .before .before .before .triangulate-first .ensures))
 
 pub patch-polygon-spec : {M : Type 1} → statement M
 patch-polygon-spec =

@@ -18,11 +18,14 @@ table-sizes-requires : tie.Need-table-sizes-requires
 table-sizes-requires c κs = search needs
 
 returns : tie.Need-returns
-returns c = sizes-refused _ (now (c .before .before .before .before .before .before .args .file)) (c .before .status .given .1) (c .before .before .before .before .read-polygon .ensures .0)
+returns c =
+    sizes-refused _ (now (c .before .before .before .before .before .before .args .file)) (c .before .status .given .1)
+    (c .before .before .before .before .read-polygon .ensures .0)
 
 returns-2 : tie.Need-returns-2
 returns-2 c =
-    sizes-read _ (now (c .before .before .before .before .before .before .args .file)) (c .before .enum-told .given .1) (c .before .before .before .before .read-polygon .ensures .0) (c .table-sizes .ensures .0)
+    sizes-read _ (now (c .before .before .before .before .before .before .args .file)) (c .before .enum-told .given .1)
+    (c .before .before .before .before .read-polygon .ensures .0) (c .table-sizes .ensures .0)
 
 pub table-sizes-spec : {M : Type 1} → statement M
 table-sizes-spec =

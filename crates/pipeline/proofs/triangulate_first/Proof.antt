@@ -32,7 +32,8 @@ same-length-2 c = search needs
 returns : tie.Need-returns
 returns c =
     let a = c .before .before .before .before .before .before .before .before .before .before .before .before .before in
-    counted (a .args .n) (a .args .count) (now (a .args .candidates)) (take (a .args .count) (now (a .args .weights))) (take (a .args .row-count) (now (a .args .rows))) (now (a .args .triangles)) (now (a .args .work)) (a .pre .0 .0)
+    counted (a .args .n) (a .args .count) (now (a .args .candidates)) (take (a .args .count) (now (a .args .weights)))
+    (take (a .args .row-count) (now (a .args .rows))) (now (a .args .triangles)) (now (a .args .work)) (a .pre .0 .0)
     (c .before .before .before .before .best-triangulation .ensures .0)
 
 pub triangulate-first-spec : {M : Type 1} → statement M

@@ -62,7 +62,8 @@ returns c =
     let n = outer .before .args .n in
     let j = outer .loop .j in
     let i = inner .loop2 .i in
-    let found : again vertices j ≡ true = sym (inner .loop2 .inv .1) ∙ some-stop i j (same vertices (vertexAt vertices j)) (omega arith) (sym (c .before .same-point .ensures) ∙ c .if1 .taken) in
+    let found : again vertices j ≡ true = sym (inner .loop2 .inv .1)
+    ∙ some-stop i j (same vertices (vertexAt vertices j)) (omega arith) (sym (c .before .same-point .ensures) ∙ c .if1 .taken) in
     sym (some-stop j n (again vertices) (omega arith) found) ∙ outer .loop .inv .1
 
 add-i : tie.Need-add-i Inv-loop2 μ-loop2 Inv-loop μ-loop
@@ -76,8 +77,11 @@ loop2-again c =
     let inner = c .before .before .before .before in
     let outer = inner .before .before .before in
     let vertices = outer .before .args .t1 in
-    let j = outer .loop .j in
-    (omega arith, sym (some-on (inner .loop2 .i) j (same vertices (vertexAt vertices j)) (omega arith) (sym (c .before .same-point .ensures) ∙ c .if1 .left)) ∙ inner .loop2 .inv .1)
+    let j = outer .loop .j in (
+      omega arith,
+      sym (some-on (inner .loop2 .i) j (same vertices (vertexAt vertices j)) (omega arith) (sym (c .before .same-point .ensures) ∙ c .if1 .left))
+          ∙ inner .loop2 .inv .1,
+    )
 
 add-j : tie.Need-add-j Inv-loop2 μ-loop2 Inv-loop μ-loop
 add-j c = search needs

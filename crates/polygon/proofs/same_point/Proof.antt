@@ -18,7 +18,8 @@ returns-2 : tie.Need-returns-2
 returns-2 c =
     let read : Read = c .before .before .before .before .before .before in
     let s = read .before .before in
-    differ-y (s .args .p) (s .args .q) (record { sfits = read .before .struct-told .given .0 .1 }) (record { sfits = read .struct-told2 .given .0 .1 }) (c .before .if1 .left) (c .if2 .taken)
+    differ-y (s .args .p) (s .args .q) (record { sfits = read .before .struct-told .given .0 .1 })
+    (record { sfits = read .struct-told2 .given .0 .1 }) (c .before .if1 .left) (c .if2 .taken)
 
 returns-3 : tie.Need-returns-3
 returns-3 c =
@@ -26,7 +27,8 @@ returns-3 c =
     let s = read .before .before in
     let p = read .before .struct-told .given in
     let q = read .struct-told2 .given in
-    test-z (s .args .p) (s .args .q) (record { sfits = p .0 .1 }) (record { sfits = q .0 .1 }) (c .before .if1 .left) (record { sfits = p .1 .0 .1 }) (record { sfits = q .1 .0 .1 }) (c .if2 .left)
+    test-z (s .args .p) (s .args .q) (record { sfits = p .0 .1 }) (record { sfits = q .0 .1 }) (c .before .if1 .left)
+    (record { sfits = p .1 .0 .1 }) (record { sfits = q .1 .0 .1 }) (c .if2 .left)
     (record { sfits = p .1 .1 .0 .1 }) (record { sfits = q .1 .1 .0 .1 })
 
 pub same-point-spec : {M : Type 1} → statement M

@@ -32,7 +32,8 @@ returns : tie.Need-returns Inv-loop μ-loop
 returns c =
     let at = c .before .before .before .before in
     let s = at .before .args in
-    sym (code-here (s .t1) (s .t2) (at .loop .i) (s .n) 8 (omega arith) (nine (s .t1) (s .t2) (at .loop .i) (sym (c .before .on-grid .ensures) ∙ not-true _ (c .if1 .taken)))) ∙ at .loop .inv .1
+    sym (code-here (s .t1) (s .t2) (at .loop .i) (s .n) 8 (omega arith)
+    (nine (s .t1) (s .t2) (at .loop .i) (sym (c .before .on-grid .ensures) ∙ not-true _ (c .if1 .taken)))) ∙ at .loop .inv .1
 
 mul-normal : tie.Need-mul-normal Inv-loop μ-loop
 mul-normal c = search needs
@@ -49,7 +50,8 @@ returns-2 c =
     let at = past .before .before .before .before in
     let s = at .before .args in
     let on-grid = sym (past .before .on-grid .ensures) ∙ not-false _ (past .if1 .left) in
-    sym (code-here (s .t1) (s .t2) (at .loop .i) (s .n) 17 (omega arith) (eighteen (s .t1) (s .t2) (at .loop .i) on-grid (sym (c .before .in-range .ensures) ∙ not-true _ (c .if2 .taken)))) ∙ at .loop .inv .1
+    sym (code-here (s .t1) (s .t2) (at .loop .i) (s .n) 17 (omega arith)
+    (eighteen (s .t1) (s .t2) (at .loop .i) on-grid (sym (c .before .in-range .ensures) ∙ not-true _ (c .if2 .taken)))) ∙ at .loop .inv .1
 
 add-i : tie.Need-add-i Inv-loop μ-loop
 add-i c = search needs
@@ -62,8 +64,11 @@ loop-again c =
     let past = c .before .before .before in
     let at = past .before .before .before .before in
     let s = at .before .args in
-    let on-grid = sym (past .before .on-grid .ensures) ∙ not-false _ (past .if1 .left) in
-    (omega arith, sym (code-on (s .t1) (s .t2) (at .loop .i) (s .n) (omega arith) (none-due (s .t1) (s .t2) (at .loop .i) on-grid (sym (c .before .in-range .ensures) ∙ not-false _ (c .if2 .left)))) ∙ at .loop .inv .1)
+    let on-grid = sym (past .before .on-grid .ensures) ∙ not-false _ (past .if1 .left) in (
+      omega arith,
+      sym (code-on (s .t1) (s .t2) (at .loop .i) (s .n) (omega arith)
+          (none-due (s .t1) (s .t2) (at .loop .i) on-grid (sym (c .before .in-range .ensures) ∙ not-false _ (c .if2 .left)))) ∙ at .loop .inv .1,
+    )
 
 returns-3 : tie.Need-returns-3 Inv-loop μ-loop
 returns-3 c =

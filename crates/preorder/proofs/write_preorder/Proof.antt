@@ -21,7 +21,9 @@ use Rattle.preorder.proofs.write_preorder.Statement.{statement}
 use Rattle.preorder.proofs.write_preorder.Tie as tie
 
 abbrev Inv-loop : tie.InvT-loop
-Inv-loop n starts candidates weights rows work triangles₀ last stack₀ height₀ count₀ count-end triangles stack height count = Listing (problemFrom n candidates weights rows) (restOf (bestUnder (problemFrom n candidates weights rows) n (length candidates) 0 (n - 1))) triangles₀ stack height count triangles
+Inv-loop n starts candidates weights rows work triangles₀ last stack₀ height₀ count₀ count-end triangles stack height count =
+    Listing (problemFrom n candidates weights rows)
+    (restOf (bestUnder (problemFrom n candidates weights rows) n (length candidates) 0 (n - 1))) triangles₀ stack height count triangles
 
 abbrev μ-loop : tie.MeasureT-loop
 μ-loop n starts candidates weights rows work triangles₀ last stack₀ height₀ count₀ count-end triangles stack height count = n - 2 - count
@@ -30,7 +32,11 @@ abbrev job : tie.Start Inv-loop μ-loop → Problem
 job s = problemFrom (s .args .n) (s .args .candidates .now) (s .args .weights .now) (s .args .rows .now)
 
 tiled : (s : tie.Start Inv-loop μ-loop) → HasTriangulation (job s)
-tiled s = record { valid = s .pre .0 .0 .valid; bounded = s .pre .0 .0 .bounded; some = omega (arith, s .pre .1 .1, ap costOf (answer-whole (s .args .n) _ _ _ (s .pre .0 .0))) }
+tiled s = record {
+  valid = s .pre .0 .0 .valid;
+  bounded = s .pre .0 .0 .bounded;
+  some = omega (arith, s .pre .1 .1, ap costOf (answer-whole (s .args .n) _ _ _ (s .pre .0 .0)));
+}
 
 -- the table has a place for each triangle
 room : (s : tie.Start Inv-loop μ-loop) → length (patchOf (tiled s)) ≤ length (s .args .triangles .now)
@@ -79,7 +85,9 @@ module _ (c : tie.Joined1 Inv-loop μ-loop) where
 
   -- what waits once the right part is put
   abbrev with-right : List Part
-  with-right = beneath (triangle (c .before .before)) (job (call inside) .b (triangle (c .before .before))) (taken inside .last) ++ waiting (inside .before .loop .stack) (inside .before .loop .height - 1)
+  with-right =
+      beneath (triangle (c .before .before)) (job (call inside) .b (triangle (c .before .before))) (taken inside .last)
+      ++ waiting (inside .before .loop .stack) (inside .before .loop .height - 1)
 
   right : Waits (c .if1 .stack) (c .if1 .height) with-right
   right =
@@ -95,7 +103,8 @@ module _ (c : tie.Joined1 Inv-loop μ-loop) where
 left : (c : tie.Then2 Inv-loop μ-loop) → c .before .if1 .height < mostParts
 left c =
     let i = inside (c .before) in
-    left-place (tiled (call i)) (i .before .loop .inv) (due i) (triangle (c .before .before .before)) (first (c .before .before .before)) (omega (arith, c .if2 .taken)) (right (c .before))
+    left-place (tiled (call i)) (i .before .loop .inv) (due i) (triangle (c .before .before .before))
+    (first (c .before .before .before)) (omega (arith, c .if2 .taken)) (right (c .before))
 
 sub-last : tie.Need-sub-last Inv-loop μ-loop
 sub-last c = omega (arith, c .before .before .before .pre .0 .0 .valid .n3)
@@ -199,7 +208,8 @@ loop-again c =
 same-length : tie.Need-same-length Inv-loop μ-loop
 same-length c =
     let s = c .before .before .before .before .before .before in
-    ap length (end (tiled s) (c .before .loop .inv) (omega (arith, c .loop-test .left, patch-length (tiled s)))) ∙ filled-length (patchOf (tiled s)) (s .args .triangles .now) (room s)
+    ap length (end (tiled s) (c .before .loop .inv) (omega (arith, c .loop-test .left, patch-length (tiled s))))
+    ∙ filled-length (patchOf (tiled s)) (s .args .triangles .now) (room s)
 
 returns : tie.Need-returns Inv-loop μ-loop
 returns c =

@@ -17,7 +17,9 @@ refused-requires : tie.Need-refused-requires
 refused-requires c κs = search needs
 
 returns : tie.Need-returns
-returns c = promised _ _ (c .refused .ensures ∙ answer-refused _ _ 14 (omega arith) (limit-due _ _ (fails-via (c .before .before .count-fits .ensures) (c .before .if1 .taken))))
+returns c =
+    promised _ _ (c .refused .ensures
+    ∙ answer-refused _ _ 14 (omega arith) (limit-due _ _ (fails-via (c .before .before .count-fits .ensures) (c .before .if1 .taken))))
 
 returns-2 : tie.Need-returns-2
 returns-2 c = promised _ _ (c .read-within .ensures)

@@ -5,7 +5,9 @@ use denote.Ref.{now}
 use Rattle.rim_file.proofs.Layouts.{bounds, header-as, number-as}
 use Rattle.rim_file.proofs.Lengths.{whole}
 use Rattle.reader.proofs.Walking.{positive}
-use Rattle.reader.proofs.Answers.{answer-refused, answer-complete, length-due, area-due, chain-due, few-due, repeated-due, none-due, followed-code, followed-count, followed-vertices, followed-normals, followed-within, repeated-as-found, limit-most}
+use Rattle.reader.proofs.Answers.{answer-refused, answer-complete, length-due, area-due, chain-due, few-due}
+use Rattle.reader.proofs.Answers.{repeated-due, none-due, followed-code, followed-count, followed-vertices}
+use Rattle.reader.proofs.Answers.{followed-normals, followed-within, repeated-as-found, limit-most}
 use borrow.Author.Needs.{needs}
 use Rattle.reader.proofs.read_within.Statement.{statement}
 use Rattle.reader.proofs.read_within.Tie as tie
@@ -20,10 +22,15 @@ refused-requires : tie.Need-refused-requires
 refused-requires c κs = search needs
 
 returns : tie.Need-returns
-returns c = (c .refused .ensures ∙ answer-refused _ _ 1 (omega arith) (length-due _ _ (c .before .before .before .before .before .pre) (sym (c .before .before .length-wrong .ensures) ∙ c .before .if1 .taken)))
+returns c =
+    (c .refused .ensures ∙ answer-refused _ _ 1 (omega arith)
+    (length-due _ _ (c .before .before .before .before .before .pre) (sym (c .before .before .length-wrong .ensures) ∙ c .before .if1 .taken)))
 
 add-u16-at : tie.Need-add-u16-at
-add-u16-at c = record { fits = omega (arith, header-as _ (c .before .before .before .layout .ensures), bounds (now (c .before .before .before .before .before .args .file)) .header) }
+add-u16-at c = record {
+  fits = omega
+      (arith, header-as _ (c .before .before .before .layout .ensures), bounds (now (c .before .before .before .before .before .args .file)) .header);
+}
 
 u16-at-requires : tie.Need-u16-at-requires
 u16-at-requires c κs =
@@ -43,8 +50,11 @@ returns-2 c =
 
 follow-chain-requires : tie.Need-follow-chain-requires
 follow-chain-requires c κs =
-    let long = c .before .before .before in
-    (long .before .before .layout .ensures, sym (long .before .length-wrong .ensures) ∙ long .if1 .left, limit-most _ (long .before .before .before .before .pre))
+    let long = c .before .before .before in (
+      long .before .before .layout .ensures,
+      sym (long .before .length-wrong .ensures) ∙ long .if1 .left,
+      limit-most _ (long .before .before .before .before .pre),
+    )
 
 refused-requires-3 : tie.Need-refused-requires-3
 refused-requires-3 c κs = search needs
@@ -100,7 +110,10 @@ returns-5 c =
 add-u16-at-2 : tie.Need-add-u16-at-2
 add-u16-at-2 c =
     let long = c .before .before .before .before .before .before .before .before .before .before .before in
-    record { fits = omega (arith, header-as _ (long .before .before .layout .ensures), bounds (now (long .before .before .before .before .args .file)) .header) }
+    record {
+      fits =
+          omega (arith, header-as _ (long .before .before .layout .ensures), bounds (now (long .before .before .before .before .args .file)) .header);
+    }
 
 u16-at-requires-2 : tie.Need-u16-at-requires-2
 u16-at-requires-2 c κs =

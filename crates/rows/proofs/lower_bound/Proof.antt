@@ -24,7 +24,10 @@ add-middle : tie.Need-add-middle Inv-loop μ-loop
 add-middle c = omega (arith, c .before .loop .inv .within)
 
 mul-is-before : tie.Need-mul-is-before Inv-loop μ-loop
-mul-is-before c = let h : c .before .loop .low + (c .before .loop .high - c .before .loop .low) / 2 < length (c .before .before .args .rows .now) = omega (arith, c .before .loop .inv .within) in search needs
+mul-is-before c =
+    let h : c .before .loop .low + (c .before .loop .high - c .before .loop .low) / 2 < length (c .before .before .args .rows .now) =
+    omega (arith, c .before .loop .inv .within) in
+    search needs
 
 shared-slice-copy-out-is-before : tie.Need-shared-slice-copy-out-is-before Inv-loop μ-loop
 shared-slice-copy-out-is-before c = omega (arith, c .before .loop .inv .within)
@@ -39,13 +42,17 @@ loop-less : tie.Need-loop-less Inv-loop μ-loop
 loop-less c = omega arith
 
 loop-again : tie.Need-loop-again Inv-loop μ-loop
-loop-again c = cut-up _ _ _ (c .before .before .before .before .before .pre) _ (c .before .before .before .before .loop .inv) (omega arith) (omega arith) (sym (c .before .is-before .ensures) ∙ c .if1 .taken)
+loop-again c =
+    cut-up _ _ _ (c .before .before .before .before .before .pre) _ (c .before .before .before .before .loop .inv)
+    (omega arith) (omega arith) (sym (c .before .is-before .ensures) ∙ c .if1 .taken)
 
 loop-less-2 : tie.Need-loop-less-2 Inv-loop μ-loop
 loop-less-2 c = omega arith
 
 loop-again-2 : tie.Need-loop-again-2 Inv-loop μ-loop
-loop-again-2 c = cut-down _ _ _ (c .before .before .before .before .before .pre) _ (c .before .before .before .before .loop .inv) (omega arith) (omega arith) (sym (c .before .is-before .ensures) ∙ c .if1 .left)
+loop-again-2 c =
+    cut-down _ _ _ (c .before .before .before .before .before .pre) _ (c .before .before .before .before .loop .inv)
+    (omega arith) (omega arith) (sym (c .before .is-before .ensures) ∙ c .if1 .left)
 
 returns : tie.Need-returns Inv-loop μ-loop
 returns c = cut-count _ _ _ (c .before .before .pre) (c .before .loop .inv) (c .loop-test .left)

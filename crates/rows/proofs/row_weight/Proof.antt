@@ -19,7 +19,10 @@ weight-if-requires : tie.Need-weight-if-requires
 weight-if-requires c κs = search needs
 
 returns : tie.Need-returns
-returns c = c .weight-if .ensures ∙ cut-end _ _ _ (c .before .before .before .before .pre) (cut-of _ _ _ (c .before .before .before .before .pre) (c .before .before .before .lower-bound .ensures)) (omega arith) (c .before .before .if1 .taken)
+returns c =
+    c .weight-if .ensures ∙ cut-end _ _ _ (c .before .before .before .before .pre)
+    (cut-of _ _ _ (c .before .before .before .before .pre) (c .before .before .before .lower-bound .ensures))
+    (omega arith) (c .before .before .if1 .taken)
 
 returns-2 : tie.Need-returns-2
 returns-2 c = cut-out _ _ _ (c .before .before .pre) (cut-of _ _ _ (c .before .before .pre) (c .before .lower-bound .ensures)) (c .if1 .left)

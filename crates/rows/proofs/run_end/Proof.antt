@@ -37,10 +37,18 @@ loop-less : tie.Need-loop-less Inv-loop μ-loop
 loop-less c = search needs
 
 loop-again : tie.Need-loop-again Inv-loop μ-loop
-loop-again c = let s = c .before .before .before .before .before in let l = c .before .before .before .before .loop in cut-up _ _ _ (s .pre .0) _ (l .inv) (omega arith) (c .before .before .before .loop-test .taken) (sym (c .before .is-before .ensures) ∙ c .if1 .taken)
+loop-again c =
+    let s = c .before .before .before .before .before in
+    let l = c .before .before .before .before .loop in
+    cut-up _ _ _ (s .pre .0) _ (l .inv) (omega arith) (c .before .before .before .loop-test .taken)
+    (sym (c .before .is-before .ensures) ∙ c .if1 .taken)
 
 returns : tie.Need-returns Inv-loop μ-loop
-returns c = let s = c .before .before .before .before .before in let l = c .before .before .before .before .loop in cut-count _ _ _ (s .pre .0) (cut-down _ _ _ (s .pre .0) _ (l .inv) (omega arith) (c .before .before .before .loop-test .taken) (sym (c .before .is-before .ensures) ∙ c .if1 .left)) (omega arith)
+returns c =
+    let s = c .before .before .before .before .before in
+    let l = c .before .before .before .before .loop in
+    cut-count _ _ _ (s .pre .0) (cut-down _ _ _ (s .pre .0) _ (l .inv) (omega arith) (c .before .before .before .loop-test .taken)
+    (sym (c .before .is-before .ensures) ∙ c .if1 .left)) (omega arith)
 
 returns-2 : tie.Need-returns-2 Inv-loop μ-loop
 returns-2 c = cut-count _ _ _ (c .before .before .pre .0) (c .before .loop .inv) (c .loop-test .left)

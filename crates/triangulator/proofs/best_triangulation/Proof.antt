@@ -20,7 +20,12 @@ same-length-2 : tie.Need-same-length-2
 same-length-2 c = search needs
 
 returns : tie.Need-returns
-returns c = let s = c .before .before .before .before .before .before .before .before .before .before .before in let J = problemFrom (s .args .n) (s .args .candidates .now) (s .args .weights .now) (s .args .rows .now) in let e = c .before .before .before .before .before .solve .ensures in settle-none (J .n) (J .size) _ _ (bestKey J) (omega (arith, e .0, c .if1 .taken)) (answer-light (s .args .n) _ _ _ (s .pre .0)) (e .1 .0) (e .1 .1)
+returns c =
+    let s = c .before .before .before .before .before .before .before .before .before .before .before in
+    let J = problemFrom (s .args .n) (s .args .candidates .now) (s .args .weights .now) (s .args .rows .now) in
+    let e = c .before .before .before .before .before .solve .ensures in
+    settle-none (J .n) (J .size) _ _ (bestKey J) (omega (arith, e .0, c .if1 .taken))
+    (answer-light (s .args .n) _ _ _ (s .pre .0)) (e .1 .0) (e .1 .1)
 
 sub-t13 : tie.Need-sub-t13
 sub-t13 c = search needs
@@ -32,7 +37,12 @@ same-length-4 : tie.Need-same-length-4
 same-length-4 c = search needs
 
 returns-2 : tie.Need-returns-2
-returns-2 c = let s = c .before .before .before .before .before .before .before .before .before .before .before in let J = problemFrom (s .args .n) (s .args .candidates .now) (s .args .weights .now) (s .args .rows .now) in let e = c .before .before .before .before .before .solve .ensures in settle-patch (J .n) (J .size) _ _ (bestKey J) _ (e .0) (c .if1 .left) (λ x l q. best-length J (s .pre .0 .valid) x l (ap answerOf q)) (e .1 .0) (e .1 .1)
+returns-2 c =
+    let s = c .before .before .before .before .before .before .before .before .before .before .before in
+    let J = problemFrom (s .args .n) (s .args .candidates .now) (s .args .weights .now) (s .args .rows .now) in
+    let e = c .before .before .before .before .before .solve .ensures in
+    settle-patch (J .n) (J .size) _ _ (bestKey J) _ (e .0) (c .if1 .left)
+    (λ x l q. best-length J (s .pre .0 .valid) x l (ap answerOf q)) (e .1 .0) (e .1 .1)
 
 pub best-triangulation-spec : {M : Type 1} → statement M
 best-triangulation-spec =

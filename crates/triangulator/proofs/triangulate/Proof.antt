@@ -20,7 +20,9 @@ use Rattle.triangulator.proofs.triangulate.Tie as tie
 
 -- the number that is due on the job
 abbrev due : tie.Start → ℕ
-due s = jobCode (jobOf (s .args .n) (s .args .candidates .now) (s .args .weights .now) (s .args .rows .now)) (length (s .args .triangles .now)) (length (s .args .work .now))
+due s =
+    jobCode (jobOf (s .args .n) (s .args .candidates .now) (s .args .weights .now) (s .args .rows .now))
+    (length (s .args .triangles .now)) (length (s .args .work .now))
 
 job-code-requires : tie.Need-job-code-requires
 job-code-requires c κs = search needs
@@ -35,7 +37,8 @@ returns c =
     let s = b .before .before .before .before .before in
     let e = b .before .job-code .ensures in
     let h : due s ≡ 0 → ⊥ = λ z. omega (arith, b .if1 .taken, e) in (
-      ap (λ (r : Refusal). result (Refused r) (s .args .triangles .now) (s .args .work .now)) (c .new .ensures ∙ ap refusal e) ∙ sym (no _ _ (ne-eqb (due s) 0 h)),
+      ap (λ (r : Refusal). result (Refused r) (s .args .triangles .now) (s .args .work .now)) (c .new .ensures ∙ ap refusal e)
+          ∙ sym (no _ _ (ne-eqb (due s) 0 h)),
       ap (λ (r : Refusal). valuesOf (Refused r)) (c .new .ensures) ∙ refused-values _ (due s) (s .args .n) _ e h,
     )
 

@@ -15,7 +15,8 @@ names-triangles-requires c κs = search needs
 returns : tie.Need-returns
 returns c =
     let s = c .before .before .before .before in
-    code-other (s .args .n) (s .args .candidates .now) (s .args .weights .now) (s .args .rows .now) (s .pre .0) (s .pre .1) (s .args .list .now) (s .args .stated)
+    code-other (s .args .n) (s .args .candidates .now) (s .args .weights .now) (s .args .rows .now) (s .pre .0)
+    (s .pre .1) (s .args .list .now) (s .args .stated)
     (fails-via (c .before .names-triangles .ensures) (c .if1 .taken))
 
 -- the list names n − 2 candidates: the call, and the triangles that are named
@@ -27,7 +28,9 @@ module _ (g : tie.Else1) where
   named = holds-via (g .before .names-triangles .ensures) (g .if1 .left)
 
   triangles : Triangles (call .args .candidates .now) (call .args .list .now)
-  triangles = triangles-are (call .args .n) (call .args .candidates .now) (call .args .weights .now) (call .args .rows .now) (call .pre .0) (call .pre .1) (call .args .list .now) (call .args .stated) named
+  triangles =
+      triangles-are (call .args .n) (call .args .candidates .now) (call .args .weights .now) (call .args .rows .now)
+      (call .pre .0) (call .pre .1) (call .args .list .now) (call .args .stated) named
 
 is-triangulation-requires : tie.Need-is-triangulation-requires
 is-triangulation-requires c κs = (call c .pre .1, triangles c)
@@ -43,7 +46,8 @@ returns-2 c =
     let g = c .before .before .before in
     let s = call g in
     c .first-number .ensures
-    ∙ code-is (s .args .n) (s .args .candidates .now) (s .args .weights .now) (s .args .rows .now) (s .pre .0) (s .pre .1) (s .args .list .now) (s .args .stated) (named g)
+    ∙ code-is (s .args .n) (s .args .candidates .now) (s .args .weights .now) (s .args .rows .now) (s .pre .0)
+    (s .pre .1) (s .args .list .now) (s .args .stated) (named g)
     (c .before .before .is-triangulation .ensures) (c .before .total .ensures)
 
 pub list-code-spec : {M : Type 1} → statement M

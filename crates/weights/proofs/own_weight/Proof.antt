@@ -51,11 +51,14 @@ module _ (k : tie.After-normal) where
   weighed = k .before .before .before
 
   -- the weight of a bend, and the largest it can be
-  bend-is : {r : ℕ} (x : Normal) → r ≡ outsideWeightOf (begin weighed .args .bend-factor) (k .normal .result) x → r ≡ outsideWeightOf (begin weighed .args .bend-factor) (face weighed) x
+  bend-is : {r : ℕ} (x : Normal) → r ≡ outsideWeightOf (begin weighed .args .bend-factor) (k .normal .result) x →
+      r ≡ outsideWeightOf (begin weighed .args .bend-factor) (face weighed) x
   bend-is x e = e ∙ ap (λ (n : Vector). outsideWeightOf (begin weighed .args .bend-factor) n x) (k .normal .ensures)
 
   bend-most : {r : ℕ} (x : Normal) → r ≡ outsideWeightOf (begin weighed .args .bend-factor) (k .normal .result) x → r ≤ maxBendFactor * maxBend
-  bend-most x e = subst (λ (w : ℕ). w ≤ maxBendFactor * maxBend) (sym e) (outside-bound (begin weighed .args .bend-factor) (k .normal .result) x (begin weighed .pre .1))
+  bend-most x e =
+      subst (λ (w : ℕ). w ≤ maxBendFactor * maxBend) (sym e)
+      (outside-bound (begin weighed .args .bend-factor) (k .normal .result) x (begin weighed .pre .1))
 
   measured : Measured (k .normal .result) (begin weighed .args .m)
   measured = subst (λ (n : Vector). Measured n (begin weighed .args .m)) (sym (k .normal .ensures)) (begin weighed .pre .5)
@@ -70,7 +73,9 @@ weight-requires-2 : tie.Need-weight-requires-2
 weight-requires-2 c κs = let k = c .before .before .before .before in (begin (weighed k) .pre .1, measured k, search needs)
 
 add-result-2 : tie.Need-add-result-2
-add-result-2 c = let k = c .before .before .before .before .before in omega (arith, area-most (weighed k), bend-most k _ (c .before .weight .ensures), bend-most k _ (c .weight2 .ensures))
+add-result-2 c =
+    let k = c .before .before .before .before .before in
+    omega (arith, area-most (weighed k), bend-most k _ (c .before .weight .ensures), bend-most k _ (c .weight2 .ensures))
 
 weight-requires-3 : tie.Need-weight-requires-3
 weight-requires-3 c κs = let k = c .before .before .before .before .before in (begin (weighed k) .pre .1, measured k, search needs)
@@ -78,12 +83,19 @@ weight-requires-3 c κs = let k = c .before .before .before .before .before in (
 add-result-3 : tie.Need-add-result-3
 add-result-3 c =
     let k = c .before .before .before .before .before .before in
-    omega (arith, area-most (weighed k), bend-most k _ (c .before .before .weight .ensures), bend-most k _ (c .before .weight2 .ensures), bend-most k _ (c .weight3 .ensures))
+    omega (
+      arith,
+      area-most (weighed k),
+      bend-most k _ (c .before .before .weight .ensures),
+      bend-most k _ (c .before .weight2 .ensures),
+      bend-most k _ (c .weight3 .ensures),
+    )
 
 returns-2 : tie.Need-returns-2
 returns-2 c =
     let k = c .before .before .before .before .before .before in
-    λ i. area-is (weighed k) i + bend-is k _ (c .before .before .weight .ensures) i + bend-is k _ (c .before .weight2 .ensures) i + bend-is k _ (c .weight3 .ensures) i
+    λ i. area-is (weighed k) i + bend-is k _ (c .before .before .weight .ensures) i + bend-is k _ (c .before .weight2 .ensures) i
+    + bend-is k _ (c .weight3 .ensures) i
 
 pub own-weight-spec : {M : Type 1} → statement M
 own-weight-spec =

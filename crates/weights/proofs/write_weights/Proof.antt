@@ -66,10 +66,13 @@ wide-requires-3 c κs = search needs
 
 same-place : (i : ℕ) (x y : List ℕ) → drop i x ≡ drop i y → getD x i 0 ≡ getD y i 0
 same-place i x y e =
-    ap (λ (k : ℕ). getD x k 0) (sym (add-zero i)) ∙ sym (getD-drop i x 0 0) ∙ ap (λ (l : List ℕ). getD l 0 0) e ∙ getD-drop i y 0 0 ∙ ap (λ (k : ℕ). getD y k 0) (add-zero i)
+    ap (λ (k : ℕ). getD x k 0) (sym (add-zero i)) ∙ sym (getD-drop i x 0 0) ∙ ap (λ (l : List ℕ). getD l 0 0) e
+    ∙ getD-drop i y 0 0 ∙ ap (λ (k : ℕ). getD y k 0) (add-zero i)
 
 mul-m : tie.Need-mul-m Inv-loop μ-loop
-mul-m c = let s = c .before .before .before .before .before .before .before .before .before in omega (arith, s .pre .1, c .before .before .before .before .before .loop .inv .long, s .good)
+mul-m c =
+    let s = c .before .before .before .before .before .before .before .before .before in
+    omega (arith, s .pre .1, c .before .before .before .before .before .loop .inv .long, s .good)
 
 -- a candidate, once its corners are read
 module _ (g : tie.After-slice-known2 Inv-loop μ-loop) where
@@ -98,7 +101,13 @@ module _ (g : tie.After-slice-known2 Inv-loop μ-loop) where
   inside = omega (arith, below, begin .pre .1, g .before .before .before .before .before .before .loop .inv .long)
 
   corners : Read polygon candidate (g .before .before .before .wide .result) (g .before .before .wide2 .result) (g .before .wide3 .result)
-  corners = record { valid = begin .pre .0 .valid; corners = begin .pre .0 .corners index below; a-is = g .before .before .before .wide .ensures; b-is = g .before .before .wide2 .ensures; c-is = g .before .wide3 .ensures }
+  corners = record {
+    valid = begin .pre .0 .valid;
+    corners = begin .pre .0 .corners index below;
+    a-is = g .before .before .before .wide .ensures;
+    b-is = g .before .before .wide2 .ensures;
+    c-is = g .before .wide3 .ensures;
+  }
 
   -- the length that stands there still
   length-is : getD table index 0 ≡ lengthOf (faceNormal polygon candidate)
@@ -138,7 +147,9 @@ module _ (e : tie.After-edge-normals Inv-loop μ-loop) where
   read = e .before .before .before .before
 
   abbrev normal : Vector
-  normal = normalOf (vertexAt (polygon read .vertices) (read .before .before .before .wide .result)) (vertexAt (polygon read .vertices) (read .before .before .wide2 .result)) (vertexAt (polygon read .vertices) (read .before .wide3 .result))
+  normal =
+      normalOf (vertexAt (polygon read .vertices) (read .before .before .before .wide .result))
+      (vertexAt (polygon read .vertices) (read .before .before .wide2 .result)) (vertexAt (polygon read .vertices) (read .before .wide3 .result))
 
   face-is : normal ≡ faceNormal (polygon read) (candidate read)
   face-is = normal-is (corners read) refl
@@ -169,11 +180,19 @@ own-weight-requires c κs =
     let e = c .before .before .before in
     let g = read e in
     let s = begin g in
-    let q = on-grid (corners g) in
-    (omega (arith, s .pre .0 .valid .area-factor), s .pre .0 .valid .bend-factor, q .0, q .1, q .2, face-measured (s .pre .0) (index g) (below g) (face-is e) (length-is g), subst (λ (x : EdgeNormals). EdgesInRange x) (sym (edges-are e)) (edges-in-range (s .pre .0 .valid) (s .pre .0 .corners (index g) (below g))))
+    let q = on-grid (corners g) in (
+      omega (arith, s .pre .0 .valid .area-factor),
+      s .pre .0 .valid .bend-factor,
+      q .0,
+      q .1,
+      q .2,
+      face-measured (s .pre .0) (index g) (below g) (face-is e) (length-is g),
+      subst (λ (x : EdgeNormals). EdgesInRange x) (sym (edges-are e)) (edges-in-range (s .pre .0 .valid) (s .pre .0 .corners (index g) (below g))),
+    )
 
 -- the weight by the three edges is the own weight
-weight-is : (o : tie.After-own-weight Inv-loop μ-loop) → let g = read (o .before .before .before .before) in o .own-weight .result ≡ ownWeight (polygon g) (candidate g)
+weight-is : (o : tie.After-own-weight Inv-loop μ-loop) →
+    let g = read (o .before .before .before .before) in o .own-weight .result ≡ ownWeight (polygon g) (candidate g)
 weight-is o =
     let e = o .before .before .before .before in
     let g = read e in
@@ -186,11 +205,13 @@ weight-is o =
 -- the weight that is written next
 next : (o : tie.After-own-weight Inv-loop μ-loop) →
     let g = read (o .before .before .before .before) in
-    Writing (weightsOf (polygon g) (list g)) (o .own-weight .result ∷ map (ownWeight (polygon g)) (drop (index g + 1) (list g))) (begin g .args .weights .now) 0 (table g) (index g)
+    Writing (weightsOf (polygon g) (list g)) (o .own-weight .result ∷ map (ownWeight (polygon g)) (drop (index g + 1) (list g)))
+    (begin g .args .weights .now) 0 (table g) (index g)
 next o =
     let g = read (o .before .before .before .before) in
     let p = polygon g in
-    turn (rest-step (ownWeight p) (list g) (index g) [] (below g) ∙ ap (λ (k : ℕ). k ∷ map (ownWeight p) (drop (index g + 1) (list g))) (sym (weight-is o))) (g .before .before .before .before .before .before .loop .inv)
+    turn (rest-step (ownWeight p) (list g) (index g) [] (below g) ∙ ap (λ (k : ℕ). k ∷ map (ownWeight p) (drop (index g + 1) (list g)))
+    (sym (weight-is o))) (g .before .before .before .before .before .before .loop .inv)
 
 mul-weights : tie.Need-mul-weights Inv-loop μ-loop
 mul-weights c = let g = read (c .before .before .before .before) in omega (arith, inside g, begin g .good)

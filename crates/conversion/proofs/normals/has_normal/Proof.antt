@@ -18,7 +18,9 @@ use Rattle.conversion.proofs.normals.has_normal.Statement.{statement}
 use Rattle.conversion.proofs.normals.has_normal.Tie as tie
 
 abbrev Inv-loop : tie.InvT-loop
-Inv-loop file layout count k₀ k-end k = (0 < k) × (k ≤ count + 1) × (some k (suc (recordCount file)) (λ k. not (isNone (normalIn file (offset file k)))) ≡ some 1 (suc (recordCount file)) (λ k. not (isNone (normalIn file (offset file k)))))
+Inv-loop file layout count k₀ k-end k =
+    (0 < k) × (k ≤ count + 1) × (some k (suc (recordCount file)) (λ k. not (isNone (normalIn file (offset file k))))
+    ≡ some 1 (suc (recordCount file)) (λ k. not (isNone (normalIn file (offset file k)))))
 
 abbrev μ-loop : tie.MeasureT-loop
 μ-loop file layout count k₀ k-end k = count + 1 - k
@@ -32,14 +34,24 @@ loop-holds c = (omega arith, omega arith, refl)
 record-start-requires : tie.Need-record-start-requires Inv-loop μ-loop
 record-start-requires c κs =
     let s = c .before .before .before in
-    let b = bounds (now (s .args .file)) in
-    (omega (arith, header-as _ (s .pre .1), b .header), omega (arith, size-as _ (s .pre .1), b .most), c .before .loop .inv .0, omega (arith, s .pre .2, whole _ (s .pre .0) .few, c .loop-test .taken))
+    let b = bounds (now (s .args .file)) in (
+      omega (arith, header-as _ (s .pre .1), b .header),
+      omega (arith, size-as _ (s .pre .1), b .most),
+      c .before .loop .inv .0,
+      omega (arith, s .pre .2, whole _ (s .pre .0) .few, c .loop-test .taken),
+    )
 
 normal-at-requires : tie.Need-normal-at-requires Inv-loop μ-loop
 normal-at-requires c κs =
     let s = c .before .before .before .before in
-    let k = c .before .before .loop in
-    (s .pre .1, omega (arith, c .record-start .ensures, record-held _ (s .pre .1) (whole _ (s .pre .0)) (k .k) (k .inv .0) (omega (arith, s .pre .2, c .before .loop-test .taken))))
+    let k = c .before .before .loop in (
+      s .pre .1,
+      omega (
+        arith,
+        c .record-start .ensures,
+        record-held _ (s .pre .1) (whole _ (s .pre .0)) (k .k) (k .inv .0) (omega (arith, s .pre .2, c .before .loop-test .taken)),
+      ),
+    )
 
 is-none-requires : tie.Need-is-none-requires Inv-loop μ-loop
 is-none-requires c κs = search needs
@@ -77,8 +89,11 @@ loop-less c = omega (arith, c .before .before .before .before .loop-test .taken)
 
 loop-again : tie.Need-loop-again Inv-loop μ-loop
 loop-again c =
-    let l = c .before .before .before .before .before .loop in
-    (omega arith, omega (arith, c .before .before .before .before .loop-test .taken), sym (some-on (l .k) _ _ (inside (c .before)) (tested (c .before) ∙ c .if1 .left)) ∙ l .inv .2)
+    let l = c .before .before .before .before .before .loop in (
+      omega arith,
+      omega (arith, c .before .before .before .before .loop-test .taken),
+      sym (some-on (l .k) _ _ (inside (c .before)) (tested (c .before) ∙ c .if1 .left)) ∙ l .inv .2,
+    )
 
 returns-2 : tie.Need-returns-2 Inv-loop μ-loop
 unfolding normalLost

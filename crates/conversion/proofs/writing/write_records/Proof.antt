@@ -17,7 +17,9 @@ use Rattle.conversion.proofs.writing.write_records.Statement.{statement
 use Rattle.conversion.proofs.writing.write_records.Tie as tie
 
 abbrev Inv-loop : tie.InvT-loop
-Inv-loop file source target count out₀ k₀ k-end out k = (0 < k) × (k ≤ count + 1) × (length out ≡ length out₀) × (out ≡ sets out₀ (target .header + headerSize) (over 1 k (λ k. recordBytes file k ++ endingIn target)))
+Inv-loop file source target count out₀ k₀ k-end out k =
+    (0 < k) × (k ≤ count + 1) × (length out ≡ length out₀)
+    × (out ≡ sets out₀ (target .header + headerSize) (over 1 k (λ k. recordBytes file k ++ endingIn target)))
 
 abbrev μ-loop : tie.MeasureT-loop
 μ-loop file source target count out₀ k₀ k-end out k = count + 1 - k
@@ -32,8 +34,12 @@ loop-holds c = (omega arith, omega arith, refl, refl)
 record-start-requires : tie.Need-record-start-requires Inv-loop μ-loop
 record-start-requires c κs =
     let s = c .before .before .before .before in
-    let b = bounds (now (s .args .file)) in
-    (omega (arith, header-as _ (s .pre .source-is), b .header), omega (arith, size-as _ (s .pre .source-is), b .most), c .before .loop .inv .0, omega (arith, s .pre .count-is, whole _ (s .pre .right) .few, c .loop-test .taken))
+    let b = bounds (now (s .args .file)) in (
+      omega (arith, header-as _ (s .pre .source-is), b .header),
+      omega (arith, size-as _ (s .pre .source-is), b .most),
+      c .before .loop .inv .0,
+      omega (arith, s .pre .count-is, whole _ (s .pre .right) .few, c .loop-test .taken),
+    )
 
 record-start-requires-2 : tie.Need-record-start-requires-2 Inv-loop μ-loop
 record-start-requires-2 c κs =
@@ -53,14 +59,27 @@ module _ (c : tie.After-record-start2 Inv-loop μ-loop) where
 
   -- it ends within the table
   room : c .record-start2 .result + start .args .target .«record_size» ≤ length (now (start .args .out))
-  room = omega (arith, c .record-start2 .ensures, start .pre .long, piece-end (start .args .target .«record_size») number (start .args .count) (c .before .before .before .loop .inv .0) (omega (arith, c .before .before .loop-test .taken)))
+  room = omega (
+    arith,
+    c .record-start2 .ensures,
+    start .pre .long,
+    piece-end (start .args .target .«record_size») number (start .args .count) (c .before .before .before .loop .inv .0)
+        (omega (arith, c .before .before .loop-test .taken)),
+  )
 
 copy-requires : tie.Need-copy-requires Inv-loop μ-loop
 copy-requires c κs =
     let s = c .before .before .before .before .before .before .before in
     let l = c .before .before .before .before .loop in
-    let k≤count : l .k ≤ s .args .count = omega (arith, c .before .before .before .loop-test .taken) in
-    (omega (arith, from-is (c .before), record-within _ (l .k) (l .inv .0) (omega (arith, s .pre .count-is)) (whole _ (s .pre .right) .records), bounds (now (s .args .file)) .least), omega (arith, room (c .before), s .pre .least, l .inv .2))
+    let k≤count : l .k ≤ s .args .count = omega (arith, c .before .before .before .loop-test .taken) in (
+      omega (
+        arith,
+        from-is (c .before),
+        record-within _ (l .k) (l .inv .0) (omega (arith, s .pre .count-is)) (whole _ (s .pre .right) .records),
+        bounds (now (s .args .file)) .least,
+      ),
+      omega (arith, room (c .before), s .pre .least, l .inv .2),
+    )
 
 add-end : tie.Need-add-end Inv-loop μ-loop
 add-end c =
@@ -90,7 +109,14 @@ fill-requires c κs =
 add-k : tie.Need-add-k Inv-loop μ-loop
 add-k c =
     let s = c .before .before .before .before .before .before .before .before .before .before .before .before .before .before .before in
-    record { fits = omega (arith, s .pre .count-is, whole _ (s .pre .right) .few, c .before .before .before .before .before .before .before .before .before .before .before .loop-test .taken) }
+    record {
+      fits = omega (
+        arith,
+        s .pre .count-is,
+        whole _ (s .pre .right) .few,
+        c .before .before .before .before .before .before .before .before .before .before .before .loop-test .taken,
+      );
+    }
 
 loop-less : tie.Need-loop-less Inv-loop μ-loop
 loop-less c = omega (arith, c .before .before .before .before .before .before .before .before .before .before .before .loop-test .taken)
@@ -103,12 +129,15 @@ loop-again c =
     let l = p .before .before .before .loop in
     let test = p .before .before .loop-test .taken in
     let target = s .args .target in
-    let size : recordSize1 + length (endingIn target) ≡ target .«record_size» = omega (arith, s .pre .least, length-replicate {A = ℕ} (target .«record_size» - recordSize1) 0) in (
+    let size : recordSize1 + length (endingIn target) ≡ target .«record_size» =
+    omega (arith, s .pre .least, length-replicate {A = ℕ} (target .«record_size» - recordSize1) 0) in (
       omega arith,
       omega (arith, test),
       (simp length-sets at (ap length (c .before .before .fill .ensures))) ∙ copied-length stop ∙ l .inv .2,
-      record-stored (now (s .args .file)) (whole _ (s .pre .right)) (endingIn target) (now (s .args .out)) (target .header + headerSize) (l .k) (p .record-start2 .result)
-          (l .inv .0) (omega (arith, s .pre .count-is, test)) (l .inv .3) (from-is p) (p .record-start2 .ensures ∙ ap (λ (z : ℕ). target .header + headerSize + z * (l .k - 1)) (sym size)) refl
+      record-stored (now (s .args .file)) (whole _ (s .pre .right)) (endingIn target) (now (s .args .out))
+          (target .header + headerSize) (l .k) (p .record-start2 .result)
+          (l .inv .0) (omega (arith, s .pre .count-is, test)) (l .inv .3) (from-is p)
+          (p .record-start2 .ensures ∙ ap (λ (z : ℕ). target .header + headerSize + z * (l .k - 1)) (sym size)) refl
           (stop .before .before .before .before .copy .ensures) (c .before .before .fill .ensures),
     )
 
@@ -120,7 +149,8 @@ returns c =
     let s = c .before .before .before .before in
     let l = c .before .loop in
     let e : l .k ≡ suc (recordCount (now (s .args .file))) = omega (arith, s .pre .count-is, c .loop-test .left) in
-    l .inv .3 ∙ ap (λ (k : ℕ). sets (now (s .args .out)) (s .args .target .header + headerSize) (over 1 k (λ k. recordBytes (now (s .args .file)) k ++ endingIn (s .args .target)))) e
+    l .inv .3 ∙ ap (λ (k : ℕ). sets (now (s .args .out)) (s .args .target .header + headerSize)
+    (over 1 k (λ k. recordBytes (now (s .args .file)) k ++ endingIn (s .args .target)))) e
 
 pub write-records-spec : {M : Type 1} → statement M
 write-records-spec =

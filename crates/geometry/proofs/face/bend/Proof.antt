@@ -45,7 +45,8 @@ mul-w c = fits tt (divisor c)
 floor-div-requires : tie.Need-floor-div-requires
 floor-div-requires c κs = (
   at-most-le tt (at-most-held (stored tt (numerator c))),
-  subst (λ (z : ℤ). pos 0 <ℤ z) (sym (stored tt (divisor c) .value)) (record { lt = lt→ltb 0 _ (product-above-0 (c .args .m) (c .args .k) (c .pre .1) (c .pre .3)) }),
+  subst (λ (z : ℤ). pos 0 <ℤ z) (sym (stored tt (divisor c) .value))
+      (record { lt = lt→ltb 0 _ (product-above-0 (c .args .m) (c .args .k) (c .pre .1) (c .pre .3)) }),
 )
 
 clamp-requires : tie.Need-clamp-requires
@@ -57,13 +58,16 @@ ratio! c =
     let s = c .before .before in
     let q = c .before .floor-div in
     c .clamp .ensures
-    ∙ ap (clamped (negsuc 999) (pos 1000)) (toZ-ofZ w64 (q .result) (record { sfits = q .ok }) ∙ q .ensures ∙ (λ i. floorDiv (stored tt (numerator s) .value i) (natAbs (stored tt (divisor s) .value i))))
+    ∙ ap (clamped (negsuc 999) (pos 1000)) (toZ-ofZ w64 (q .result) (record { sfits = q .ok }) ∙ q .ensures
+    ∙ (λ i. floorDiv (stored tt (numerator s) .value i) (natAbs (stored tt (divisor s) .value i))))
 
-bend! : (c : tie.After-clamp) → Holds maxBend (pos (bendOf (c .before .before .args .d) (c .before .before .args .m) (c .before .before .args .k))) (pos 1000 -ℤ bits (c .clamp .result))
+bend! : (c : tie.After-clamp) → Holds maxBend (pos (bendOf (c .before .before .args .d) (c .before .before .args .m) (c .before .before .args .k)))
+    (pos 1000 -ℤ bits (c .clamp .result))
 bend! c =
     let s = c .before .before in
     record {
-      value = ap (λ (z : ℤ). pos 1000 -ℤ z) (toZ-ofZ w64 (c .clamp .result) (record { sfits = c .clamp .ok }) ∙ ratio! c) ∙ sym (bend-is (s .args .d) (s .args .m) (s .args .k));
+      value = ap (λ (z : ℤ). pos 1000 -ℤ z) (toZ-ofZ w64 (c .clamp .result) (record { sfits = c .clamp .ok }) ∙ ratio! c)
+          ∙ sym (bend-is (s .args .d) (s .args .m) (s .args .k));
       bound = natural (bend-bound (s .args .d) (s .args .m) (s .args .k));
     }
 

@@ -30,9 +30,11 @@ module _ (l : tie.After-locate) where
   abbrev start : tie.Start
   start = l .before .before .before .before
 
-  placed : cond (separatesBy (start .args .pencil) (start .args .s) (start .args .w)) (isInside (positionBy (sphereOf (start .args .pencil) (start .args .s)) (start .args .w))) false ≡ isInside (l .locate .result)
+  placed : cond (separatesBy (start .args .pencil) (start .args .s) (start .args .w))
+      (isInside (positionBy (sphereOf (start .args .pencil) (start .args .s)) (start .args .w))) false ≡ isInside (l .locate .result)
   placed =
-      ap (λ (t : Bool). cond t (isInside (positionBy (sphereOf (start .args .pencil) (start .args .s)) (start .args .w))) false) (sym (l .before .before .before .separates .ensures) ∙ l .before .before .if1 .taken)
+      ap (λ (t : Bool). cond t (isInside (positionBy (sphereOf (start .args .pencil) (start .args .s)) (start .args .w))) false)
+      (sym (l .before .before .before .separates .ensures) ∙ l .before .before .if1 .taken)
       ∙ sym (ap isInside (l .locate .ensures ∙ ap (λ (b : Sphere). positionBy b (start .args .w)) (l .before .circumsphere .ensures)))
 
 returns : tie.Need-returns

@@ -16,10 +16,12 @@ dot-requires : tie.Need-dot-requires
 dot-requires c κs = let s = c .before .before in products-fit tt tt tt (s .pre .0 .normal-in) (s .pre .1 .vector-in)
 
 -- the orientation, and whether it is 0
-held : (c : tie.After-dot) → Holds maxOrient (dotOf (c .before .before .before .args .pencil .normal) (c .before .before .before .args .t .vector)) (bits (c .dot .result))
+held : (c : tie.After-dot) →
+    Holds maxOrient (dotOf (c .before .before .before .args .pencil .normal) (c .before .before .before .args .t .vector)) (bits (c .dot .result))
 held c = let s = c .before .before .before in returned tt (c .dot .ensures) (at-most-dot (s .pre .0 .normal-in) (s .pre .1 .vector-in))
 
-tested : (c : tie.After-dot) {b : Bool} → equal (c .dot .result) (pos 0) ≡ b → equal (dotOf (c .before .before .before .args .pencil .normal) (c .before .before .before .args .t .vector)) (pos 0) ≡ b
+tested : (c : tie.After-dot) {b : Bool} → equal (c .dot .result) (pos 0) ≡ b →
+    equal (dotOf (c .before .before .before .args .pencil .normal) (c .before .before .before .args .t .vector)) (pos 0) ≡ b
 tested c e = ap (λ (o : ℤ). equal o (pos 0)) (sym (c .dot .ensures)) ∙ e
 
 returns : tie.Need-returns
@@ -32,16 +34,21 @@ cross-requires : tie.Need-cross-requires
 cross-requires c κs = let s = c .before .before .before .before .before .before in products-fit tt tt tt (s .pre .0 .weighted-in) (s .pre .1 .vector-in)
 
 crossed : (c : tie.After-cross) → Within maxCrossed (c .cross .result)
-crossed c = let s = c .before .before .before .before .before .before .before in within-as (c .cross .ensures) (within-cross (s .pre .0 .weighted-in) (s .pre .1 .vector-in))
+crossed c =
+    let s = c .before .before .before .before .before .before .before in
+    within-as (c .cross .ensures) (within-cross (s .pre .0 .weighted-in) (s .pre .1 .vector-in))
 
 scaled-sum-requires : tie.Need-scaled-sum-requires
-scaled-sum-requires c κs = let s = c .before .before .before .before .before .before .before in (crossed c, at-most-held (given tt (s .pre .1 .square-in)), s .pre .0 .normal-in)
+scaled-sum-requires c κs =
+    let s = c .before .before .before .before .before .before .before in
+    (crossed c, at-most-held (given tt (s .pre .1 .square-in)), s .pre .0 .normal-in)
 
 turn-requires : tie.Need-turn-requires
 turn-requires c κs =
     let s = c .before .before .before .before .before .before .before .before in (
       at-most-held (held (c .before .before .before .before .before)),
-      within-as (c .scaled-sum .ensures) (within-plus (crossed (c .before)) (within-scaled (at-most-held (given tt (s .pre .1 .square-in))) (s .pre .0 .normal-in))),
+      within-as (c .scaled-sum .ensures)
+          (within-plus (crossed (c .before)) (within-scaled (at-most-held (given tt (s .pre .1 .square-in))) (s .pre .0 .normal-in))),
     )
 
 returns-2 : tie.Need-returns-2

@@ -21,7 +21,9 @@ module _ (c : tie.After-dot) where
   computed = bits (bits (start .args .sphere .orient) *ℤ bits (start .args .w .square)) -ℤ bits (c .dot .result)
 
   power : Holds 2304000000000000000 (powerOf (start .args .sphere) (start .args .w)) computed
-  power = stored tt (given tt (start .pre .0 .orient-in) *! given tt (start .pre .1 .square-in)) -! returned tt (c .dot .ensures) (at-most-dot (start .pre .0 .centre-in) (start .pre .1 .vector-in))
+  power =
+      stored tt (given tt (start .pre .0 .orient-in) *! given tt (start .pre .1 .square-in))
+      -! returned tt (c .dot .ensures) (at-most-dot (start .pre .0 .centre-in) (start .pre .1 .vector-in))
 
   less : ltZ (bits computed) (pos 0) ≡ ltZ (powerOf (start .args .sphere) (start .args .w)) (pos 0)
   less = ap (λ (z : ℤ). ltZ z (pos 0)) (stored tt power .value)

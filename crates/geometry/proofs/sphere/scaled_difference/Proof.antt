@@ -6,13 +6,16 @@ use Rattle.geometry.proofs.sphere.scaled_difference.Statement.{statemen
 use Rattle.geometry.proofs.sphere.scaled_difference.Tie as tie
 
 module _ (s : tie.Start) where
-  held-x : Holds maxWeighted (s .args .i *ℤ s .args .a .x -ℤ s .args .j *ℤ s .args .b .x) (bits (bits (s .args .i) *ℤ bits (s .args .a .x)) -ℤ bits (bits (s .args .j) *ℤ bits (s .args .b .x)))
+  held-x : Holds maxWeighted (s .args .i *ℤ s .args .a .x -ℤ s .args .j *ℤ s .args .b .x)
+      (bits (bits (s .args .i) *ℤ bits (s .args .a .x)) -ℤ bits (bits (s .args .j) *ℤ bits (s .args .b .x)))
   held-x = stored tt (given tt (s .pre .0) *! given tt (s .pre .1 .in-x)) -! stored tt (given tt (s .pre .2) *! given tt (s .pre .3 .in-x))
 
-  held-y : Holds maxWeighted (s .args .i *ℤ s .args .a .y -ℤ s .args .j *ℤ s .args .b .y) (bits (bits (s .args .i) *ℤ bits (s .args .a .y)) -ℤ bits (bits (s .args .j) *ℤ bits (s .args .b .y)))
+  held-y : Holds maxWeighted (s .args .i *ℤ s .args .a .y -ℤ s .args .j *ℤ s .args .b .y)
+      (bits (bits (s .args .i) *ℤ bits (s .args .a .y)) -ℤ bits (bits (s .args .j) *ℤ bits (s .args .b .y)))
   held-y = stored tt (given tt (s .pre .0) *! given tt (s .pre .1 .in-y)) -! stored tt (given tt (s .pre .2) *! given tt (s .pre .3 .in-y))
 
-  held-z : Holds maxWeighted (s .args .i *ℤ s .args .a .z -ℤ s .args .j *ℤ s .args .b .z) (bits (bits (s .args .i) *ℤ bits (s .args .a .z)) -ℤ bits (bits (s .args .j) *ℤ bits (s .args .b .z)))
+  held-z : Holds maxWeighted (s .args .i *ℤ s .args .a .z -ℤ s .args .j *ℤ s .args .b .z)
+      (bits (bits (s .args .i) *ℤ bits (s .args .a .z)) -ℤ bits (bits (s .args .j) *ℤ bits (s .args .b .z)))
   held-z = stored tt (given tt (s .pre .0) *! given tt (s .pre .1 .in-z)) -! stored tt (given tt (s .pre .2) *! given tt (s .pre .3 .in-z))
 
 mul-t11 : tie.Need-mul-t11

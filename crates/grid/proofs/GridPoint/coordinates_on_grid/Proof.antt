@@ -54,7 +54,8 @@ returns-3 : tie.Need-returns-3
 returns-3 c =
     let past = c .before .before .before in
     let a = past .before .before .args in
-    by-z (point (a .x) (a .y) (a .z)) (says-x (past .before)) (not-false _ (past .if1 .left)) (says-y (c .before .before)) (not-false _ (c .before .if2 .left)) (says-z c)
+    by-z (point (a .x) (a .y) (a .z)) (says-x (past .before)) (not-false _ (past .if1 .left)) (says-y (c .before .before))
+    (not-false _ (c .before .if2 .left)) (says-z c)
 
 pub coordinates-on-grid-spec : {M : Type 1} → statement M
 coordinates-on-grid-spec =

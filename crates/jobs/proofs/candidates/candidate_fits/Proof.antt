@@ -47,7 +47,10 @@ comes-before-requires c κs = search needs
 
 returns-3 : tie.Need-returns-3
 unfolding candidateFits
-returns-3 c = c .comes-before .ensures ∙ sym (yes _ _ (sym (c .before .before .before .before .vertices-ascend .ensures) ∙ not-false _ (c .before .before .before .if1 .left)) ∙ no _ _ (ne-eqb _ _ (c .before .before .if2 .left)))
+returns-3 c =
+    c .comes-before .ensures
+    ∙ sym (yes _ _ (sym (c .before .before .before .before .vertices-ascend .ensures) ∙ not-false _ (c .before .before .before .if1 .left))
+    ∙ no _ _ (ne-eqb _ _ (c .before .before .if2 .left)))
 
 pub candidate-fits-spec : {M : Type 1} → statement M
 candidate-fits-spec =

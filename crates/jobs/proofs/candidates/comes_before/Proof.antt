@@ -45,7 +45,9 @@ array-read-if4-2 c = search needs
 
 returns-4 : tie.Need-returns-4
 unfolding before
-returns-4 c = sym (no _ _ (le-ltb _ _ (c .before .before .before .if1 .left)) ∙ yes _ _ (eq-eqb _ _ (c .before .before .if2 .left)) ∙ no _ _ (le-ltb _ _ (c .before .if3 .left)) ∙ no _ _ (ne-eqb _ _ (c .if4 .taken)))
+returns-4 c =
+    sym (no _ _ (le-ltb _ _ (c .before .before .before .if1 .left)) ∙ yes _ _ (eq-eqb _ _ (c .before .before .if2 .left))
+    ∙ no _ _ (le-ltb _ _ (c .before .if3 .left)) ∙ no _ _ (ne-eqb _ _ (c .if4 .taken)))
 
 array-read-result : tie.Need-array-read-result
 array-read-result c = search needs
@@ -55,7 +57,9 @@ array-read-result-2 c = search needs
 
 returns-5 : tie.Need-returns-5
 unfolding before
-returns-5 c = sym (no _ _ (le-ltb _ _ (c .before .before .before .if1 .left)) ∙ yes _ _ (eq-eqb _ _ (c .before .before .if2 .left)) ∙ no _ _ (le-ltb _ _ (c .before .if3 .left)) ∙ yes _ _ (eq-eqb _ _ (c .if4 .left)))
+returns-5 c =
+    sym (no _ _ (le-ltb _ _ (c .before .before .before .if1 .left)) ∙ yes _ _ (eq-eqb _ _ (c .before .before .if2 .left))
+    ∙ no _ _ (le-ltb _ _ (c .before .if3 .left)) ∙ yes _ _ (eq-eqb _ _ (c .if4 .left)))
 
 pub comes-before-spec : {M : Type 1} → statement M
 comes-before-spec =

@@ -32,7 +32,9 @@ hangs-on-requires c κs = search needs
 
 returns-3 : tie.Need-returns-3
 unfolding namesPair
-returns-3 c = c .hangs-on .ensures ∙ sym (yes _ _ (lt-ltb _ _ (c .before .before .before .before .if1 .left)) ∙ yes _ _ (lt-ltb _ _ (c .before .before .before .if2 .left)))
+returns-3 c =
+    c .hangs-on .ensures
+    ∙ sym (yes _ _ (lt-ltb _ _ (c .before .before .before .before .if1 .left)) ∙ yes _ _ (lt-ltb _ _ (c .before .before .before .if2 .left)))
 
 pub names-pair-spec : {M : Type 1} → statement M
 names-pair-spec =

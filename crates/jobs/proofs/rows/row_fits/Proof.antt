@@ -44,7 +44,10 @@ row-comes-before-requires c κs = search needs
 
 returns-3 : tie.Need-returns-3
 unfolding rowFits
-returns-3 c = c .row-comes-before .ensures ∙ sym (yes _ _ (sym (c .before .before .before .before .names-pair .ensures) ∙ not-false _ (c .before .before .before .if1 .left)) ∙ no _ _ (ne-eqb _ _ (c .before .before .if2 .left)))
+returns-3 c =
+    c .row-comes-before .ensures
+    ∙ sym (yes _ _ (sym (c .before .before .before .before .names-pair .ensures) ∙ not-false _ (c .before .before .before .if1 .left))
+    ∙ no _ _ (ne-eqb _ _ (c .before .before .if2 .left)))
 
 pub row-fits-spec : {M : Type 1} → statement M
 row-fits-spec =

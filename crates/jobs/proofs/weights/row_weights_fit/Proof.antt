@@ -13,7 +13,8 @@ use Rattle.jobs.proofs.weights.row_weights_fit.Statement.{statement}
 use Rattle.jobs.proofs.weights.row_weights_fit.Tie as tie
 
 abbrev Inv-loop : tie.InvT-loop
-Inv-loop rows i₀ i-end i = every i (length rows) (λ i. leb (rowWeight (entryAt rows i)) maxWeight) ≡ every 0 (length rows) (λ i. leb (rowWeight (entryAt rows i)) maxWeight)
+Inv-loop rows i₀ i-end i =
+    every i (length rows) (λ i. leb (rowWeight (entryAt rows i)) maxWeight) ≡ every 0 (length rows) (λ i. leb (rowWeight (entryAt rows i)) maxWeight)
 
 abbrev μ-loop : tie.MeasureT-loop
 μ-loop rows i₀ i-end i = i-end - i

@@ -19,7 +19,9 @@ best-in-block-requires : tie.Need-best-in-block-requires
 best-in-block-requires c κs = search needs
 
 returns-2 : tie.Need-returns-2
-returns-2 c = let s = c .before .before .before in c .best-in-block .ensures ∙ sym (no _ _ (ne-eqb _ _ (λ (e : s .args .j ≡ s .args .i + 1). c .before .if1 .left (omega arith))))
+returns-2 c =
+    let s = c .before .before .before in
+    c .best-in-block .ensures ∙ sym (no _ _ (ne-eqb _ _ (λ (e : s .args .j ≡ s .args .i + 1). c .before .if1 .left (omega arith))))
 
 pub best-under-spec : {M : Type 1} → statement M
 best-under-spec = tie.close (tie.spec sub-if1 returns best-in-block-requires returns-2)

@@ -37,10 +37,16 @@ add-cost : tie.Need-add-cost
 add-cost c = omega (arith, c .before .if2 .left, c .before .before .before .before .before .before .before .pre .3, c .row-weight .ok)
 
 returns-3 : tie.Need-returns-3
-returns-3 c = is-better _ _ _ _ _ _ (eq-eqb _ _ (c .before .before .before .before .before .before .if1 .left)) (omega (arith, c .before .before .before .if2 .left, c .before .before .before .before .before .before .before .before .before .pre .3)) (c .before .before .row-weight .ensures) (omega (arith, c .if3 .taken))
+returns-3 c =
+    is-better _ _ _ _ _ _ (eq-eqb _ _ (c .before .before .before .before .before .before .if1 .left))
+    (omega (arith, c .before .before .before .if2 .left, c .before .before .before .before .before .before .before .before .before .pre .3))
+    (c .before .before .row-weight .ensures) (omega (arith, c .if3 .taken))
 
 returns-4 : tie.Need-returns-4
-returns-4 c = no-better _ _ _ _ _ _ (eq-eqb _ _ (c .before .before .before .before .before .before .if1 .left)) (omega (arith, c .before .before .before .if2 .left, c .before .before .before .before .before .before .before .before .before .pre .3)) (c .before .before .row-weight .ensures) (omega (arith, c .if3 .left))
+returns-4 c =
+    no-better _ _ _ _ _ _ (eq-eqb _ _ (c .before .before .before .before .before .before .if1 .left))
+    (omega (arith, c .before .before .before .if2 .left, c .before .before .before .before .before .before .before .before .before .pre .3))
+    (c .before .before .row-weight .ensures) (omega (arith, c .if3 .left))
 
 pub better-spec : {M : Type 1} → statement M
 better-spec =

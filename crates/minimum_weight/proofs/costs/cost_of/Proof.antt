@@ -22,10 +22,25 @@ array-read-c : tie.Need-array-read-c
 array-read-c c = search needs
 
 best-under-requires : tie.Need-best-under-requires
-best-under-requires c κs = let s = c .before .before .before in let ok = s .pre .0 .0 in let v = ok .valid in let h = s .pre .0 .3 in (s .pre .0 .1, s .pre .0 .4 .ascends, s .pre .0 .2, v .ab (s .args .t) h, omega (arith, v .bc (s .args .t) h, v .cn (s .args .t) h, ok .bounded .few))
+best-under-requires c κs =
+    let s = c .before .before .before in
+    let ok = s .pre .0 .0 in
+    let v = ok .valid in
+    let h = s .pre .0 .3 in (
+      s .pre .0 .1,
+      s .pre .0 .4 .ascends,
+      s .pre .0 .2,
+      v .ab (s .args .t) h,
+      omega (arith, v .bc (s .args .t) h, v .cn (s .args .t) h, ok .bounded .few),
+    )
 
 best-under-requires-2 : tie.Need-best-under-requires-2
-best-under-requires-2 c κs = let s = c .before .before .before .before in let ok = s .pre .0 .0 in let v = ok .valid in let h = s .pre .0 .3 in (s .pre .0 .1, s .pre .0 .4 .ascends, s .pre .0 .2, v .bc (s .args .t) h, omega (arith, v .cn (s .args .t) h, ok .bounded .few))
+best-under-requires-2 c κs =
+    let s = c .before .before .before .before in
+    let ok = s .pre .0 .0 in
+    let v = ok .valid in
+    let h = s .pre .0 .3 in
+    (s .pre .0 .1, s .pre .0 .4 .ascends, s .pre .0 .2, v .bc (s .args .t) h, omega (arith, v .cn (s .args .t) h, ok .bounded .few))
 
 mul-join-cost : tie.Need-mul-join-cost
 mul-join-cost c = search needs
@@ -34,10 +49,28 @@ shared-slice-read-join-cost : tie.Need-shared-slice-read-join-cost
 shared-slice-read-join-cost c = search needs
 
 join-cost-requires : tie.Need-join-cost-requires
-join-cost-requires c κs = let s = c .before .before .before .before .before .before in let ok = s .pre .0 .0 in let v = ok .valid in let h = s .pre .0 .3 in (found-cost _ v (ok .bounded) (s .args .t) _ _ _ (v .ab (s .args .t) h) (omega (arith, v .bc (s .args .t) h, v .cn (s .args .t) h)) (found-in-run (s .args .n) _ _ _ ok (s .args .work .now) (s .args .t) _ _ (s .pre .0 .4) (s .pre .1 .0) (c .before .before .best-under .result) (c .before .before .best-under .ensures)), found-cost _ v (ok .bounded) (s .args .t) _ _ _ (v .bc (s .args .t) h) (v .cn (s .args .t) h) (found-in-run (s .args .n) _ _ _ ok (s .args .work .now) (s .args .t) _ _ (s .pre .0 .4) (s .pre .1 .1) (c .before .best-under2 .result) (c .before .best-under2 .ensures)))
+join-cost-requires c κs =
+    let s = c .before .before .before .before .before .before in
+    let ok = s .pre .0 .0 in
+    let v = ok .valid in
+    let h = s .pre .0 .3 in (
+      found-cost _ v (ok .bounded) (s .args .t) _ _ _ (v .ab (s .args .t) h) (omega (arith, v .bc (s .args .t) h, v .cn (s .args .t) h))
+          (found-in-run (s .args .n) _ _ _ ok (s .args .work .now) (s .args .t) _ _ (s .pre .0 .4) (s .pre .1 .0)
+          (c .before .before .best-under .result) (c .before .before .best-under .ensures)),
+      found-cost _ v (ok .bounded) (s .args .t) _ _ _ (v .bc (s .args .t) h) (v .cn (s .args .t) h) (found-in-run (s .args .n) _ _ _ ok
+          (s .args .work .now) (s .args .t) _ _ (s .pre .0 .4) (s .pre .1 .1) (c .before .best-under2 .result) (c .before .best-under2 .ensures)),
+    )
 
 returns : tie.Need-returns
-returns c = let s = c .before .before .before .before .before .before .before in let ok = s .pre .0 .0 in let v = ok .valid in let h = s .pre .0 .3 in root-cost _ v (ok .bounded) (s .args .t) _ _ _ h (found-in-run (s .args .n) _ _ _ ok (s .args .work .now) (s .args .t) _ _ (s .pre .0 .4) (s .pre .1 .0) (c .before .before .before .best-under .result) (c .before .before .before .best-under .ensures) .cost) (found-in-run (s .args .n) _ _ _ ok (s .args .work .now) (s .args .t) _ _ (s .pre .0 .4) (s .pre .1 .1) (c .before .before .best-under2 .result) (c .before .before .best-under2 .ensures) .cost) (c .join-cost .ensures)
+returns c =
+    let s = c .before .before .before .before .before .before .before in
+    let ok = s .pre .0 .0 in
+    let v = ok .valid in
+    let h = s .pre .0 .3 in
+    root-cost _ v (ok .bounded) (s .args .t) _ _ _ h (found-in-run (s .args .n) _ _ _ ok (s .args .work .now) (s .args .t) _ _
+    (s .pre .0 .4) (s .pre .1 .0) (c .before .before .before .best-under .result) (c .before .before .before .best-under .ensures) .cost)
+    (found-in-run (s .args .n) _ _ _ ok (s .args .work .now) (s .args .t) _ _ (s .pre .0 .4) (s .pre .1 .1)
+    (c .before .before .best-under2 .result) (c .before .before .best-under2 .ensures) .cost) (c .join-cost .ensures)
 
 pub cost-of-spec : {M : Type 1} → statement M
 cost-of-spec =

@@ -18,7 +18,9 @@ add-result : tie.Need-add-result
 add-result c = search needs
 
 add-result-2 : tie.Need-add-result-2
-add-result-2 c = let s = c .before .before in ⊎-elim (λ l. absurd (omega arith)) (λ l. ⊎-elim (λ r. absurd (omega arith)) (λ r. omega (arith, s .fits .w)) (s .pre .1)) (s .pre .0)
+add-result-2 c =
+    let s = c .before .before in
+    ⊎-elim (λ l. absurd (omega arith)) (λ l. ⊎-elim (λ r. absurd (omega arith)) (λ r. omega (arith, s .fits .w)) (s .pre .1)) (s .pre .0)
 
 returns-3 : tie.Need-returns-3
 returns-3 c = sym (no _ _ (lt-leb _ _ (c .before .if1 .left)) ∙ no _ _ (lt-leb _ _ (c .if2 .left)))

@@ -21,7 +21,13 @@ loop-holds : tie.Need-loop-holds Inv-loop μ-loop
 loop-holds c = following-start (c .before .before .pre .2) (c .start .ensures .0 _) (c .start .ensures .1)
 
 step-requires : tie.Need-step-requires Inv-loop μ-loop
-step-requires c κs = (c .before .before .before .before .before .pre .0, c .before .before .before .before .before .pre .1, c .before .before .loop .inv .walking, c .if1 .taken, c .before .before .before .before .before .pre .2)
+step-requires c κs = (
+  c .before .before .before .before .before .pre .0,
+  c .before .before .before .before .before .pre .1,
+  c .before .before .loop .inv .walking,
+  c .if1 .taken,
+  c .before .before .before .before .before .pre .2,
+)
 
 stopped-requires : tie.Need-stopped-requires Inv-loop μ-loop
 stopped-requires c κs = search needs
@@ -35,13 +41,17 @@ mul-vertices : tie.Need-mul-vertices Inv-loop μ-loop
 mul-vertices c = let f = c .before .before .before .before .before .loop .inv in record { fits = omega (arith, f .walking .within, f .small) }
 
 array-set-from-vertices : tie.Need-array-set-from-vertices Inv-loop μ-loop
-array-set-from-vertices c = room (c .before .before .before .before .before .loop .inv) (c .before .before .before .if1 .taken) (c .before .before .step .ensures) (c .before .if2 .left)
+array-set-from-vertices c =
+    room (c .before .before .before .before .before .loop .inv) (c .before .before .before .if1 .taken)
+    (c .before .before .step .ensures) (c .before .if2 .left)
 
 mul-normals : tie.Need-mul-normals Inv-loop μ-loop
 mul-normals c = let f = c .before .before .before .before .before .before .loop .inv in record { fits = omega (arith, f .walking .within, f .small) }
 
 array-set-from-normals : tie.Need-array-set-from-normals Inv-loop μ-loop
-array-set-from-normals c = room (c .before .before .before .before .before .before .loop .inv) (c .before .before .before .before .if1 .taken) (c .before .before .before .step .ensures) (c .before .before .if2 .left)
+array-set-from-normals c =
+    room (c .before .before .before .before .before .before .loop .inv) (c .before .before .before .before .if1 .taken)
+    (c .before .before .before .step .ensures) (c .before .before .if2 .left)
 
 loop-less : tie.Need-loop-less Inv-loop μ-loop
 loop-less c =
@@ -50,7 +60,9 @@ loop-less c =
     omega (arith, e .next (c .before .before .if2 .left), at .loop .inv .walking .within, at .loop .inv .small)
 
 loop-again : tie.Need-loop-again Inv-loop μ-loop
-loop-again c = following-next (c .before .before .before .before .before .before .loop .inv) (c .before .before .before .before .if1 .taken) (c .before .before .before .step .ensures) (c .before .before .if2 .left)
+loop-again c =
+    following-next (c .before .before .before .before .before .before .loop .inv) (c .before .before .before .before .if1 .taken)
+    (c .before .before .before .step .ensures) (c .before .before .if2 .left)
 
 returns-2 : tie.Need-returns-2 Inv-loop μ-loop
 returns-2 c = following-end (c .before .before .loop .inv) (c .if1 .left)

@@ -23,7 +23,8 @@ stop-requires c κs = search needs
 returns : tie.Need-returns
 returns c =
     let s = c .before .before .before .before .before in
-    stopped-by (s .pre .2) 3 (omega arith) (link-due (s .pre .2) (omega (arith, c .before .before .record-count .ensures .0, c .before .if1 .taken))) (c .stop .ensures)
+    stopped-by (s .pre .2) 3 (omega arith)
+    (link-due (s .pre .2) (omega (arith, c .before .before .record-count .ensures .0, c .before .if1 .taken))) (c .stop .ensures)
 
 array-read-if2 : tie.Need-array-read-if2
 array-read-if2 c =
@@ -53,7 +54,8 @@ returns-3 c =
     let past = c .before .before .before .before in
     let s = past .before .before .before .before in
     stopped-by (s .pre .2) (overLimit (s .args .limit)) (omega (arith, over-least (s .args .limit)))
-    (over-due (s .pre .2) (omega (arith, past .before .record-count .ensures .0, past .if1 .left)) (whole _ (s .pre .1) .few) (c .before .before .before .if2 .left)
+    (over-due (s .pre .2) (omega (arith, past .before .record-count .ensures .0, past .if1 .left))
+    (whole _ (s .pre .1) .few) (c .before .before .before .if2 .left)
     (omega (arith, c .before .before .if3 .taken, s .pre .2 .within, s .pre .4)))
     (c .stop3 .ensures ∙ c .before .over-limit .ensures)
 
@@ -61,14 +63,26 @@ record-start-requires : tie.Need-record-start-requires
 record-start-requires c κs =
     let past = c .before .before in
     let s = past .before .before .before .before in
-    let b = bounds (now (s .args .file)) in
-    (omega (arith, header-as _ (s .pre .0), b .header), omega (arith, size-as _ (s .pre .0), b .most), positive _ (s .pre .3), omega (arith, whole _ (s .pre .1) .few, past .before .record-count .ensures .0, past .if1 .left))
+    let b = bounds (now (s .args .file)) in (
+      omega (arith, header-as _ (s .pre .0), b .header),
+      omega (arith, size-as _ (s .pre .0), b .most),
+      positive _ (s .pre .3),
+      omega (arith, whole _ (s .pre .1) .few, past .before .record-count .ensures .0, past .if1 .left),
+    )
 
 vertex-at-requires : tie.Need-vertex-at-requires
 vertex-at-requires c κs =
     let past = c .before .before .before in
-    let s = past .before .before .before .before in
-    (omega (arith, c .record-start .ensures, bounds (now (s .args .file)) .least, record-held _ (s .pre .0) (whole _ (s .pre .1)) (s .args .walk .link) (positive _ (s .pre .3)) (omega (arith, past .before .record-count .ensures .0, past .if1 .left))), s .pre .2 .on-grid)
+    let s = past .before .before .before .before in (
+      omega (
+        arith,
+        c .record-start .ensures,
+        bounds (now (s .args .file)) .least,
+        record-held _ (s .pre .0) (whole _ (s .pre .1)) (s .args .walk .link) (positive _ (s .pre .3))
+            (omega (arith, past .before .record-count .ensures .0, past .if1 .left)),
+      ),
+      s .pre .2 .on-grid,
+    )
 
 enum-known-code : tie.Need-enum-known-code
 enum-known-code c = search needs
@@ -83,8 +97,15 @@ normal-at-requires : tie.Need-normal-at-requires
 normal-at-requires c κs =
     let start = c .before .before .before .before in
     let past = start .before .before .before in
-    let s = past .before .before .before .before in
-    (s .pre .0, omega (arith, start .record-start .ensures, record-held _ (s .pre .0) (whole _ (s .pre .1)) (s .args .walk .link) (positive _ (s .pre .3)) (omega (arith, past .before .record-count .ensures .0, past .if1 .left))))
+    let s = past .before .before .before .before in (
+      s .pre .0,
+      omega (
+        arith,
+        start .record-start .ensures,
+        record-held _ (s .pre .0) (whole _ (s .pre .1)) (s .args .walk .link) (positive _ (s .pre .3))
+            (omega (arith, past .before .record-count .ensures .0, past .if1 .left)),
+      ),
+    )
 
 normal-code-requires : tie.Need-normal-code-requires
 normal-code-requires c κs = search needs
@@ -99,7 +120,8 @@ returns-4 c =
     let past = new .before .before in
     let s = past .before .before .before .before in
     normal-stops (s .pre .2) (omega (arith, past .before .record-count .ensures .0, past .if1 .left)) (whole _ (s .pre .1) .few) (new .before .if2 .left)
-    (omega (arith, s .pre .2 .within, new .if3 .left)) _ (read .before .record-start .ensures ∙ start-as _ (s .pre .0) (s .args .walk .link)) _ (sym (read .vertex-at .ensures) ∙ c .before .before .before .before .before .vertex .given .1)
+    (omega (arith, s .pre .2 .within, new .if3 .left)) _ (read .before .record-start .ensures ∙ start-as _ (s .pre .0) (s .args .walk .link)) _
+    (sym (read .vertex-at .ensures) ∙ c .before .before .before .before .before .vertex .given .1)
     _ (c .before .before .before .normal-at .ensures) (c .before .before .normal-code .ensures) (omega (arith, c .before .if4 .taken)) (c .stop5 .ensures)
 
 array-write-met : tie.Need-array-write-met
@@ -113,7 +135,13 @@ u16-at-requires : tie.Need-u16-at-requires
 u16-at-requires c κs =
     let past = c .before .before .before .before .before .before .before .before .before .before .before in
     let s = past .before .before .before .before in
-    omega (arith, c .before .before .before .before .before .before .before .before .record-start .ensures, bounds (now (s .args .file)) .least, record-held _ (s .pre .0) (whole _ (s .pre .1)) (s .args .walk .link) (positive _ (s .pre .3)) (omega (arith, past .before .record-count .ensures .0, past .if1 .left)))
+    omega (
+      arith,
+      c .before .before .before .before .before .before .before .before .record-start .ensures,
+      bounds (now (s .args .file)) .least,
+      record-held _ (s .pre .0) (whole _ (s .pre .1)) (s .args .walk .link) (positive _ (s .pre .3))
+          (omega (arith, past .before .record-count .ensures .0, past .if1 .left)),
+    )
 
 cast-t29 : tie.Need-cast-t29
 cast-t29 c = search needs
@@ -125,7 +153,8 @@ returns-5 c =
     let past = new .before .before in
     let s = past .before .before .before .before in
     record-stops (s .pre .2) (omega (arith, past .before .record-count .ensures .0, past .if1 .left)) (whole _ (s .pre .1) .few) (new .before .if2 .left)
-    (omega (arith, s .pre .2 .within, new .if3 .left)) _ (read .before .record-start .ensures ∙ start-as _ (s .pre .0) (s .args .walk .link)) _ (sym (read .vertex-at .ensures) ∙ c .before .before .code .given .1) (c .stop4 .ensures)
+    (omega (arith, s .pre .2 .within, new .if3 .left)) _ (read .before .record-start .ensures ∙ start-as _ (s .pre .0) (s .args .walk .link)) _
+    (sym (read .vertex-at .ensures) ∙ c .before .before .code .given .1) (c .stop4 .ensures)
 
 returns-6 : tie.Need-returns-6
 returns-6 c =
@@ -134,8 +163,10 @@ returns-6 c =
     let past = new .before .before in
     let s = past .before .before .before .before in
     record-passes (s .pre .2) (omega (arith, past .before .record-count .ensures .0, past .if1 .left)) (whole _ (s .pre .1) .few) (new .before .if2 .left)
-    (omega (arith, s .pre .2 .within, new .if3 .left)) _ (read .before .record-start .ensures ∙ start-as _ (s .pre .0) (s .args .walk .link)) _ (sym (read .vertex-at .ensures) ∙ c .before .before .before .before .before .before .vertex .given .1)
-    _ (c .before .before .before .before .normal-at .ensures) _ (omega (arith, c .before .before .before .normal-code .ensures, c .before .before .if4 .left)) (c .u16-at .ensures .0)
+    (omega (arith, s .pre .2 .within, new .if3 .left)) _ (read .before .record-start .ensures ∙ start-as _ (s .pre .0) (s .args .walk .link)) _
+    (sym (read .vertex-at .ensures) ∙ c .before .before .before .before .before .before .vertex .given .1)
+    _ (c .before .before .before .before .normal-at .ensures) _
+    (omega (arith, c .before .before .before .normal-code .ensures, c .before .before .if4 .left)) (c .u16-at .ensures .0)
 
 pub step-spec : {M : Type 1} → statement M
 step-spec =

@@ -14,7 +14,8 @@ use Rattle.rim_file.proofs.edition.is_edition_2.Tie as tie
 returns : tie.Need-returns
 returns c =
     let s = now (c .before .before .args .s) in
-    sym (ne-eqb (u16At s 0) marker (λ e. omega (arith, e, c .before .shared-slice-known .given 0, List·getD-eq-default s 0 {n = 1} (omega (arith, c .if1 .taken)))))
+    sym (ne-eqb (u16At s 0) marker
+    (λ e. omega (arith, e, c .before .shared-slice-known .given 0, List·getD-eq-default s 0 {n = 1} (omega (arith, c .if1 .taken)))))
 
 u16-at-requires : tie.Need-u16-at-requires
 u16-at-requires c κs = search needs

@@ -33,7 +33,15 @@ mul-result c =
 add-result : tie.Need-add-result
 add-result c =
     let e = c .before .before .before .before .before .before .pre in
-    record { fits = omega (arith, header-as _ e, bounds (now (c .before .before .before .before .before .before .args .s)) .header, records-size _ e (c .before .before .record-count .result), c .before .if2 .left) }
+    record {
+      fits = omega (
+        arith,
+        header-as _ e,
+        bounds (now (c .before .before .before .before .before .before .args .s)) .header,
+        records-size _ e (c .before .before .record-count .result),
+        c .before .if2 .left,
+      );
+    }
 
 returns-3 : tie.Need-returns-3
 returns-3 c =

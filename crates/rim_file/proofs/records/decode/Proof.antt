@@ -43,7 +43,11 @@ returns c =
 
 returns-2 : tie.Need-returns-2
 unfolding recordAt
-returns-2 c = simp (ne-via (c .before .before .before .u16-at .ensures .0) (c .before .before .if1 .left), eq-via (c .before .before .before .u16-at .ensures .0) (c .before .if2 .taken), not-true (c .before .before .before .before .before .args .height-known) (c .if3 .taken))
+returns-2 c = simp (
+  ne-via (c .before .before .before .u16-at .ensures .0) (c .before .before .if1 .left),
+  eq-via (c .before .before .before .u16-at .ensures .0) (c .before .if2 .taken),
+  not-true (c .before .before .before .before .before .args .height-known) (c .if3 .taken),
+)
 
 add-u32-at : tie.Need-add-u32-at
 add-u32-at c = search needs

@@ -26,7 +26,9 @@ place-requires c κs = (
 
 returns : tie.Need-returns
 unfolding vertexOf
-returns c = c .place .ensures ∙ rw (c .before .before .before .grid-number .ensures, c .before .before .grid-number2 .ensures, c .before .grid-number3 .ensures) (point-placed _ _ _)
+returns c =
+    c .place .ensures ∙ rw
+    (c .before .before .before .grid-number .ensures, c .before .before .grid-number2 .ensures, c .before .grid-number3 .ensures) (point-placed _ _ _)
 
 pub grid-point-spec : {M : Type 1} → statement M
 grid-point-spec =

@@ -24,7 +24,10 @@ place-requires c κs = (
 
 returns : tie.Need-returns
 unfolding vertexOf
-returns c = c .place .ensures ∙ rw (c .before .before .grid-number .ensures, c .before .grid-number2 .ensures, toZ-ofZ (c .before .before .before .fits .height)) (level-placed _ _ _)
+returns c =
+    c .place .ensures
+    ∙ rw (c .before .before .grid-number .ensures, c .before .grid-number2 .ensures, toZ-ofZ (c .before .before .before .fits .height))
+    (level-placed _ _ _)
 
 pub level-point-spec : {M : Type 1} → statement M
 level-point-spec =

@@ -59,7 +59,8 @@ returns-5 : tie.Need-returns-5
 unfolding placed
 returns-5 c =
     simp (
-      holds-via (c .before .before .before .before .before .before .before .before .before .is-finite .ensures) (c .before .before .before .before .before .before .before .before .if1 .left),
+      holds-via (c .before .before .before .before .before .before .before .before .before .is-finite .ensures)
+          (c .before .before .before .before .before .before .before .before .if1 .left),
       holds-via (c .before .before .before .before .before .before .before .is-finite2 .ensures) (c .before .before .before .before .before .before .if2 .left),
       holds-via (c .before .before .before .before .before .is-finite3 .ensures) (c .before .before .before .before .if3 .left),
       holds-via (c .before .before .before .is-value .ensures) (c .before .before .if4 .left),
@@ -73,8 +74,10 @@ returns-6 : tie.Need-returns-6
 unfolding placed
 returns-6 c =
     simp (
-      holds-via (c .before .before .before .before .before .before .before .before .before .before .before .is-finite .ensures) (c .before .before .before .before .before .before .before .before .before .before .if1 .left),
-      holds-via (c .before .before .before .before .before .before .before .before .before .is-finite2 .ensures) (c .before .before .before .before .before .before .before .before .if2 .left),
+      holds-via (c .before .before .before .before .before .before .before .before .before .before .before .is-finite .ensures)
+          (c .before .before .before .before .before .before .before .before .before .before .if1 .left),
+      holds-via (c .before .before .before .before .before .before .before .before .before .is-finite2 .ensures)
+          (c .before .before .before .before .before .before .before .before .if2 .left),
       holds-via (c .before .before .before .before .before .before .before .is-finite3 .ensures) (c .before .before .before .before .before .before .if3 .left),
       holds-via (c .before .before .before .before .before .is-value .ensures) (c .before .before .before .before .if4 .left),
       holds-via (c .before .before .before .is-value2 .ensures) (c .before .before .if5 .left),
@@ -92,9 +95,12 @@ value-of-requires-3 c κs = search needs
 
 new-requires : tie.Need-new-requires
 new-requires c κs = (
-  subst OnGrid (sym (machine-holds (c .before .before .value-of .ok) (c .before .before .value-of .ensures))) (c .before .before .before .before .before .before .before .before .before .before .before .before .before .before .before .pre .0),
-  subst OnGrid (sym (machine-holds (c .before .value-of2 .ok) (c .before .value-of2 .ensures))) (c .before .before .before .before .before .before .before .before .before .before .before .before .before .before .before .pre .1),
-  subst OnGrid (sym (machine-holds (c .value-of3 .ok) (c .value-of3 .ensures))) (c .before .before .before .before .before .before .before .before .before .before .before .before .before .before .before .pre .2),
+  subst OnGrid (sym (machine-holds (c .before .before .value-of .ok) (c .before .before .value-of .ensures)))
+      (c .before .before .before .before .before .before .before .before .before .before .before .before .before .before .before .pre .0),
+  subst OnGrid (sym (machine-holds (c .before .value-of2 .ok) (c .before .value-of2 .ensures)))
+      (c .before .before .before .before .before .before .before .before .before .before .before .before .before .before .before .pre .1),
+  subst OnGrid (sym (machine-holds (c .value-of3 .ok) (c .value-of3 .ensures)))
+      (c .before .before .before .before .before .before .before .before .before .before .before .before .before .before .before .pre .2),
 )
 
 returns-7 : tie.Need-returns-7
@@ -107,10 +113,14 @@ returns-7 c =
     (machine-holds (c .before .value-of3 .ok) (c .before .value-of3 .ensures)))
     ∙ sym
     (values-placed _ _ _
-    (holds-via (c .before .before .before .before .before .before .before .before .before .before .before .before .before .before .before .is-finite .ensures) (c .before .before .before .before .before .before .before .before .before .before .before .before .before .before .if1 .left))
-    (holds-via (c .before .before .before .before .before .before .before .before .before .before .before .before .before .is-finite2 .ensures) (c .before .before .before .before .before .before .before .before .before .before .before .before .if2 .left))
-    (holds-via (c .before .before .before .before .before .before .before .before .before .before .before .is-finite3 .ensures) (c .before .before .before .before .before .before .before .before .before .before .if3 .left))
-    (holds-via (c .before .before .before .before .before .before .before .before .before .is-value .ensures) (c .before .before .before .before .before .before .before .before .if4 .left))
+    (holds-via (c .before .before .before .before .before .before .before .before .before .before .before .before .before .before .before .is-finite
+    .ensures) (c .before .before .before .before .before .before .before .before .before .before .before .before .before .before .if1 .left))
+    (holds-via (c .before .before .before .before .before .before .before .before .before .before .before .before .before .is-finite2 .ensures)
+    (c .before .before .before .before .before .before .before .before .before .before .before .before .if2 .left))
+    (holds-via (c .before .before .before .before .before .before .before .before .before .before .before .is-finite3 .ensures)
+    (c .before .before .before .before .before .before .before .before .before .before .if3 .left))
+    (holds-via (c .before .before .before .before .before .before .before .before .before .is-value .ensures)
+    (c .before .before .before .before .before .before .before .before .if4 .left))
     (holds-via (c .before .before .before .before .before .before .before .is-value2 .ensures) (c .before .before .before .before .before .before .if5 .left))
     (holds-via (c .before .before .before .before .before .is-value3 .ensures) (c .before .before .before .before .if6 .left))
     )

@@ -28,7 +28,8 @@ height-of-requires : tie.Need-height-of-requires
 height-of-requires c κs = search needs
 
 level-point-requires : tie.Need-level-point-requires
-level-point-requires c κs = subst OnGrid (sym (machine-holds (c .height-of .ok) (c .height-of .ensures))) (c .before .before .before .before .before .before .before .pre .1)
+level-point-requires c κs =
+    subst OnGrid (sym (machine-holds (c .height-of .ok) (c .height-of .ensures))) (c .before .before .before .before .before .before .before .pre .1)
 
 enum-known-code : tie.Need-enum-known-code
 enum-known-code c = search needs
@@ -37,18 +38,29 @@ returns : tie.Need-returns
 unfolding vertexOf
 returns c =
     c .grid-point .ensures
-    ∙ ap (λ r. vertexOf r (heightOf (c .before .before .before .before .before .before .before .args .height))) (sym (c .before .before .c .given .1) ∙ c .before .before .before .before .decode .ensures ∙ ap (λ k. recordAt (now (c .before .before .before .before .before .before .before .args .s)) (c .before .before .before .before .before .before .before .args .at) k) (c .before .before .before .before .before .height-known .ensures))
+    ∙ ap (λ r. vertexOf r (heightOf (c .before .before .before .before .before .before .before .args .height)))
+    (sym (c .before .before .c .given .1) ∙ c .before .before .before .before .decode .ensures
+    ∙ ap (λ k. recordAt (now (c .before .before .before .before .before .before .before .args .s))
+    (c .before .before .before .before .before .before .before .args .at) k) (c .before .before .before .before .before .height-known .ensures))
 
 returns-2 : tie.Need-returns-2
 returns-2 c =
     c .level-point .ensures
-    ∙ ap (λ h. vertexOf (Level (c .before .before .before .x .given .0 .0) (c .before .before .before .x .given .0 .1 .0)) h) (machine-holds (c .before .height-of .ok) (c .before .height-of .ensures))
-    ∙ ap (λ r. vertexOf r (heightOf (c .before .before .before .before .before .before .before .before .args .height))) (sym (c .before .before .before .x .given .1) ∙ c .before .before .before .before .before .decode .ensures ∙ ap (λ k. recordAt (now (c .before .before .before .before .before .before .before .before .args .s)) (c .before .before .before .before .before .before .before .before .args .at) k) (c .before .before .before .before .before .before .height-known .ensures))
+    ∙ ap (λ h. vertexOf (Level (c .before .before .before .x .given .0 .0) (c .before .before .before .x .given .0 .1 .0)) h)
+    (machine-holds (c .before .height-of .ok) (c .before .height-of .ensures))
+    ∙ ap (λ r. vertexOf r (heightOf (c .before .before .before .before .before .before .before .before .args .height)))
+    (sym (c .before .before .before .x .given .1) ∙ c .before .before .before .before .before .decode .ensures
+    ∙ ap (λ k. recordAt (now (c .before .before .before .before .before .before .before .before .args .s))
+    (c .before .before .before .before .before .before .before .before .args .at) k)
+    (c .before .before .before .before .before .before .height-known .ensures))
 
 returns-3 : tie.Need-returns-3
 unfolding vertexOf
 returns-3 c =
-    ap (λ r. vertexOf r (heightOf (c .before .before .before .before .before .before .args .height))) (sym (c .before .code .given .1) ∙ c .before .before .before .decode .ensures ∙ ap (λ k. recordAt (now (c .before .before .before .before .before .before .args .s)) (c .before .before .before .before .before .before .args .at) k) (c .before .before .before .before .height-known .ensures))
+    ap (λ r. vertexOf r (heightOf (c .before .before .before .before .before .before .args .height)))
+    (sym (c .before .code .given .1) ∙ c .before .before .before .decode .ensures
+    ∙ ap (λ k. recordAt (now (c .before .before .before .before .before .before .args .s))
+    (c .before .before .before .before .before .before .args .at) k) (c .before .before .before .before .height-known .ensures))
 
 pub vertex-at-spec : {M : Type 1} → statement M
 vertex-at-spec =

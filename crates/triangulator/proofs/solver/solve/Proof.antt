@@ -22,7 +22,9 @@ block-starts-requires : tie.Need-block-starts-requires
 block-starts-requires c κs = search needs
 
 least-total-requires : tie.Need-least-total-requires
-least-total-requires c κs = let s = c .before .before .before .before .before .before in (s .pre .0, starts-of _ (s .pre .0 .ascending .by-first) (c .before .before .block-starts .ensures), s .pre .1)
+least-total-requires c κs =
+    let s = c .before .before .before .before .before .before in
+    (s .pre .0, starts-of _ (s .pre .0 .ascending .by-first) (c .before .before .block-starts .ensures), s .pre .1)
 
 clear-requires : tie.Need-clear-requires
 clear-requires c κs = search needs
@@ -35,16 +37,20 @@ returns c =
     let g = c .before .before .before .before .before in
     let s = call g in
     let e = totals g .least-total .ensures in
-    let z = no-key (s .args .n) _ _ _ (s .pre .0) (omega (arith, e .0, c .before .before .before .before .if1 .taken)) in
-    (sym (ap costOf z), (sym (ap (λ k. filled (restOf k) (s .args .triangles .now)) z), cleared _ (s .args .work .now) (e .1) (c .before .before .clear .ensures)))
+    let z = no-key (s .args .n) _ _ _ (s .pre .0) (omega (arith, e .0, c .before .before .before .before .if1 .taken)) in (
+      sym (ap costOf z),
+      (sym (ap (λ k. filled (restOf k) (s .args .triangles .now)) z), cleared _ (s .args .work .now) (e .1) (c .before .before .clear .ensures)),
+    )
 
 write-preorder-requires : tie.Need-write-preorder-requires
 write-preorder-requires c κs =
     let g = c .before .before .before .before in
     let s = call g in
     let e = totals g .least-total .ensures in
-    let t = starts-of _ (s .pre .0 .ascending .by-first) (totals g .before .before .before .block-starts .ensures) in
-    ((s .pre .0, t, omega (arith, s .pre .1, filled-long _ _ (s .pre .1) (e .1)), s .pre .2), (filled-ready _ _ (s .pre .1) (e .1), omega (arith, e .0, c .before .before .before .if1 .left)))
+    let t = starts-of _ (s .pre .0 .ascending .by-first) (totals g .before .before .before .block-starts .ensures) in (
+      (s .pre .0, t, omega (arith, s .pre .1, filled-long _ _ (s .pre .1) (e .1)), s .pre .2),
+      (filled-ready _ _ (s .pre .1) (e .1), omega (arith, e .0, c .before .before .before .if1 .left)),
+    )
 
 clear-requires-2 : tie.Need-clear-requires-2
 clear-requires-2 c κs = search needs
@@ -58,8 +64,13 @@ same-length-3 c = search needs
 returns-2 : tie.Need-returns-2
 returns-2 c =
     let g = c .before .before .before .before .before .before .before .before .before .before .before in
-    let e = totals g .least-total .ensures in
-    (e .0, (c .before .before .before .before .before .before .write-preorder .ensures, cleared _ (call g .args .work .now) (e .1) (c .before .before .clear2 .ensures)))
+    let e = totals g .least-total .ensures in (
+      e .0,
+      (
+        c .before .before .before .before .before .before .write-preorder .ensures,
+        cleared _ (call g .args .work .now) (e .1) (c .before .before .clear2 .ensures),
+      ),
+    )
 
 pub solve-spec : {M : Type 1} → statement M
 solve-spec =

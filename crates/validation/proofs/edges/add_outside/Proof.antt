@@ -26,8 +26,12 @@ array-read-add-4 c = search needs
 
 add-requires-2 : tie.Need-add-requires-2
 add-requires-2 c κs =
-    let s = c .before .before .before in
-    (s .pre .1, s .pre .2, subst (λ (l : List ℕ). Room l (vertexB (s .args .t2)) (vertexC (s .args .t2))) (sym (c .before .add .ensures)) (room-kept (s .args .table .now) (vertexA (s .args .t2)) (vertexB (s .args .t2)) (vertexC (s .args .t2)) (s .pre .0) (s .pre .1) (s .pre .2) (s .pre .4)))
+    let s = c .before .before .before in (
+      s .pre .1,
+      s .pre .2,
+      subst (λ (l : List ℕ). Room l (vertexB (s .args .t2)) (vertexC (s .args .t2))) (sym (c .before .add .ensures)) (room-kept (s .args .table .now)
+          (vertexA (s .args .t2)) (vertexB (s .args .t2)) (vertexC (s .args .t2)) (s .pre .0) (s .pre .1) (s .pre .2) (s .pre .4)),
+    )
 
 returns : tie.Need-returns
 returns c =

@@ -13,13 +13,17 @@ use Rattle.validation.proofs.edges.count_edges.Statement.{statement}
 use Rattle.validation.proofs.edges.count_edges.Tie as tie
 
 abbrev Inv-loop : tie.InvT-loop
-Inv-loop candidates list between₀ outside₀ i₀ i-end between outside i = (i-end ≡ length list) × (i ≤ length list) × Counted candidates (take i list) between outside
+Inv-loop candidates list between₀ outside₀ i₀ i-end between outside i =
+    (i-end ≡ length list) × (i ≤ length list) × Counted candidates (take i list) between outside
 
 abbrev μ-loop : tie.MeasureT-loop
 μ-loop candidates list between₀ outside₀ i₀ i-end between outside i = i-end - i
 
 loop-holds : tie.Need-loop-holds Inv-loop μ-loop
-loop-holds c = let s = c .before in let l = s .args .list .now in (refl, omega arith, record { on-between = zeros-sums _ l (s .pre .1); on-outside = zeros-sums _ l (s .pre .2) })
+loop-holds c =
+    let s = c .before in
+    let l = s .args .list .now in
+    (refl, omega arith, record { on-between = zeros-sums _ l (s .pre .1); on-outside = zeros-sums _ l (s .pre .2) })
 
 -- in a turn: the call, and the triangle that the list names
 module _ (g : tie.In-loop Inv-loop μ-loop) where
@@ -92,7 +96,8 @@ returns c =
     let s = c .before .before .before .args in
     let l = c .before .loop in
     let e : l .i ≡ length (s .list .now) = omega arith in
-    subst (λ (k : List ℕ). Counted (s .candidates .now) k (l .between) (l .outside)) (ap (λ (k : ℕ). take k (s .list .now)) e ∙ take-length (s .list .now)) (l .inv .2)
+    subst (λ (k : List ℕ). Counted (s .candidates .now) k (l .between) (l .outside))
+    (ap (λ (k : ℕ). take k (s .list .now)) e ∙ take-length (s .list .now)) (l .inv .2)
 
 pub count-edges-spec : {M : Type 1} → statement M
 count-edges-spec =

@@ -11,7 +11,8 @@ use Rattle.validation.proofs.edges.edge_fits.Tie as tie
 
 -- by whether the edge is on the rim
 by-rim : (s : tie.Start) {b : Bool} → isBoundary (verticesAlone (s .args .n)) (s .args .i) (s .args .j) ≡ b
-    → edgeOk (verticesAlone (s .args .n)) (isBoundary (verticesAlone (s .args .n)) (s .args .i) (s .args .j)) (s .args .between) (s .args .outside) ≡ edgeOk (verticesAlone (s .args .n)) b (s .args .between) (s .args .outside)
+    → edgeOk (verticesAlone (s .args .n)) (isBoundary (verticesAlone (s .args .n)) (s .args .i) (s .args .j)) (s .args .between) (s .args .outside)
+    ≡ edgeOk (verticesAlone (s .args .n)) b (s .args .between) (s .args .outside)
 by-rim s e = ap (λ (b : Bool). edgeOk (verticesAlone (s .args .n)) b (s .args .between) (s .args .outside)) e
 
 add-triangles : tie.Need-add-triangles
@@ -29,7 +30,9 @@ module _ (g : tie.Else1) where
   inside = sym (g .before .is-boundary .ensures) ∙ g .if1 .left
 
 returns-2 : tie.Need-returns-2
-returns-2 c = let s = c .before .before .before in sym (by-rim s (inside (c .before)) ∙ inner-unused (s .args .n) (s .args .between) (s .args .outside) (omega (arith, c .if2 .taken)))
+returns-2 c =
+    let s = c .before .before .before in
+    sym (by-rim s (inside (c .before)) ∙ inner-unused (s .args .n) (s .args .between) (s .args .outside) (omega (arith, c .if2 .taken)))
 
 returns-3 : tie.Need-returns-3
 returns-3 c =

@@ -45,7 +45,8 @@ module _ (g : tie.After-edge-fits Inv-loop μ-loop) where
   fits =
       let a = call .args in
       g .edge-fits .ensures
-      ∙ ap (λ (p : ℕ). edgeOk (verticesAlone (a .n)) (isBoundary (verticesAlone (a .n)) vertex (a .j)) (getD (a .between .now) p 0) (getD (a .outside .now) p 0)) (g .before .before .before .edge-index .ensures .0)
+      ∙ ap (λ (p : ℕ). edgeOk (verticesAlone (a .n)) (isBoundary (verticesAlone (a .n)) vertex (a .j)) (getD (a .between .now) p 0)
+      (getD (a .outside .now) p 0)) (g .before .before .before .edge-index .ensures .0)
 
 returns : tie.Need-returns Inv-loop μ-loop
 returns c =

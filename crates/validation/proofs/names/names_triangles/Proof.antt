@@ -15,21 +15,26 @@ use Rattle.validation.proofs.names.names_triangles.Tie as tie
 
 -- the list has n − 2 numbers, and what is left to test gives what the whole does
 abbrev Inv-loop : tie.InvT-loop
-Inv-loop n count list i₀ i-end i = (i-end ≡ length list) × (length list ≡ n - 2) × (every i (length list) (λ t. ltb (getD list t 0) count) ≡ allBelowBound list count)
+Inv-loop n count list i₀ i-end i =
+    (i-end ≡ length list) × (length list ≡ n - 2) × (every i (length list) (λ t. ltb (getD list t 0) count) ≡ allBelowBound list count)
 
 abbrev μ-loop : tie.MeasureT-loop
 μ-loop n count list i₀ i-end i = i-end - i
 
 module _ (s : tie.Start Inv-loop μ-loop) (long : length (s .args .list .now) ≡ s .args .n - 2) where
   -- then the test is that of the numbers
-  whole : (b : Bool) → b ≡ allBelowBound (s .args .list .now) (s .args .count) → b ≡ both (eqb (length (s .args .list .now)) (s .args .n - 2)) (allBelowBound (s .args .list .now) (s .args .count))
+  whole : (b : Bool) → b ≡ allBelowBound (s .args .list .now) (s .args .count) →
+      b ≡ both (eqb (length (s .args .list .now)) (s .args .n - 2)) (allBelowBound (s .args .list .now) (s .args .count))
   whole b e = e ∙ sym (yes _ _ (eq-eqb (length (s .args .list .now)) (s .args .n - 2) long))
 
 sub-if1 : tie.Need-sub-if1 Inv-loop μ-loop
 sub-if1 c = omega (arith, c .pre)
 
 returns : tie.Need-returns Inv-loop μ-loop
-returns c = let s = c .before in sym (no _ _ (ne-eqb (length (s .args .list .now)) (s .args .n - 2) (λ (q : length (s .args .list .now) ≡ s .args .n - 2). omega (arith, c .if1 .taken))))
+returns c =
+    let s = c .before in
+    sym (no _ _
+    (ne-eqb (length (s .args .list .now)) (s .args .n - 2) (λ (q : length (s .args .list .now) ≡ s .args .n - 2). omega (arith, c .if1 .taken))))
 
 loop-holds : tie.Need-loop-holds Inv-loop μ-loop
 loop-holds c = (refl, omega (arith, c .if1 .left), refl)

@@ -40,7 +40,8 @@ returns : tie.Need-returns
 returns c =
     let a = c .before .before .before .before .before .before .args in
     let i = getD (a .list .now) (a .k) 0 in
-    sym (ap (λ b. only b (pairWeight (a .rows .now) (a .o) i)) (fails-via (c .before .hangs-on .ensures ∙ hangs-is 0 (a .candidates .now) [] [] i (a .o)) (c .if1 .taken)))
+    sym (ap (λ b. only b (pairWeight (a .rows .now) (a .o) i))
+    (fails-via (c .before .hangs-on .ensures ∙ hangs-is 0 (a .candidates .now) [] [] i (a .o)) (c .if1 .taken)))
 
 row-weight-requires : tie.Need-row-weight-requires
 row-weight-requires c κs = search needs
@@ -50,7 +51,8 @@ returns-2 c =
     let a = c .before .before .before .before .before .before .before .args in
     let i = getD (a .list .now) (a .k) 0 in
     c .row-weight .ensures
-    ∙ sym (ap (λ b. only b (pairWeight (a .rows .now) (a .o) i)) (holds-via (c .before .before .hangs-on .ensures ∙ hangs-is 0 (a .candidates .now) [] [] i (a .o)) (c .before .if1 .left)))
+    ∙ sym (ap (λ b. only b (pairWeight (a .rows .now) (a .o) i))
+    (holds-via (c .before .before .hangs-on .ensures ∙ hangs-is 0 (a .candidates .now) [] [] i (a .o)) (c .before .if1 .left)))
 
 pub hanging-row-spec : {M : Type 1} → statement M
 hanging-row-spec =

@@ -11,7 +11,8 @@ use Rattle.validation.proofs.totals.hanging_rows.Statement.{statement}
 use Rattle.validation.proofs.totals.hanging_rows.Tie as tie
 
 abbrev Inv-loop : tie.InvT-loop
-Inv-loop candidates rows list o total₀ k₀ k-end total k = (k-end ≡ length list) × (k ≤ length list) × (total ≡ sum (hangingRow candidates rows o) (take k list)) × (total ≤ 2 ^ 32 * k)
+Inv-loop candidates rows list o total₀ k₀ k-end total k =
+    (k-end ≡ length list) × (k ≤ length list) × (total ≡ sum (hangingRow candidates rows o) (take k list)) × (total ≤ 2 ^ 32 * k)
 
 abbrev μ-loop : tie.MeasureT-loop
 μ-loop candidates rows list o total₀ k₀ k-end total k = k-end - k
@@ -40,7 +41,8 @@ loop-again c =
     let l = c .before .before .loop in (
       l .inv .0,
       omega arith,
-      ap₂ (λ (x y : ℕ). x + y) (l .inv .2) (c .hanging-row .ensures) ∙ sym (sum-next (hangingRow (s .candidates .now) (s .rows .now) (s .o)) (s .list .now) (l .k) (omega arith)),
+      ap₂ (λ (x y : ℕ). x + y) (l .inv .2) (c .hanging-row .ensures)
+          ∙ sym (sum-next (hangingRow (s .candidates .now) (s .rows .now) (s .o)) (s .list .now) (l .k) (omega arith)),
       omega arith,
     )
 
@@ -50,7 +52,8 @@ returns c =
     let a = s .args in
     let l = c .before .loop in
     let e : l .k ≡ length (a .list .now) = omega arith in (
-      l .inv .2 ∙ ap (λ (k : ℕ). sum (hangingRow (a .candidates .now) (a .rows .now) (a .o)) (take k (a .list .now))) e ∙ ap (sum (hangingRow (a .candidates .now) (a .rows .now) (a .o))) (take-length (a .list .now)),
+      l .inv .2 ∙ ap (λ (k : ℕ). sum (hangingRow (a .candidates .now) (a .rows .now) (a .o)) (take k (a .list .now))) e
+          ∙ ap (sum (hangingRow (a .candidates .now) (a .rows .now) (a .o))) (take-length (a .list .now)),
       omega (arith, s .pre .0 .short-list),
     )
 

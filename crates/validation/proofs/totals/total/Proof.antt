@@ -14,7 +14,9 @@ use Rattle.validation.proofs.totals.total.Statement.{statement}
 use Rattle.validation.proofs.totals.total.Tie as tie
 
 abbrev Inv-loop : tie.InvT-loop
-Inv-loop candidates weights rows list total₀ k₀ k-end total k = (k-end ≡ length list) × (k ≤ length list) × (total ≡ sum (share (problemFrom 0 candidates weights rows) list) (take k list)) × (total ≤ 2 ^ 40 * k)
+Inv-loop candidates weights rows list total₀ k₀ k-end total k =
+    (k-end ≡ length list) × (k ≤ length list)
+    × (total ≡ sum (share (problemFrom 0 candidates weights rows) list) (take k list)) × (total ≤ 2 ^ 40 * k)
 
 abbrev μ-loop : tie.MeasureT-loop
 μ-loop candidates weights rows list total₀ k₀ k-end total k = k-end - k
@@ -43,13 +45,21 @@ shared-slice-read-total : tie.Need-shared-slice-read-total Inv-loop μ-loop
 shared-slice-read-total c = let s = c .before .before .before .before .before .before in omega (arith, named (c .before .before), s .pre .1)
 
 cast-total : tie.Need-cast-total Inv-loop μ-loop
-cast-total c = omega (arith, c .shared-slice-known4 .given (getD (c .before .before .before .before .before .before .args .list .now) (c .before .before .before .loop .k) 0))
+cast-total c = omega (
+  arith,
+  c .shared-slice-known4 .given (getD (c .before .before .before .before .before .before .args .list .now) (c .before .before .before .loop .k) 0),
+)
 
 hanging-rows-requires : tie.Need-hanging-rows-requires Inv-loop μ-loop
 hanging-rows-requires c κs = let s = c .before .before .before .before .before .before in (s .pre .0, named (c .before .before), s .pre .2)
 
 add-total : tie.Need-add-total Inv-loop μ-loop
-add-total c = omega (arith, c .hanging-rows .ensures .1, c .before .shared-slice-known4 .given (getD (c .before .before .before .before .before .before .before .args .list .now) (c .before .before .before .before .loop .k) 0))
+add-total c = omega (
+  arith,
+  c .hanging-rows .ensures .1,
+  c .before .shared-slice-known4 .given
+      (getD (c .before .before .before .before .before .before .before .args .list .now) (c .before .before .before .before .loop .k) 0),
+)
 
 add-total-2 : tie.Need-add-total-2 Inv-loop μ-loop
 add-total-2 c =
@@ -70,7 +80,8 @@ loop-again c =
     let o = getD (s .list .now) (l .k) 0 in (
       l .inv .0,
       omega arith,
-      ap₂ (λ (x y : ℕ). x + (getD (s .weights .now) o 0 + y)) (l .inv .2) (c .hanging-rows .ensures .0) ∙ sym (sum-next (share (problemFrom 0 (s .candidates .now) (s .weights .now) (s .rows .now)) (s .list .now)) (s .list .now) (l .k) (omega arith)),
+      ap₂ (λ (x y : ℕ). x + (getD (s .weights .now) o 0 + y)) (l .inv .2) (c .hanging-rows .ensures .0) ∙ sym
+          (sum-next (share (problemFrom 0 (s .candidates .now) (s .weights .now) (s .rows .now)) (s .list .now)) (s .list .now) (l .k) (omega arith)),
       omega (arith, c .hanging-rows .ensures .1, c .before .shared-slice-known4 .given o),
     )
 

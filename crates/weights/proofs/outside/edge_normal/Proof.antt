@@ -33,7 +33,8 @@ none-requires-2 c κs = search needs
 returns-4 : tie.Need-returns-4
 returns-4 c =
     let s = c .before .before .before .before .args in
-    c .none2 .ensures ∙ sym (not-to-the-last (s .n) (s .x) (s .y) (s .of-x) (s .of-y) (c .before .before .before .if1 .left) (c .before .before .if2 .left) (c .before .if3 .left))
+    c .none2 .ensures ∙ sym (not-to-the-last (s .n) (s .x) (s .y) (s .of-x) (s .of-y) (c .before .before .before .if1 .left)
+    (c .before .before .if2 .left) (c .before .if3 .left))
 
 pub edge-normal-spec : {M : Type 1} → statement M
 edge-normal-spec =

@@ -50,8 +50,13 @@ bend-requires c κs =
     let s = begin g in
     let m = s .pre .1 in
     let is : c .normal-length .result ≡ lengthOf (vectorOf (s .args .outside)) = c .normal-length .ensures ∙ ap lengthOf (g .vector .ensures) in
-    let some = sym (g .before .before .is-none .ensures) ∙ g .before .if1 .left in
-    (at-most-held (dot-held (c .before)), m .above-0, omega (arith, m .is, length-bound (m .within)), subst (λ (k : ℕ). 0 < k) (sym is) (outside-above-0 (s .args .outside) (s .pre .2) some), omega (arith, c .normal-length .ensures, length-bound (within g)))
+    let some = sym (g .before .before .is-none .ensures) ∙ g .before .if1 .left in (
+      at-most-held (dot-held (c .before)),
+      m .above-0,
+      omega (arith, m .is, length-bound (m .within)),
+      subst (λ (k : ℕ). 0 < k) (sym is) (outside-above-0 (s .args .outside) (s .pre .2) some),
+      omega (arith, c .normal-length .ensures, length-bound (within g)),
+    )
 
 bend-weight-requires : tie.Need-bend-weight-requires
 bend-weight-requires c κs = (begin (c .before .before .before) .pre .0, subst (λ (b : ℕ). b ≤ maxBend) (sym (c .bend .ensures)) (bend-bound _ _ _))
