@@ -6,9 +6,9 @@ use Rattle.rim_file.specs.File.{Bytes}
 use Rattle.triangulation.specs.Triangulations.{ValidProblem}
 use Rattle.triangulation.specs.Demand3.{Demand3}
 use Rattle.triangulator.specs.Demands.{Handed}
-use Rattle.pipeline.specs.Patching.{Tables, problemIn, patchFile}
+use Rattle.pipeline.specs.Patching.{Tables, problemIn, patchFile, handedBack}
 use Rattle.demands.specs.Demand1.{polygonIn, CallDue}
-use Rattle.demands.specs.Demand3.{ListsLeft, problemLeft, answerIn, handedBack, RightOfTables, HandedOfTables, RestOfTables}
+use Rattle.demands.specs.Demand3.{ListsLeft, problemLeft, answerIn, RightOfTables, HandedOfTables, RestOfTables}
 use Rattle.demands.proofs.Demand1.{accepted}
 use Rattle.demands.proofs.Patched.{patched-demand2, patched-demand3, patched-demand3-of-tables}
 use Rattle.demands.proofs.Patched.{patched-handed, patched-handed-of-tables, patched-valid, patched-rest}

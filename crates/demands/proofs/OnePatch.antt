@@ -21,10 +21,9 @@ use Rattle.triangulator.specs.declared.Outcome.{Outcome}
 use Rattle.triangulator.specs.declared.Outcome.the-variants.{None, Refused}
 use Rattle.triangulator.specs.Call.{trianglesOf, settled}
 use Rattle.triangulator.proofs.Settling.{part-patch, part-empty}
-use Rattle.pipeline.specs.Patching.{Tables, Patching, patching, weightsIn, problemIn, patchedBy, patched, patchFile}
+use Rattle.pipeline.specs.Patching.{Tables, Patching, patching, weightsIn, problemIn, patchedBy, patched, patchFile, handedBack}
 use Rattle.pipeline.proofs.Values.{valid-job}
 use Rattle.demands.specs.Demand1.{polygonIn, CallDue, by-reader, twelve, thirteen}
-use Rattle.demands.specs.Demand3.{handedBack}
 use Rattle.demands.specs.OnePatch.{LongEnough, SamePatch}
 use Rattle.demands.proofs.Demand1.{first-or-none, refused-first, accepted}
 

@@ -12,10 +12,10 @@ use Rattle.triangulation.specs.Demand3.{Demand3}
 use Rattle.triangulation.proofs.Demand3.{demand3}
 use Rattle.triangulator.specs.Demands.{Handed}
 use Rattle.triangulator.proofs.Demands.{settled-states, settled-handed, settled-rest}
-use Rattle.pipeline.specs.Patching.{Tables, Patching, weightsIn, rowsIn, problemIn, patched, jobIn}
+use Rattle.pipeline.specs.Patching.{Tables, Patching, weightsIn, rowsIn, problemIn, patched, jobIn, handedBack}
 use Rattle.pipeline.proofs.Values.{valid-job}
 use Rattle.pipeline.proofs.Accepted.{weight-count}
-use Rattle.demands.specs.Demand3.{ListsLeft, candidatesLeft, weightsLeft, rowsLeft, jobLeft, problemLeft, answerIn, handedBack}
+use Rattle.demands.specs.Demand3.{ListsLeft, candidatesLeft, weightsLeft, rowsLeft, jobLeft, problemLeft, answerIn}
 use Rattle.demands.specs.Demand3.{RightOfTables, HandedOfTables, RestOfTables}
 use Rattle.demands.proofs.Tables.{filled-hold}
 

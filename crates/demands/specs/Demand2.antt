@@ -2,10 +2,10 @@
 use mathlib.Core.Path.{_≡_}
 use mathlib.Core.Bool.{true}
 use mathlib.Core.List.{List, List·Memᴰ}
-use Prim.Native.Nat.{ℕ, _*_, _≤_, _<_}
+use Prim.Native.Nat.{ℕ, _≤_, _<_}
 use lib.ListN.{length, take, drop, getD}
 use Rattle.polygon.specs.declared.Polygon.{Polygon}
-use Rattle.geometry.specs.Faces.{bendBetween}
+use Rattle.geometry.specs.Faces.{bendBetween, bendWeightOf}
 use Rattle.terms.specs.Limits.{maxWeight}
 use Rattle.terms.specs.Entries.{triple, entryAt, outer, inner, rowWeight, before, rowBefore, hangs}
 use Rattle.dihedrals.specs.Dihedrals.{faceNormal}
@@ -35,7 +35,8 @@ pub record Demand2 (p : Polygon) (candidates : List (List ℕ)) (weights : List 
   pub hinge-inner : (k : ℕ) → k < length rows → inner (entryAt rows k) < length candidates
   pub hinge-weight : (k : ℕ) → k < length rows →
       rowWeight (entryAt rows k)
-      ≡ p .«bend_factor» * bendBetween (faceNormal p (entryAt candidates (inner (entryAt rows k)))) (faceNormal p (entryAt candidates (outer (entryAt rows k))))
+      ≡ bendWeightOf (p .«bend_factor»)
+      (bendBetween (faceNormal p (entryAt candidates (inner (entryAt rows k)))) (faceNormal p (entryAt candidates (outer (entryAt rows k)))))
   -- every hanging pair has exactly one row, whatever its weight (rule 2.13)
   pub row : (o i : ℕ) → o < length candidates → i < length candidates → hangs (entryAt candidates i) (entryAt candidates o) ≡ true → (k : ℕ) × IsRow rows k o i
   pub one-row : (o i j k : ℕ) → IsRow rows j o i → IsRow rows k o i → j ≡ k

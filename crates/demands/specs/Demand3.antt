@@ -8,9 +8,9 @@ use Rattle.jobs.specs.Job.{Job, jobOf}
 use Rattle.triangulation.specs.Triangulations.{Problem, Answer}
 use Rattle.triangulation.specs.Problems.{problemOf}
 use Rattle.triangulation.specs.Demand3.{Demand3}
-use Rattle.triangulator.specs.Call.{partOf, result}
+use Rattle.triangulator.specs.Call.{result}
 use Rattle.triangulator.specs.Demands.{stated, Handed, RestLeft}
-use Rattle.pipeline.specs.Patching.{Tables, Patching}
+use Rattle.pipeline.specs.Patching.{Tables, Patching, handedBack}
 use Rattle.demands.specs.Demand2.{TablesHold}
 
 -- the candidate, weight and row tables have the polygon's lists in their first places, and in each further place what they held (rule 3.9)
@@ -34,10 +34,6 @@ jobLeft p left = jobOf (p .n) (candidatesLeft p left) (weightsLeft p left) (rows
 
 abbrev pub problemLeft : Polygon → Tables → Problem
 problemLeft p left = problemOf (jobLeft p left)
-
--- the triangles that a call hands back, as candidate numbers in walk order (rule 3.8)
-abbrev pub handedBack : Patching → List ℕ
-handedBack x = partOf (x .outcome) (x .left .triangles)
 
 -- the answer that the outcome states with its triangle table (rule 3.8)
 abbrev pub answerIn : Patching → Answer

@@ -6,9 +6,8 @@ use lib.ListN.{getD}
 use Rattle.terms.specs.Entries.{entryAt}
 use Rattle.finder.specs.Sizes.{placesOf}
 use Rattle.triangulator.specs.Call.{totalOf}
-use Rattle.pipeline.specs.Patching.{Tables, Patching}
+use Rattle.pipeline.specs.Patching.{Tables, Patching, handedBack}
 use Rattle.demands.specs.Demand1.{polygonIn, TooShort}
-use Rattle.demands.specs.Demand3.{handedBack}
 
 -- no table is too short for the rim of the file (rule 4.13); for a file that the reader refuses, which has no rim, any tables will do
 abbrev pub LongEnough : ℕ → List ℕ → Tables → Type 0

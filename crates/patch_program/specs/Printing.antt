@@ -1,8 +1,7 @@
 -- What a program prints for a file (rule 5.4). Definitions only.
 use mathlib.Core.List.{List}
 use Prim.Native.Nat.{ℕ}
-use Rattle.triangulator.specs.Call.{partOf}
-use Rattle.pipeline.specs.Patching.{Patching, patchFile}
+use Rattle.pipeline.specs.Patching.{Patching, handedBack, patchFile}
 use Rattle.patch_lines.specs.declared.Line.{Line}
 use Rattle.patch_lines.specs.Lines.{linesOf, inPlaces, verticesOf}
 use Rattle.patch_program.specs.declared.Printout.{Printout}
@@ -10,7 +9,7 @@ use Rattle.patch_program.specs.Run.{emptyTables}
 
 -- the lines after a call, of the part handed back and by the tables that it left: so none after 'none' and in a refusal (rules 3.8, 3.9, 5.4)
 abbrev pub linesAfter : Patching → List Line
-linesAfter r = linesOf (r .left .candidates) (r .left .weights) (r .left .rows) (partOf (r .outcome) (r .left .triangles))
+linesAfter r = linesOf (r .left .candidates) (r .left .weights) (r .left .rows) (handedBack r)
 
 -- what is printed after a call: its outcome, the number of vertices, and the lines in the first places (rule 5.4)
 abbrev pub printoutAfter : Patching → Printout

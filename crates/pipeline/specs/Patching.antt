@@ -18,7 +18,7 @@ use Rattle.triangulation.specs.Triangulations.{Problem, best}
 use Rattle.triangulation.specs.Problems.{problemOf}
 use Rattle.triangulator.specs.declared.Outcome.{Outcome}
 use Rattle.triangulator.specs.declared.Outcome.the-variants.{Refused}
-use Rattle.triangulator.specs.Call.{Values, dueValues, Result, settled}
+use Rattle.triangulator.specs.Call.{Values, dueValues, partOf, Result, settled}
 
 -- the five lent tables (rule 5.1)
 pub record Tables : Type 0 where
@@ -39,6 +39,10 @@ pub record Patching : Type 0 where
 
 abbrev pub patching : Outcome → Tables → Patching
 patching o t = record { outcome = o; left = t }
+
+-- the triangles that a call hands back, as candidate numbers in walk order (rule 3.8)
+abbrev pub handedBack : Patching → List ℕ
+handedBack x = partOf (x .outcome) (x .left .triangles)
 
 -- a number changes no table (rule 4.30)
 abbrev pub refused : ℕ → Tables → Patching

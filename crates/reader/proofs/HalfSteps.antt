@@ -18,7 +18,8 @@ use Rattle.polygon.specs.Polygon as polygon
 use Rattle.rim_file.specs.File.{firstNumber, secondNumber, thirdNumber}
 use Rattle.reader.specs.Due.{kindAt, floatsAt, OnGridAt, HasVertex, a-point, a-level-point}
 use Rattle.reader.specs.Reading.{readingOf}
-use Rattle.reader.specs.Rounded.{RoundsTo, recordStart, Rounded}
+use Rattle.reader.specs.Due.{recordStart}
+use Rattle.reader.specs.Rounded.{RoundsTo, Rounded}
 use Rattle.reader.specs.declared.Status.the-variants.{Complete}
 use Rattle.reader.proofs.RecordNumbers.{pointFloats, levelFloats}
 use Rattle.reader.proofs.Accepted.{read-vertices}

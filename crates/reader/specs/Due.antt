@@ -36,20 +36,24 @@ pub record HasRecords (s : List ℕ) (m : ℕ) : Type 0 where
 abbrev pub ChainAtMost : List ℕ → ℕ → Type 0
 ChainAtMost s m = HasRecords s (suc m) → ⊥
 
+-- where the record at position i of the chain starts in the file (rule 1.3)
+abbrev pub recordStart : List ℕ → ℕ → ℕ
+recordStart s i = offset s (link s i)
+
 -- the kind of the record at position i, and whether the four bytes after its first two floats are zero (rules 1.3, 1.7)
 abbrev pub kindAt : List ℕ → ℕ → ℕ
-kindAt s i = kind s (offset s (link s i))
+kindAt s i = kind s (recordStart s i)
 
 abbrev pub tailZeroAt : List ℕ → ℕ → Bool
-tailZeroAt s i = tailZero s (offset s (link s i))
+tailZeroAt s i = tailZero s (recordStart s i)
 
 -- the floats of the record at position i (rules 1.6, 1.7)
 abbrev pub floatsAt : List ℕ → ℕ → List Float
-floatsAt s i = floatsOf s (offset s (link s i))
+floatsAt s i = floatsOf s (recordStart s i)
 
 -- the numbers of the normal of the record at position i (rule 1.13)
 abbrev pub normalNumbersAt : List ℕ → ℕ → List ℤ
-normalNumbersAt s i = normalNumbersOf s (offset s (link s i))
+normalNumbersAt s i = normalNumbersOf s (recordStart s i)
 
 -- ---- what a vertex is, and its normal
 -- all floats of the record at position i are finite and in range (rule 1.9)
@@ -65,13 +69,13 @@ pub record LastPoint (s : List ℕ) (j i : ℕ) : Type 0 where
 
 -- the grid numbers of the record at position i (rule 1.10)
 abbrev pub xAt : List ℕ → ℕ → ℤ
-xAt s i = roundEighths (firstNumber s (offset s (link s i)))
+xAt s i = roundEighths (firstNumber s (recordStart s i))
 
 abbrev pub yAt : List ℕ → ℕ → ℤ
-yAt s i = roundEighths (secondNumber s (offset s (link s i)))
+yAt s i = roundEighths (secondNumber s (recordStart s i))
 
 abbrev pub heightAt : List ℕ → ℕ → ℤ
-heightAt s i = roundEighths (thirdNumber s (offset s (link s i)))
+heightAt s i = roundEighths (thirdNumber s (recordStart s i))
 
 -- the record at position i gives the vertex p (rules 1.6, 1.7)
 pub data HasVertex (s : List ℕ) : ℕ → GridPoint → Type 0 where
@@ -81,7 +85,7 @@ pub data HasVertex (s : List ℕ) : ℕ → GridPoint → Type 0 where
 
 -- the record at position i gives the normal q (rules 1.13, 4.18): in edition 2 the one that it holds, if that is in range, and in edition 1 none
 pub data HasNormal (s : List ℕ) : ℕ → Normal → Type 0 where
-  held : (i : ℕ) → isEdition2 s ≡ true → NormalInRange (heldNormal s (offset s (link s i))) → HasNormal s i (heldNormal s (offset s (link s i)))
+  held : (i : ℕ) → isEdition2 s ≡ true → NormalInRange (heldNormal s (recordStart s i)) → HasNormal s i (heldNormal s (recordStart s i))
   none : (i : ℕ) → isEdition2 s ≡ false → HasNormal s i noNormal
 
 -- ---- the numbers

@@ -7,8 +7,8 @@ use lib.IntN.{ℤ}
 use lib.Ieee.{Float}
 use Rattle.grid.specs.Number.{finite, inRange, HalfStep, EvenHalf}
 use Rattle.grid.specs.declared.GridPoint.{GridPoint}
-use Rattle.rim_file.specs.File.{offset, kind, firstNumber, secondNumber, thirdNumber}
-use Rattle.reader.specs.Chain.{link}
+use Rattle.rim_file.specs.File.{kind, firstNumber, secondNumber, thirdNumber}
+use Rattle.reader.specs.Due.{recordStart}
 
 -- rules 1.9 and 1.10: the float v is in range, and g is the whole number nearest to 8v, at a half the even one
 pub record RoundsTo (v : Float) (g : ℤ) : Type 0 where
@@ -16,10 +16,6 @@ pub record RoundsTo (v : Float) (g : ℤ) : Type 0 where
   pub in-range : inRange v ≡ true
   pub half-step : HalfStep v g
   pub even-half : EvenHalf v g
-
--- where the record at position i of the chain starts in the file (rule 1.3)
-abbrev pub recordStart : List ℕ → ℕ → ℕ
-recordStart s i = offset s (link s i)
 
 -- rules 1.6 and 1.7: p, at position i of the chain, has its x and y from its own record, and its height from the last point up to i
 pub record Rounded (s : List ℕ) (i : ℕ) (p : GridPoint) : Type 0 where

@@ -1,7 +1,7 @@
 -- The own weights of a polygon's candidates: their area, and their bends against the surface outside the rim, summed along the rim. Definitions only.
 use mathlib.Core.Bool.{Bool, cond}
 use mathlib.Core.List.{List, map}
-use Prim.Native.Nat.{ℕ, _+_, _*_}
+use Prim.Native.Nat.{ℕ, _+_}
 use lib.Dec.{eqb}
 use Rattle.lists.specs.Sums.{sumBelow}
 use Rattle.lists.specs.Lists.{both, either}
@@ -9,13 +9,13 @@ use Rattle.polygon.specs.declared.Polygon.{Polygon}
 use Rattle.polygon.specs.declared.normal.Normal.{Normal}
 use Rattle.polygon.specs.Normal.{isNone, normalAt}
 use Rattle.geometry.specs.declared.Vector.{Vector}
-use Rattle.geometry.specs.Faces.{lengthOf, bendBetween}
+use Rattle.geometry.specs.Faces.{lengthOf, areaWeightOf, bendBetween, bendWeightOf}
 use Rattle.terms.specs.Entries.{vertexA, vertexB, vertexC}
 use Rattle.dihedrals.specs.Dihedrals.{faceNormal}
 
 -- the area weight of candidate t (rule 2.8)
 abbrev pub areaWeight : Polygon → List ℕ → ℕ
-areaWeight p t = p .«area_factor» * lengthOf (faceNormal p t)
+areaWeight p t = areaWeightOf (p .«area_factor») (lengthOf (faceNormal p t))
 
 -- a normal of the rim as a vector (rule 1.13)
 abbrev pub vectorOf : Normal → Vector
@@ -36,7 +36,7 @@ hasRimEdge n t i = both (isCorner t i) (isCorner t (nextVertex n i))
 -- the bend factor times the bend between candidate t and the surface outside the rim edge from vertex i on, 0 where there is none (rule 2.15)
 abbrev pub rimBend : Polygon → List ℕ → ℕ → ℕ
 rimBend p t i =
-    cond (isNone (normalAt (p .normals) i)) 0 (p .«bend_factor» * bendBetween (faceNormal p t) (vectorOf (normalAt (p .normals) i)))
+    cond (isNone (normalAt (p .normals) i)) 0 (bendWeightOf (p .«bend_factor») (bendBetween (faceNormal p t) (vectorOf (normalAt (p .normals) i))))
 
 -- the sum over the rim edges of candidate t (rule 2.15)
 abbrev pub rimBends : Polygon → List ℕ → ℕ
