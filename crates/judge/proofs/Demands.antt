@@ -11,7 +11,7 @@ use Rattle.terms.proofs.Order.{none-first, verdict-none}
 use Rattle.triangulation.specs.Triangulations.{Problem, ValidProblem, best}
 use Rattle.triangulation.specs.Problems.{problemOf}
 use Rattle.triangulation.specs.Demand3.{HandedBack}
-use Rattle.jobs.specs.Job.{Job, jobOf, codeWithoutTriangles}
+use Rattle.jobs.specs.Job.{Job, codeWithoutTriangles}
 use Rattle.jobs.proofs.Acceptance.{accepted-zero, accepted-beside}
 use Rattle.triangulator.specs.declared.Outcome.{Outcome}
 use Rattle.triangulator.specs.declared.Outcome.the-variants as outcome

@@ -28,9 +28,12 @@ Listed r t = List·Memᴰ t (handedBack r)
 abbrev pub HangsIn : Patching → ℕ → ℕ → Type 0
 HangsIn r t o = hangs (entryAt (r .left .candidates) t) (entryAt (r .left .candidates) o) ≡ true
 
--- triangle k of the patch, and its line
+-- triangle k of the patch as a candidate number and as a candidate, and its line
 abbrev pub triangleAt : Patching → ℕ → ℕ
 triangleAt r k = getD (handedBack r) k 0
+
+abbrev pub candidateAt : Patching → ℕ → List ℕ
+candidateAt r k = entryAt (r .left .candidates) (triangleAt r k)
 
 abbrev pub lineAt : Patching → ℕ → Line
 lineAt r k = getD (linesAfter r) k noLine
@@ -39,8 +42,8 @@ lineAt r k = getD (linesAfter r) k noLine
 pub record LinesHold (file : List ℕ) (r : Patching) : Type 0 where
   -- there is a line for each triangle of the patch, with its vertices and its whole own weight
   pub line-count : length (linesAfter r) ≡ length (handedBack r)
-  pub corners : (k : ℕ) → k < length (handedBack r) → triple (lineAt r k .a) (lineAt r k .b) (lineAt r k .c) ≡ entryAt (r .left .candidates) (triangleAt r k)
-  pub own-weight : (k : ℕ) → k < length (handedBack r) → lineAt r k .weight ≡ ownWeight (polygonOf file) (entryAt (r .left .candidates) (triangleAt r k))
+  pub corners : (k : ℕ) → k < length (handedBack r) → triple (lineAt r k .a) (lineAt r k .b) (lineAt r k .c) ≡ candidateAt r k
+  pub own-weight : (k : ℕ) → k < length (handedBack r) → lineAt r k .weight ≡ ownWeight (polygonOf file) (candidateAt r k)
   -- a triangle of the patch hangs on one other at most, and the row weight on its line is that of the two
   pub one-outer : (t o u : ℕ) → Listed r t → Listed r o → Listed r u → HangsIn r t o → HangsIn r t u → o ≡ u
   pub row-is : (k o : ℕ) → k < length (handedBack r) → Listed r o → HangsIn r (triangleAt r k) o →

@@ -4,7 +4,6 @@ use mathlib.Core.List.{List, [], _∷_}
 use mathlib.Core.Bool.{Bool, true, false, cond}
 use Prim.Native.Nat.{ℕ, zero, suc}
 use lib.IntN.{ℤ, pos, negsuc, natAbs, _+ℤ_, _-ℤ_, _*ℤ_, +ℤ-idl, +ℤ-idr, zero-*ℤ}
-use lib.Dec.{lit≤}
 use lib.Signed.{ltZ}
 use Rattle.grid.specs.declared.GridPoint.{GridPoint}
 use Rattle.geometry.specs.declared.Vector.{Vector}
@@ -12,19 +11,18 @@ use Rattle.geometry.specs.declared.sphere.Lifted.{Lifted}
 use Rattle.geometry.specs.declared.sphere.Sphere.{Sphere}
 use Rattle.geometry.specs.declared.sphere.Position.{Position}
 use Rattle.geometry.specs.declared.sphere.Position.the-variants.{Inside, On, Outside}
-use Rattle.integers.specs.Bounds.{AtMost}
 use Rattle.integers.specs.Order.{equal}
 use Rattle.integers.proofs.Order.{equal-is, equal-yes, equal-no, less-multiple, equal-multiple, not-below, true≢false}
 use Rattle.integers.proofs.Ring.{E, var, con, _:+_, _:-_, _:*_, ring}
 use Rattle.geometry.specs.Vectors.{differenceOf, dotOf, crossOf, squareOf, scaledBy, plus, minus, opposite}
 use Rattle.geometry.specs.Spheres.{orientOf, coplanar}
-use Rattle.geometry.specs.Bounds.{maxDifference, Within, LiftedBounds, SphereBounds}
+use Rattle.geometry.specs.Bounds.{LiftedBounds, SphereBounds}
 use Rattle.geometry.specs.Lifting.{liftOf, turned, noSphere, positionBy}
 use Rattle.geometry.specs.Faces.{normalOf}
 use Rattle.geometry.proofs.Terms.{VectorE, vec, dotE, crossE, scaledE, plusE, minusE, oppositeE, ofVectors}
 use Rattle.geometry.proofs.Centres.{distances-power}
 use Rattle.geometry.proofs.Spheres.{by-multiple, pencil-bounds, sphere-bounds, triple-product, turned-orient}
-use Rattle.geometry.proofs.Faces.{square-size, zero-vector}
+use Rattle.geometry.proofs.Faces.{square-size}
 use Rattle.planar.specs.Circles.{collinear, circumcentreOf, distanceInPlane}
 use Rattle.planar.specs.Seen.{positionInPlane, axisX, axisY, axisZ, axisAcross, circleOf}
 use Rattle.planar.proofs.Circles.{centre, normalE, centreE}

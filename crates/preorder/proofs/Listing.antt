@@ -5,7 +5,7 @@ use mathlib.Core.List.{List, [], _∷_, _++_, append-assoc}
 use native.Mathlib.Omega.{arith}
 use native.Mathlib.Nat.{le-refl}
 use native.Mathlib.Numerals.{add-one}
-use lib.ListN.{length, getD, set, take, drop, length-set, length-drop, replicate, length-replicate}
+use lib.ListN.{length, getD, set, take, length-set, length-drop, replicate, length-replicate}
 use lib.Seq.{getD-set-same, getD-set-other, length-take-le, take-suc, take-all}
 use Rattle.lists.specs.Lists.{filled}
 use Rattle.lists.proofs.Writing.{filled-length, filled-next}

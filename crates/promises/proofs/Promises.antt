@@ -10,14 +10,20 @@ use Rattle.reader.proofs.Demand1 as reader
 use Rattle.reader.proofs.Accepted as accepted
 use Rattle.reader.proofs.HalfSteps as half-steps
 use Rattle.jobs.specs.Job.{Job}
-use Rattle.triangulation.specs.Triangulations.{Problem}
 use Rattle.triangulation.proofs.Tiling as tiling
 use Rattle.triangulator.proofs.Demands as jobs
 use Rattle.judge.proofs.Demands as judge
 use Rattle.judge.proofs.Refusals as refusals
 use Rattle.converter.proofs.Numbers as numbers
 use Rattle.converter.proofs.Demands as converter
-use Rattle.pipeline.specs.Patching.{Tables}
+use Rattle.finder.specs.Finding.{findCall}
+use Rattle.pipeline.specs.Finding.{findFile}
+use Rattle.pipeline.specs.Patching.{Tables, patchPolygon, patchFile}
+use Rattle.polygon.specs.Due.{PolygonBefore}
+use Rattle.reader.specs.Order.{FileBefore}
+use Rattle.demands.specs.Demand1.{polygonIn, CallDue}
+use Rattle.demands.specs.Finding.{FindFileDue}
+use Rattle.demands.specs.Polygons.{FindDue, PatchDue}
 use Rattle.demands.proofs.Base as base
 use Rattle.demands.proofs.Conversion as conversion
 use Rattle.demands.proofs.Demand1 as demand1
@@ -34,7 +40,7 @@ use Rattle.demands.proofs.Tables as tables
 use Rattle.demands.proofs.Turns as turns
 use Rattle.patch_program.specs.Printing.{printoutOf}
 use Rattle.patch_program.proofs.Demands as lines
-use Rattle.promises.specs.Promises.{ReaderCall, FinderCall, FinderFileCall, RimFile, HandBuilt, DirectJob, Tilings, Editions, ConverterCall}
+use Rattle.promises.specs.Promises.{ReaderCall, Finds, TellsSizes, Closes, TellsFileSizes, DirectJob, Editions, ConverterCall}
 use Rattle.promises.specs.Promises.{HalfSteps, Limits, Turns, FlatRims, Judging, Printing, Promises}
 
 reads : (limit : ℕ) (file : List ℕ) → ReaderCall limit file
@@ -51,20 +57,19 @@ reads limit file = record {
   normals = accepted.read-normals limit file;
 }
 
-finds : (p : Polygon) (candidates : List (List ℕ)) (weights : List ℕ) (rows : List (List ℕ)) → FinderCall p candidates weights rows
+finds : (p : Polygon) (candidates : List (List ℕ)) (weights : List ℕ) (rows : List (List ℕ)) →
+    Finds PolygonBefore (FindDue p candidates weights rows) p candidates weights rows (findCall p candidates weights rows)
 finds p candidates weights rows = record {
   found-when = finding.found-when p candidates weights rows;
   found-only-when = finding.found-only-when p candidates weights rows;
   refused-first = finding.refused-first p candidates weights rows;
   given-first = finding.given-first p candidates weights rows;
-  lists = tables.find-hold p candidates weights rows;
-  sizes-when = finding.sizes-known-when p;
-  sizes-refused-first = finding.sizes-refused-first p;
-  sizes-given-first = finding.sizes-given-first p;
+  lists = λ none. tables.find-hold p candidates weights rows _ _ (finding.found-when p candidates weights rows none);
 }
 
 finds-in-files : (limit : ℕ) (file : List ℕ) → Bytes file → (candidates : List (List ℕ)) (weights : List ℕ) (rows : List (List ℕ)) →
-    FinderFileCall limit file candidates weights rows
+    Finds FileBefore (FindFileDue limit file candidates weights rows) (polygonIn limit file) candidates weights rows
+    (findFile limit file candidates weights rows)
 finds-in-files limit file bytes candidates weights rows = record {
   found-when = file-finding.found-when limit file bytes candidates weights rows;
   found-only-when = file-finding.found-only-when limit file bytes candidates weights rows;
@@ -73,23 +78,7 @@ finds-in-files limit file bytes candidates weights rows = record {
   lists = file-finding.found-hold limit file bytes candidates weights rows;
 }
 
-closes : (limit : ℕ) (file : List ℕ) → Bytes file → (t : Tables) → RimFile limit file t
-closes limit file bytes t = record {
-  taken-when = demand1.taken-when limit file bytes t;
-  taken-only-when = demand1.taken-only-when limit file bytes t;
-  refused-first = demand1.refused-first limit file bytes t;
-  given-first = demand1.given-first limit file bytes t;
-  lists = demands.file-demand2 limit file bytes t;
-  right = demands.file-demand3-of-tables limit file bytes t;
-  handed = demands.file-handed-of-tables limit file bytes t;
-  rest = demands.file-rest limit file bytes t;
-  valid = demands.file-valid limit file bytes t;
-  sizes-refused = sizes.sizes-refused limit file t;
-  shorter-13 = λ e. sizes.shorter-13 limit file t e;
-  enough-taken = λ e. sizes.enough-taken limit file t e;
-}
-
-by-hand : (p : Polygon) (t : Tables) → HandBuilt p t
+by-hand : (p : Polygon) (t : Tables) → Closes PolygonBefore (PatchDue p t) p t (patchPolygon p t)
 by-hand p t = record {
   taken-when = polygons.taken-when p t;
   taken-only-when = polygons.taken-only-when p t;
@@ -100,6 +89,33 @@ by-hand p t = record {
   handed = polygons.polygon-handed-of-tables p t;
   rest = polygons.polygon-rest p t;
   valid = polygons.polygon-problem-valid p t;
+}
+
+closes : (limit : ℕ) (file : List ℕ) → Bytes file → (t : Tables) → Closes FileBefore (CallDue limit file t) (polygonIn limit file) t (patchFile limit file t)
+closes limit file bytes t = record {
+  taken-when = demand1.taken-when limit file bytes t;
+  taken-only-when = demand1.taken-only-when limit file bytes t;
+  refused-first = demand1.refused-first limit file bytes t;
+  given-first = demand1.given-first limit file bytes t;
+  lists = demands.file-demand2 limit file bytes t;
+  right = demands.file-demand3-of-tables limit file bytes t;
+  handed = demands.file-handed-of-tables limit file bytes t;
+  rest = demands.file-rest limit file bytes t;
+  valid = demands.file-valid limit file bytes t;
+}
+
+sizes-of-polygons : (p : Polygon) → TellsSizes p
+sizes-of-polygons p = record {
+  known-when = finding.sizes-known-when p;
+  refused-first = finding.sizes-refused-first p;
+  given-first = finding.sizes-given-first p;
+}
+
+sizes-of-files : (limit : ℕ) (file : List ℕ) (t : Tables) → TellsFileSizes limit file t
+sizes-of-files limit file t = record {
+  sizes-refused = sizes.sizes-refused limit file t;
+  shorter-13 = λ e. sizes.shorter-13 limit file t e;
+  enough-taken = λ e. sizes.enough-taken limit file t e;
 }
 
 tiles : (job : Job) (triangles work : List ℕ) → DirectJob job triangles work
@@ -191,8 +207,10 @@ promises = record {
   reading = reads;
   finding = finds;
   finding-files = finds-in-files;
-  rim-files = closes;
   hand-built = by-hand;
+  rim-files = closes;
+  polygon-sizes = sizes-of-polygons;
+  file-sizes = sizes-of-files;
   direct-jobs = tiles;
   tilings = λ problem. record { tiling-of = tiling.true-tiling problem; of-tiling = tiling.tiling-true problem };
   editions = in-editions;

@@ -16,19 +16,21 @@ use Rattle.codes.specs.Refusals.{refusal}
 use Rattle.terms.specs.Limits.{minVertices, maxVertices, trimVertices, countFits}
 use Rattle.terms.specs.Entries.{triple}
 use Rattle.terms.specs.Order.{NoneDue}
+use Rattle.terms.specs.Order as order
 use Rattle.lists.specs.Lists.{filled}
 use Rattle.grid.specs.Number.{finite, roundEighths, distance, HalfStep, EvenHalf}
 use Rattle.grid.specs.declared.GridPoint.{GridPoint}
 use Rattle.polygon.specs.declared.Polygon.{Polygon}
 use Rattle.polygon.specs.Polygon as polygon
 use Rattle.polygon.specs.Normal as polygon-normals
+use Rattle.polygon.specs.Due.{PolygonBefore}
 use Rattle.polygon.specs.Due as polygon-due
 use Rattle.rim_file.specs.File.{Bytes, u16At, isEdition2, areaFactor, bendFactor}
 use Rattle.rim_file.specs.Editions.{SameRim}
 use Rattle.rim_file.specs.Layouts.{Edition1, Edition2}
 use Rattle.reader.specs.declared.Status.the-variants.{Complete}
 use Rattle.reader.specs.Chain.{link}
-use Rattle.reader.specs.Order.{First}
+use Rattle.reader.specs.Order.{FileBefore, First}
 use Rattle.reader.specs.Due.{FileDue, HasRecords, HasVertex, HasNormal, ChainAtMost}
 use Rattle.reader.specs.Rounded.{Rounded}
 use Rattle.reader.specs.Reading.{readingOf, refusedReading, statusNumber}
@@ -39,7 +41,7 @@ use Rattle.weights.specs.Weights.{ownWeight}
 use Rattle.finder.specs.declared.Found.the-variants as found
 use Rattle.finder.specs.declared.Places.{Places}
 use Rattle.finder.specs.declared.Sizes.the-variants as sizes
-use Rattle.finder.specs.Finding.{finding, findCall}
+use Rattle.finder.specs.Finding.{Finding, finding, findCall}
 use Rattle.finder.specs.Finding as finder
 use Rattle.finder.specs.Sizes.{placesOf, sizesOf}
 use Rattle.jobs.specs.Job.{Job}
@@ -64,7 +66,7 @@ use Rattle.converter.specs.Call.{converting, convertCall, handedOver}
 use Rattle.converter.specs.Call as converter
 use Rattle.converter.specs.Due.{ConvertDue}
 use Rattle.pipeline.specs.Finding.{findFile}
-use Rattle.pipeline.specs.Patching.{Tables, refused, patchPolygon, patchFile}
+use Rattle.pipeline.specs.Patching.{Tables, Patching, refused, patchPolygon, patchFile}
 use Rattle.pipeline.specs.Sizes.{sizesFile}
 use Rattle.demands.specs.Candidates.{Face, Flat, CountsInPlane, Candidate, Cocircular}
 use Rattle.demands.specs.Demand1.{polygonIn, TooShort, CallDue}
@@ -99,79 +101,49 @@ pub record ReaderCall (limit : ℕ) (file : List ℕ) : Type 0 where
   pub normals : readingOf limit file .status ≡ Complete → (i : ℕ) → i < readingOf limit file .polygon .n →
       HasNormal file i (polygon-normals.normalAt (readingOf limit file .polygon .normals) i)
 
--- ---- candidates, weights and rows, of the finder's call on a polygon built by hand
-pub record FinderCall (p : Polygon) (candidates : List (List ℕ)) (weights : List ℕ) (rows : List (List ℕ)) : Type 0 where
-  -- the lists are found exactly when no number is due (rule 4.34)
-  pub found-when : NoneDue (FindDue p candidates weights rows) →
-      findCall p candidates weights rows .answer ≡ found.Lists (placesOf p .candidates) (placesOf p .rows)
-  pub found-only-when : (count row-count : ℕ) → findCall p candidates weights rows .answer ≡ found.Lists count row-count →
-      NoneDue (FindDue p candidates weights rows)
-  -- every other polygon gets the first number due, and no table is changed (rules 4.30, 4.34)
-  pub refused-first : (k : ℕ) → polygon-due.First (FindDue p candidates weights rows) k →
-      findCall p candidates weights rows ≡ finding (found.Refused (refusal k)) candidates weights rows
-  pub given-first : (k : ℕ) → finder.numberOf (findCall p candidates weights rows .answer) ≡ suc k →
-      polygon-due.First (FindDue p candidates weights rows) (suc k)
+-- ---- candidates, weights and rows, of a call of the finder: by the numbers due on it, the polygon, the tables that are lent, and what it found
+pub record Finds {Place : Type 0} (Before : Place → Place → Type 0) (Due : Place → ℕ → Type 0) (p : Polygon)
+    (candidates : List (List ℕ)) (weights : List ℕ) (rows : List (List ℕ)) (f : Finding) : Type 0 where
+  -- the lists are found exactly when no number is due (rules 4.31, 4.33, 4.34)
+  pub found-when : NoneDue Due → f .answer ≡ found.Lists (placesOf p .candidates) (placesOf p .rows)
+  pub found-only-when : (count row-count : ℕ) → f .answer ≡ found.Lists count row-count → NoneDue Due
+  -- every other call gets the first number due, and no table is changed (rules 4.30, 4.31, 4.34)
+  pub refused-first : (k : ℕ) → order.First Before Due k → f ≡ finding (found.Refused (refusal k)) candidates weights rows
+  pub given-first : (k : ℕ) → finder.numberOf (f .answer) ≡ suc k → order.First Before Due (suc k)
   -- demand 2: a triangle is listed exactly when it is a candidate, every weight is the defined one, no pair lacks its row (rules 2.3 to 2.19)
-  pub lists : (count row-count : ℕ) → findCall p candidates weights rows .answer ≡ found.Lists count row-count →
-      TablesHold p count row-count candidates weights rows
-      (findCall p candidates weights rows .candidates) (findCall p candidates weights rows .weights) (findCall p candidates weights rows .rows)
-  -- the places that the tables need are told in the same way, before any is lent (rule 5.5)
-  pub sizes-when : NoneDue (SizesDue p) → sizesOf p ≡ sizes.Known (placesOf p)
-  pub sizes-refused-first : (k : ℕ) → polygon-due.First (SizesDue p) k → sizesOf p ≡ sizes.Refused (refusal k)
-  pub sizes-given-first : (k : ℕ) → sizesOf p ≡ sizes.Refused (refusal k) → polygon-due.First (SizesDue p) k
+  pub lists : NoneDue Due → TablesHold p (placesOf p .candidates) (placesOf p .rows) candidates weights rows (f .candidates) (f .weights) (f .rows)
 
--- the same of the finder's call on a rim file, under any limit
-pub record FinderFileCall (limit : ℕ) (file : List ℕ) (candidates : List (List ℕ)) (weights : List ℕ) (rows : List (List ℕ)) : Type 0 where
-  pub found-when : NoneDue (FindFileDue limit file candidates weights rows) → findFile limit file candidates weights rows .answer
-      ≡ found.Lists (placesOf (polygonIn limit file) .candidates) (placesOf (polygonIn limit file) .rows)
-  pub found-only-when : (count row-count : ℕ) → findFile limit file candidates weights rows .answer ≡ found.Lists count row-count →
-      NoneDue (FindFileDue limit file candidates weights rows)
-  pub refused-first : (k : ℕ) → First (FindFileDue limit file candidates weights rows) k →
-      findFile limit file candidates weights rows ≡ finding (found.Refused (refusal k)) candidates weights rows
-  pub given-first : (k : ℕ) → finder.numberOf (findFile limit file candidates weights rows .answer) ≡ suc k →
-      First (FindFileDue limit file candidates weights rows) (suc k)
-  pub lists : NoneDue (FindFileDue limit file candidates weights rows) →
-      TablesHold (polygonIn limit file) (placesOf (polygonIn limit file) .candidates) (placesOf (polygonIn limit file) .rows) candidates weights rows
-      (findFile limit file candidates weights rows .candidates) (findFile limit file candidates weights rows .weights)
-      (findFile limit file candidates weights rows .rows)
+-- the places that the tables of a polygon need are told in the same way, before any is lent (rule 5.5)
+pub record TellsSizes (p : Polygon) : Type 0 where
+  pub known-when : NoneDue (SizesDue p) → sizesOf p ≡ sizes.Known (placesOf p)
+  pub refused-first : (k : ℕ) → polygon-due.First (SizesDue p) k → sizesOf p ≡ sizes.Refused (refusal k)
+  pub given-first : (k : ℕ) → sizesOf p ≡ sizes.Refused (refusal k) → polygon-due.First (SizesDue p) k
 
--- ---- the one call on a rim file, under any limit
-pub record RimFile (limit : ℕ) (file : List ℕ) (t : Tables) : Type 0 where
-  -- demand 1: the call ends in a patch or 'none' exactly when no number is due (rules 4.31, 4.33)
-  pub taken-when : NoneDue (CallDue limit file t) → Taken (patchFile limit file t .outcome)
-  pub taken-only-when : Taken (patchFile limit file t .outcome) → NoneDue (CallDue limit file t)
-  -- every other call gets the first number due, and every lent table holds what it held (rules 4.30, 4.31)
-  pub refused-first : (k : ℕ) → First (CallDue limit file t) k → patchFile limit file t ≡ refused k t
-  pub given-first : (k : ℕ) → numberOf (patchFile limit file t .outcome) ≡ suc k → First (CallDue limit file t) (suc k)
+-- ---- patches, of a call that takes a polygon through finding and tiling: by the numbers due on it, the polygon, the tables, and what it answered and left
+pub record Closes {Place : Type 0} (Before : Place → Place → Type 0) (Due : Place → ℕ → Type 0) (p : Polygon) (t : Tables) (x : Patching) : Type 0 where
+  -- demand 1: the call ends in a patch or 'none' exactly when no number is due (rules 4.31, 4.33, 4.34)
+  pub taken-when : NoneDue Due → Taken (x .outcome)
+  pub taken-only-when : Taken (x .outcome) → NoneDue Due
+  -- every other call gets the first number due, and every lent table holds what it held (rules 4.30, 4.31, 4.34)
+  pub refused-first : (k : ℕ) → order.First Before Due k → x ≡ refused k t
+  pub given-first : (k : ℕ) → numberOf (x .outcome) ≡ suc k → order.First Before Due (suc k)
   -- demand 2, of the lists in the first places of the tables (rules 2.3 to 2.19, 3.9)
-  pub lists : NoneDue (CallDue limit file t) → ListsLeft (polygonIn limit file) t (patchFile limit file t .left)
+  pub lists : NoneDue Due → ListsLeft p t (x .left)
   -- demand 3, over these lists: a patch exactly when they hold a tiling, in walk order with its own total; every other tiling costs at least as much, and
   -- each that costs the same comes later; 'none' exactly when they hold none (rules 3.3 to 3.7)
-  pub right : NoneDue (CallDue limit file t) → RightOfTables (polygonIn limit file) (patchFile limit file t)
+  pub right : NoneDue Due → RightOfTables p x
   -- what the caller is handed: after a patch its n - 2 triangles in walk order, each once; after 'none' nothing (rule 3.8)
-  pub handed : NoneDue (CallDue limit file t) → HandedOfTables (polygonIn limit file) (patchFile limit file t)
+  pub handed : NoneDue Due → HandedOfTables p x
   -- beside it the work table has 0 for each candidate, and every further place of both tables what it held (rules 3.8, 3.9)
-  pub rest : NoneDue (CallDue limit file t) → RestOfTables (polygonIn limit file) t (patchFile limit file t)
+  pub rest : NoneDue Due → RestOfTables p t x
   -- what tilings are, below, is said of these lists
-  pub valid : NoneDue (CallDue limit file t) → ValidProblem (problemLeft (polygonIn limit file) (patchFile limit file t .left))
-  -- the sizing call: the one call gives its number, and 13 exactly where a table has fewer places than it says (rules 4.13, 5.5)
+  pub valid : NoneDue Due → ValidProblem (problemLeft p (x .left))
+
+-- the sizing call on a rim file: the one call gives its number, and 13 exactly where a table has fewer places than it says (rules 4.13, 5.5)
+pub record TellsFileSizes (limit : ℕ) (file : List ℕ) (t : Tables) : Type 0 where
   pub sizes-refused : (k : ℕ) → sizesFile limit file ≡ sizes.Refused (refusal k) → patchFile limit file t ≡ refused k t
   pub shorter-13 : {needed : Places} → sizesFile limit file ≡ sizes.Known needed → TooShort needed t → patchFile limit file t ≡ refused 13 t
   pub enough-taken : {needed : Places} → sizesFile limit file ≡ sizes.Known needed → (TooShort needed t → ⊥) → Taken (patchFile limit file t .outcome)
-
--- ---- the same of a polygon built by hand
-pub record HandBuilt (p : Polygon) (t : Tables) : Type 0 where
-  -- demand 1 (rules 4.30, 4.33, 4.34)
-  pub taken-when : NoneDue (PatchDue p t) → Taken (patchPolygon p t .outcome)
-  pub taken-only-when : Taken (patchPolygon p t .outcome) → NoneDue (PatchDue p t)
-  pub refused-first : (k : ℕ) → polygon-due.First (PatchDue p t) k → patchPolygon p t ≡ refused k t
-  pub given-first : (k : ℕ) → numberOf (patchPolygon p t .outcome) ≡ suc k → polygon-due.First (PatchDue p t) (suc k)
-  -- demands 2 and 3, and what is handed back (rules 2.3 to 2.19, 3.3 to 3.9)
-  pub lists : NoneDue (PatchDue p t) → ListsLeft p t (patchPolygon p t .left)
-  pub right : NoneDue (PatchDue p t) → RightOfTables p (patchPolygon p t)
-  pub handed : NoneDue (PatchDue p t) → HandedOfTables p (patchPolygon p t)
-  pub rest : NoneDue (PatchDue p t) → RestOfTables p t (patchPolygon p t)
-  pub valid : NoneDue (PatchDue p t) → ValidProblem (problemLeft p (patchPolygon p t .left))
 
 -- ---- direct jobs, of the tiler's call
 pub record DirectJob (job : Job) (triangles work : List ℕ) : Type 0 where
@@ -322,11 +294,17 @@ pub record Printing (limit : ℕ) (file : List ℕ) : Type 0 where
 -- ---- the page
 pub record Promises : Type 0 where
   pub reading : (limit : ℕ) (file : List ℕ) → ReaderCall limit file
-  pub finding : (p : Polygon) (candidates : List (List ℕ)) (weights : List ℕ) (rows : List (List ℕ)) → FinderCall p candidates weights rows
+  -- the finder's call and the one call, each on a polygon built by hand and on a rim file, and the sizing calls
+  pub finding : (p : Polygon) (candidates : List (List ℕ)) (weights : List ℕ) (rows : List (List ℕ)) →
+      Finds PolygonBefore (FindDue p candidates weights rows) p candidates weights rows (findCall p candidates weights rows)
   pub finding-files : (limit : ℕ) (file : List ℕ) → Bytes file → (candidates : List (List ℕ)) (weights : List ℕ) (rows : List (List ℕ)) →
-      FinderFileCall limit file candidates weights rows
-  pub rim-files : (limit : ℕ) (file : List ℕ) → Bytes file → (t : Tables) → RimFile limit file t
-  pub hand-built : (p : Polygon) (t : Tables) → HandBuilt p t
+      Finds FileBefore (FindFileDue limit file candidates weights rows) (polygonIn limit file) candidates weights rows
+      (findFile limit file candidates weights rows)
+  pub hand-built : (p : Polygon) (t : Tables) → Closes PolygonBefore (PatchDue p t) p t (patchPolygon p t)
+  pub rim-files : (limit : ℕ) (file : List ℕ) → Bytes file → (t : Tables) →
+      Closes FileBefore (CallDue limit file t) (polygonIn limit file) t (patchFile limit file t)
+  pub polygon-sizes : (p : Polygon) → TellsSizes p
+  pub file-sizes : (limit : ℕ) (file : List ℕ) (t : Tables) → TellsFileSizes limit file t
   pub direct-jobs : (job : Job) (triangles work : List ℕ) → DirectJob job triangles work
   pub tilings : (problem : Problem) → Tilings problem
   pub editions : (file : List ℕ) → Editions file

@@ -16,7 +16,6 @@ use Rattle.triangulation.specs.Triangulations.{Problem, ValidProblem, lo
 use Rattle.triangulation.specs.Triangulations.{totalWeight, preorderFrom, preorder, isBoundary, edgeOk, isTriangulation}
 use Rattle.triangulation.proofs.Sums.{Mem, count, sum-same, count-mono, mem-count, Any, any, none, some, One, one, the-one}
 use Rattle.triangulation.proofs.Parts.{Part, edge, node, boundary, between-le, isStep, IsEdge, IsStep, isEdge-cases, isStep-cases}
-use Rattle.triangulation.proofs.Parts as W
 use Rattle.triangulation.proofs.SetParts.{both-eq, Set, longEdge-is, none-on-step, one-on-edge, share, part-total}
 
 module _ (job : Problem) where

@@ -2,7 +2,7 @@
 use mathlib.Core.Path.{_≡_, refl, sym, _∙_, subst, subst₂}
 use mathlib.Core.Bool.{true}
 use mathlib.Core.List.{List}
-use Prim.Native.Nat.{ℕ, _+_, _-_, _≤_, _<_}
+use Prim.Native.Nat.{ℕ, _+_, _-_, _<_}
 use native.Mathlib.Omega.{arith}
 use Rattle.integers.proofs.Order.{zero-bits, other-bits}
 use Rattle.integers.proofs.Bounds.{signed-fits}
@@ -13,9 +13,9 @@ use Rattle.geometry.specs.declared.sphere.Sphere.{Sphere}
 use Rattle.geometry.specs.Bounds.{SphereBounds}
 use Rattle.geometry.proofs.Spheres.{not-tagged}
 use Rattle.faces.proofs.Fours.{left1, left2, left3, left4, into2, into3, into4, out2, out3, out4}
-use Rattle.delaunay_tetrahedra.specs.Tetrahedra.{insideFour, counts, isFifth}
+use Rattle.delaunay_tetrahedra.specs.Tetrahedra.{counts, isFifth}
 use Rattle.delaunay_search.proofs.Marking.{kept-start, kept-turn, kept-then}
-use Rattle.delaunay_search.proofs.Scanning.{Scanned, Passed, scanned-in}
+use Rattle.delaunay_search.proofs.Scanning.{Passed, scanned-in}
 use Rattle.delaunay_tetrahedra.proofs.Counting.{not-counts-flat}
 use Rattle.delaunay_search.proofs.Lifting.{lift-in}
 use Rattle.delaunay_tetrahedra.proofs.Corners.{Three, vertex-in, pencil-in, none-counts, sphere-in, flat-is}

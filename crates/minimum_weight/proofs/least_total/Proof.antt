@@ -1,7 +1,6 @@
 -- `minimum_weight::least_total` meets its contract: it finds what the recursion has beneath the edge (0, n − 1). Assumes nothing.
 use Prim.Native.Nat.{_-_}
 use mathlib.Core.Path.{sym, ap, _∙_}
-use native.Mathlib.Omega.{arith}
 use lib.ListN.{length}
 use Rattle.triangulation.specs.Recursion.{costOf}
 use Rattle.minimum_weight.proofs.Edges.{found-edge}
