@@ -8,7 +8,8 @@ use Rattle.triangulation.specs.Demand3.{Demand3}
 use Rattle.triangulator.specs.Demands.{Handed}
 use Rattle.pipeline.specs.Patching.{Tables, problemIn, patchFile, handedBack}
 use Rattle.demands.specs.Demand1.{polygonIn, CallDue}
-use Rattle.demands.specs.Demand3.{ListsLeft, problemLeft, answerIn, RightOfTables, HandedOfTables, RestOfTables}
+use Rattle.demands.specs.Demand3.{ListsLeft, QuartersLeft, problemLeft, answerIn, RightOfTables, HandedOfTables, RestOfTables}
+use Rattle.demands.proofs.Quarters.{in-quarters}
 use Rattle.demands.proofs.Demand1.{accepted}
 use Rattle.demands.proofs.Patched.{patched-demand2, patched-demand3, patched-demand3-of-tables}
 use Rattle.demands.proofs.Patched.{patched-handed, patched-handed-of-tables, patched-valid, patched-rest}
@@ -17,6 +18,10 @@ module _ (limit : ℕ) (file : List ℕ) (bytes : Bytes file) (t : Tables) (none
   -- Demand 2: the candidate, weight and row tables hold the lists of the rim in their first places, and what they held in all others
   pub file-demand2 : ListsLeft (polygonIn limit file) t (patchFile limit file t .left)
   file-demand2 = let a = accepted limit file bytes t none in patched-demand2 (polygonIn limit file) t (a .call-is) (a .polygon-valid)
+
+  -- lengths in quarters, of what the call left in the tables
+  pub file-quarters : QuartersLeft (polygonIn limit file) (patchFile limit file t .left)
+  file-quarters = in-quarters (polygonIn limit file) (accepted limit file bytes t none .polygon-valid) (file-demand2 .lists)
 
   -- Demand 3: a patch exactly when the candidates hold a tiling, 'none' exactly when they hold none; the patch is a tiling in walk order with its own
   -- total; no tiling costs less, and each other that costs the same comes later in walk order

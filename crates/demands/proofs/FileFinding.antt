@@ -5,6 +5,7 @@ use mathlib.Core.Path.{_≡_, refl, sym, ap, _∙_, subst}
 use mathlib.Core.List.{List}
 use mathlib.Core.Logic.{_⊎_}
 use Prim.Native.Nat.{ℕ, zero, suc}
+use lib.ListN.{take}
 use native.Mathlib.Omega.{arith}
 use Rattle.codes.specs.Refusals.{refusal}
 use Rattle.lists.specs.Lists.{upFrom}
@@ -22,9 +23,11 @@ use Rattle.pipeline.specs.Finding.{findFileNumber, findFile}
 use Rattle.demands.specs.Demand1.{polygonIn}
 use Rattle.demands.specs.Finding.{FindTooShort, few-candidates, few-weights, few-rows, FindFileDue}
 use Rattle.demands.specs.Demand2.{TablesHold}
+use Rattle.demands.specs.Quarters.{InQuarters}
 use Rattle.demands.proofs.Finding.{short-true, true-short}
 use Rattle.demands.proofs.FileNumbers.{polygon-is, polygon-valid, file-verdict, none-read}
 use Rattle.demands.proofs.Tables.{filled-hold}
+use Rattle.demands.proofs.Quarters.{in-quarters}
 
 -- no table is too short for the polygon that stands for a file which the reader refuses
 nothing-13 : {candidates rows : List (List ℕ)} {weights : List ℕ} → FindTooShort (placesOf emptyPolygon) candidates weights rows → ⊥
@@ -101,3 +104,10 @@ module _ (limit : ℕ) (file : List ℕ) (bytes : Bytes file) (candidates : List
         subst (λ (x : Finding). TablesHold (polygonIn limit file) (placesOf (polygonIn limit file) .candidates) (placesOf (polygonIn limit file) .rows)
         candidates weights rows (x .candidates) (x .weights) (x .rows)) (sym call-is)
         (filled-hold (polygonIn limit file) (polygon-valid limit file read bytes) candidates weights rows)
+
+    -- lengths in quarters, of these lists
+    pub found-quarters : InQuarters (polygonIn limit file)
+        (take (placesOf (polygonIn limit file) .candidates) (findFile limit file candidates weights rows .candidates))
+        (take (placesOf (polygonIn limit file) .candidates) (findFile limit file candidates weights rows .weights))
+        (take (placesOf (polygonIn limit file) .rows) (findFile limit file candidates weights rows .rows))
+    found-quarters = in-quarters (polygonIn limit file) (polygon-valid limit file read bytes) (found-hold .lists)

@@ -9,7 +9,7 @@ use Prim.Native.Nat.{ℕ, zero, suc}
 use native.Mathlib.Omega.{arith}
 use borrow.Author.Tests.{ltb-true, lt-ltb}
 use lib.Dec.{ltb}
-use lib.ListN.{length}
+use lib.ListN.{length, take}
 use Rattle.codes.specs.Refusals.{refusal}
 use Rattle.lists.proofs.Choice.{Truth, holds, fails, truth, no, true-not-false, either-left, either-right}
 use Rattle.terms.specs.Order.{NoneDue}
@@ -17,14 +17,19 @@ use Rattle.terms.proofs.Order.{Verdict, none-first, verdict-either, verdict-fir
 use Rattle.polygon.specs.declared.Polygon.{Polygon}
 use Rattle.polygon.specs.Due.{PolygonBefore, First}
 use Rattle.polygon.proofs.Due.{ordered}
+use Rattle.polygon.proofs.Validity.{code-valid}
 use Rattle.finder.specs.declared.Found.the-variants.{Lists, Refused}
 use Rattle.finder.specs.declared.Sizes.the-variants as sizes
 use Rattle.finder.specs.Finding.{Finding, finding, numberOf, shortTables, numberDue, findBy, findNumber, findCall}
 use Rattle.finder.specs.Sizes.{placesOf, sizesBy, sizesOf}
 use Rattle.finder.specs.Sizes as finder-sizes
+use Rattle.finder.proofs.Answers.{clear}
 use Rattle.demands.specs.Finding.{FindTooShort, few-candidates, few-weights, few-rows}
 use Rattle.demands.specs.Polygons.{FindDue, SizesDue}
+use Rattle.demands.specs.Quarters.{InQuarters}
 use Rattle.demands.proofs.PolygonNumbers.{polygon-verdict}
+use Rattle.demands.proofs.Tables.{find-hold}
+use Rattle.demands.proofs.Quarters.{in-quarters}
 
 module _ (p : Polygon) (candidates : List (List ℕ)) (weights : List ℕ) (rows : List (List ℕ)) where
   -- ---- 13, as a test and as a statement
@@ -71,6 +76,14 @@ module _ (p : Polygon) (candidates : List (List ℕ)) (weights : List ℕ) (rows
   pub found-when : NoneDue (FindDue p candidates weights rows) →
       findCall p candidates weights rows .answer ≡ Lists (placesOf p .candidates) (placesOf p .rows)
   found-when none = ap (λ (x : Finding). x .answer) (by-number (verdict-zero verdict none))
+
+  -- lengths in quarters, of the lists that are found
+  pub find-quarters : NoneDue (FindDue p candidates weights rows) →
+      InQuarters p (take (placesOf p .candidates) (findCall p candidates weights rows .candidates))
+      (take (placesOf p .candidates) (findCall p candidates weights rows .weights)) (take (placesOf p .rows) (findCall p candidates weights rows .rows))
+  find-quarters none =
+      in-quarters p (code-valid p (clear p (shortTables p candidates weights rows) (verdict-zero verdict none) .code))
+      (find-hold p candidates weights rows _ _ (found-when none) .lists)
 
   pub found-only-when : (count row-count : ℕ) → findCall p candidates weights rows .answer ≡ Lists count row-count →
       NoneDue (FindDue p candidates weights rows)

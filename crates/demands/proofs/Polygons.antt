@@ -20,10 +20,11 @@ use Rattle.triangulator.specs.Demands.{Taken}
 use Rattle.triangulator.proofs.Demands.{settled-taken}
 use Rattle.pipeline.specs.Patching.{Tables, Patching, refused, problemIn, tablesShort, patched, patchBy, polygonNumber, patchPolygon}
 use Rattle.demands.specs.Demand1.{TooShort}
-use Rattle.demands.specs.Demand3.{ListsLeft, problemLeft, answerIn, RightOfTables, HandedOfTables, RestOfTables}
+use Rattle.demands.specs.Demand3.{ListsLeft, QuartersLeft, problemLeft, answerIn, RightOfTables, HandedOfTables, RestOfTables}
 use Rattle.demands.specs.Polygons.{by-polygon, PatchDue}
 use Rattle.demands.proofs.Demand1.{short-true, true-short, never-refused, never-given}
 use Rattle.demands.proofs.PolygonNumbers.{polygon-verdict}
+use Rattle.demands.proofs.Quarters.{in-quarters}
 use Rattle.demands.proofs.Patched.{patched-demand2, patched-demand3, patched-demand3-of-tables}
 use Rattle.demands.proofs.Patched.{patched-handed-of-tables, patched-valid, patched-rest}
 
@@ -78,6 +79,10 @@ module _ (p : Polygon) (t : Tables) where
     -- Demand 2: the candidate, weight and row tables hold the lists of the polygon in their first places, and what they held in all others
     pub polygon-demand2 : ListsLeft p t (patchPolygon p t .left)
     polygon-demand2 = patched-demand2 p t call-is valid
+
+    -- lengths in quarters, of what the call left in the tables
+    pub polygon-quarters : QuartersLeft p (patchPolygon p t .left)
+    polygon-quarters = in-quarters p valid (polygon-demand2 .lists)
 
     -- Demand 3: a patch exactly when the candidates hold a tiling, and that patch is the right one; the same over what the call left in the tables
     pub polygon-demand3 : Demand3 (problemIn p) (answerIn (patchPolygon p t))

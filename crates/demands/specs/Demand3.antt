@@ -12,6 +12,7 @@ use Rattle.triangulator.specs.Call.{result}
 use Rattle.triangulator.specs.Demands.{stated, Handed, RestLeft}
 use Rattle.pipeline.specs.Patching.{Tables, Patching, handedBack}
 use Rattle.demands.specs.Demand2.{TablesHold}
+use Rattle.demands.specs.Quarters.{InQuarters}
 
 -- the candidate, weight and row tables have the polygon's lists in their first places, and in each further place what they held (rule 3.9)
 abbrev pub ListsLeft : Polygon → Tables → Tables → Type 0
@@ -27,6 +28,10 @@ weightsLeft p left = take (placesOf p .candidates) (left .weights)
 
 abbrev pub rowsLeft : Polygon → Tables → List (List ℕ)
 rowsLeft p left = take (placesOf p .rows) (left .rows)
+
+-- lengths in quarters, of these lists (rules 2.7, 2.10)
+abbrev pub QuartersLeft : Polygon → Tables → Type 0
+QuartersLeft p left = InQuarters p (candidatesLeft p left) (weightsLeft p left) (rowsLeft p left)
 
 -- the job that they state (rule 3.1)
 abbrev pub jobLeft : Polygon → Tables → Job

@@ -103,7 +103,7 @@ module _ (n : Vector) where
   opposite-dot : dotOf n (opposite n) ≡ pos 0 -ℤ squareOf n
   opposite-dot = ring (n .x ∷ n .y ∷ n .z ∷ []) (dotE (vec 0) (oppositeE (vec 0))) (con (pos 0) :- dotE (vec 0) (vec 0)) tt
 
-  opposite-square : squareOf (opposite n) ≡ squareOf n
+  pub opposite-square : squareOf (opposite n) ≡ squareOf n
   opposite-square = ring (n .x ∷ n .y ∷ n .z ∷ []) (dotE (oppositeE (vec 0)) (oppositeE (vec 0))) (dotE (vec 0) (vec 0)) tt
 
   pub opposite-normals : Within maxNormal n → NotZero n → bendBetween n (opposite n) ≡ 2000

@@ -1,5 +1,5 @@
 -- The length of a normal is the whole part of four times the root, so it is less than a quarter below the root. Assumes nothing.
-use mathlib.Core.Path.{_≡_, refl, _∙_, ap}
+use mathlib.Core.Path.{_≡_, refl, sym, _∙_, ap, subst}
 use Prim.Native.Nat.{ℕ, zero, suc, _+_, _*_, _^_, _≤_, _<_}
 use native.Mathlib.Nat.{lt-of-le-of-lt, le-trans, mul-le-mul-left, mul-le-mul-right}
 use native.Mathlib.Decide.{decLe}
@@ -12,9 +12,9 @@ use Rattle.integers.proofs.Rounding.{floor-root-is, floor-root-unique, root-le,
 use Rattle.geometry.specs.Vectors.{squareOf}
 use Rattle.geometry.specs.Bounds.{maxNormal, maxLength, Within}
 use Rattle.geometry.specs.Faces.{lengthScale, squareScale, lengthOf}
-use Rattle.geometry.specs.Measures.{IsLength, LongerByQuarter}
+use Rattle.geometry.specs.Measures.{NotZero, IsLength, LongerByQuarter}
 use Rattle.geometry.proofs.Vectors.{at-most-dot}
-use Rattle.geometry.proofs.Squares.{square-size}
+use Rattle.geometry.proofs.Squares.{square-size, not-zero}
 
 -- ---- the length of a normal
 
@@ -47,6 +47,13 @@ module _ {n : Vector} (h : Within maxNormal n) where
 
       above : {m : ℕ} → lengthScale ≤ m → 0 < m
       above h = omega arith
+
+-- every normal has one length, and that of a normal that is not zero is above 0
+pub has-one-length : (n : Vector) → Within maxNormal n → (m : ℕ) × IsLength n m × ((l : ℕ) → IsLength n l → l ≡ m)
+has-one-length n h = (lengthOf n, length-is h, one-length h)
+
+pub not-zero-above-0 : (n : Vector) → Within maxNormal n → NotZero n → (m : ℕ) → IsLength n m → 0 < m
+not-zero-above-0 n h z m i = subst (λ (l : ℕ). 0 < l) (sym (one-length h m i)) (length-above-0 h (not-zero z))
 
 pub same-length : (n k : Vector) → squareOf n ≡ squareOf k → lengthOf n ≡ lengthOf k
 unfolding lengthOf

@@ -3,22 +3,25 @@ use mathlib.Core.Path.{_≡_, refl, sym, _∙_, ap, subst}
 use mathlib.Core.List.{[], _∷_}
 use mathlib.Core.Bool.{Bool, true, false, cond}
 use Prim.Native.Nat.{ℕ, zero, suc, _+_, _*_, _-_, _≤_, _<_}
-use native.Mathlib.Nat.{le-antisymm}
+use native.Mathlib.Nat.{le-antisymm, le-refl}
 use native.Mathlib.Decide.{decLe}
 use native.Mathlib.Omega.{arith}
 use lib.IntN.{ℤ, pos, negsuc, negℤ, natAbs, _+ℤ_, _-ℤ_, _*ℤ_, +ℤ-idl}
 use lib.Signed.{ltZ, _≤ℤ_, _<ℤ_, leZ-yes, <ℤ-≤ℤ-trans, clashℤ}
+use Rattle.integers.specs.Bounds.{AtMost}
 use Rattle.integers.specs.Rounding.{floorDiv}
+use Rattle.integers.proofs.Bounds.{at-most-sub}
 use Rattle.integers.proofs.Ring.{var, con, _:+_, _:-_, ring}
 use Rattle.integers.proofs.Order.{less-at-most, at-most-trans, at-most-multiple, at-most-plus}
 use Rattle.integers.proofs.Rounding.{floor-div-low, floor-div-high, product-above-0}
 use Rattle.geometry.specs.declared.Vector.{Vector}
-use Rattle.geometry.specs.Vectors.{dotOf}
+use Rattle.geometry.specs.Vectors.{dotOf, opposite}
 use Rattle.geometry.specs.Bounds.{maxNormal, Within}
 use Rattle.geometry.specs.Faces.{squareScale, ratioScale, lengthOf, ratioOf, bendOf, bendBetween}
-use Rattle.geometry.specs.Measures.{IsBend, IsBendBetween}
-use Rattle.geometry.proofs.Lengths.{length-is, one-length}
-use Rattle.geometry.proofs.Bends.{bend-is, bend-bound}
+use Rattle.geometry.specs.Measures.{NotZero, IsBend, IsBendBetween}
+use Rattle.geometry.proofs.Squares.{not-zero}
+use Rattle.geometry.proofs.Lengths.{length-is, one-length, length-above-0, same-length}
+use Rattle.geometry.proofs.Bends.{bend-is, bend-bound, equal-normals, perpendicular-normals, opposite-square, opposite-normals}
 
 module _ (d : ℤ) (m k : ℕ) (above : 0 < m * k) where
   abbrev dividend : ℤ
@@ -129,3 +132,34 @@ module _ {n k : Vector} (hn : Within maxNormal n) (hk : Within maxNormal k) wher
   one-bend-between b h =
       one-bend (dotOf n k) (h .m) (h .l) (product-above-0 (h .m) (h .l) (h .m-above-0) (h .l-above-0)) b (h .is)
       ∙ (λ i. bendOf (dotOf n k) (one-length hn (h .m) (h .m-is) i) (one-length hk (h .l) (h .l-is) i))
+
+-- two normals that are not zero have one bend, from 0 to 2000
+pub has-one-bend : (n k : Vector) → Within maxNormal n → Within maxNormal k → NotZero n → NotZero k →
+    (b : ℕ) × (b ≤ 2000) × IsBendBetween n k b × ((c : ℕ) → IsBendBetween n k c → c ≡ b)
+has-one-bend n k hn hk zn zk =
+    (bendBetween n k, bend-bound (dotOf n k) (lengthOf n) (lengthOf k),
+    bend-between hn hk (length-above-0 hn (not-zero zn)) (length-above-0 hk (not-zero zk)), one-bend-between hn hk)
+
+-- equal, perpendicular and opposite normals that are not zero (rule 6.5)
+module _ {n : Vector} (hn : Within maxNormal n) (zn : NotZero n) where
+  pub equal-bend : IsBendBetween n n 0
+  equal-bend = subst (λ (b : ℕ). IsBendBetween n n b) (equal-normals hn zn) (bend-between hn hn (length-above-0 hn (not-zero zn)) (length-above-0 hn (not-zero zn)))
+
+  pub perpendicular-bend : {k : Vector} → Within maxNormal k → NotZero k → dotOf n k ≡ pos 0 → IsBendBetween n k 1000
+  perpendicular-bend {k} hk zk e =
+      subst (λ (b : ℕ). IsBendBetween n k b) (perpendicular-normals n k e)
+      (bend-between hn hk (length-above-0 hn (not-zero zn)) (length-above-0 hk (not-zero zk)))
+
+  pub opposite-bend : IsBendBetween n (opposite n) 2000
+  opposite-bend =
+      subst (λ (b : ℕ). IsBendBetween n (opposite n) b) (opposite-normals n hn zn)
+      (bend-between hn turned above (subst (λ (m : ℕ). 0 < m) (sym (same-length (opposite n) n (opposite-square n))) above))
+    where
+      above : 0 < lengthOf n
+      above = length-above-0 hn (not-zero zn)
+
+      turned : Within maxNormal (opposite n)
+      turned = record { in-x = at-most-sub zero (hn .in-x); in-y = at-most-sub zero (hn .in-y); in-z = at-most-sub zero (hn .in-z) }
+        where
+          zero : AtMost 0 (pos 0)
+          zero = record { size = le-refl 0 }

@@ -5,6 +5,10 @@ use Prim.Native.Nat.{ℕ}
 use Rattle.rim_file.specs.File.{Bytes}
 use Rattle.rim_file.proofs.Layouts as layouts
 use Rattle.grid.proofs.Unique as unique
+use Rattle.geometry.proofs.Faces as triangles
+use Rattle.geometry.proofs.Lengths as lengths
+use Rattle.geometry.proofs.Measures as bends
+use Rattle.weights.proofs.Surfaces as surfaces
 use Rattle.polygon.specs.declared.Polygon.{Polygon}
 use Rattle.reader.proofs.Demand1 as reader
 use Rattle.reader.proofs.Accepted as accepted
@@ -41,7 +45,7 @@ use Rattle.demands.proofs.Turns as turns
 use Rattle.patch_program.specs.Printing.{printoutOf}
 use Rattle.patch_program.proofs.Demands as lines
 use Rattle.promises.specs.Promises.{ReaderCall, Finds, TellsSizes, Closes, TellsFileSizes, DirectJob, Editions, ConverterCall}
-use Rattle.promises.specs.Promises.{HalfSteps, Limits, Turns, FlatRims, Judging, Printing, Promises}
+use Rattle.promises.specs.Promises.{HalfSteps, Limits, Turns, FlatRims, Lengths, Judging, Printing, Promises}
 
 reads : (limit : ℕ) (file : List ℕ) → ReaderCall limit file
 reads limit file = record {
@@ -65,6 +69,7 @@ finds p candidates weights rows = record {
   refused-first = finding.refused-first p candidates weights rows;
   given-first = finding.given-first p candidates weights rows;
   lists = λ none. tables.find-hold p candidates weights rows _ _ (finding.found-when p candidates weights rows none);
+  quarters = finding.find-quarters p candidates weights rows;
 }
 
 finds-in-files : (limit : ℕ) (file : List ℕ) → Bytes file → (candidates : List (List ℕ)) (weights : List ℕ) (rows : List (List ℕ)) →
@@ -76,6 +81,7 @@ finds-in-files limit file bytes candidates weights rows = record {
   refused-first = file-finding.refused-first limit file bytes candidates weights rows;
   given-first = file-finding.given-first limit file bytes candidates weights rows;
   lists = file-finding.found-hold limit file bytes candidates weights rows;
+  quarters = file-finding.found-quarters limit file bytes candidates weights rows;
 }
 
 by-hand : (p : Polygon) (t : Tables) → Closes PolygonBefore (PatchDue p t) p t (patchPolygon p t)
@@ -85,6 +91,7 @@ by-hand p t = record {
   refused-first = polygons.refused-first p t;
   given-first = polygons.given-first p t;
   lists = polygons.polygon-demand2 p t;
+  quarters = polygons.polygon-quarters p t;
   right = polygons.polygon-demand3-of-tables p t;
   handed = polygons.polygon-handed-of-tables p t;
   rest = polygons.polygon-rest p t;
@@ -98,6 +105,7 @@ closes limit file bytes t = record {
   refused-first = demand1.refused-first limit file bytes t;
   given-first = demand1.given-first limit file bytes t;
   lists = demands.file-demand2 limit file bytes t;
+  quarters = demands.file-quarters limit file bytes t;
   right = demands.file-demand3-of-tables limit file bytes t;
   handed = demands.file-handed-of-tables limit file bytes t;
   rest = demands.file-rest limit file bytes t;
@@ -182,6 +190,19 @@ in-plane = record {
   triangle-gets-patch = flat.triangle-gets-patch;
 }
 
+measures : Lengths
+measures = record {
+  of-triangles = triangles.normal-within;
+  of-surfaces = surfaces.outside-within;
+  one-length = lengths.has-one-length;
+  above-0 = lengths.not-zero-above-0;
+  longer-is-more = lengths.longer-is-more;
+  one-bend = bends.has-one-bend;
+  equal = λ n h z. bends.equal-bend h z;
+  perpendicular = λ n k hn hk zn zk e. bends.perpendicular-bend hn zn hk zk e;
+  opposite = λ n h z. bends.opposite-bend h z;
+}
+
 judges : (job : Job) (list : List ℕ) (total : ℕ) (work : List ℕ) → Judging job list total work
 judges job list total work = record {
   accepts-when = judge.accepts-when job list total work;
@@ -219,6 +240,7 @@ promises = record {
   limits = within;
   turns = in-turns;
   flat-rims = in-plane;
+  lengths = measures;
   judging = judges;
   own-patches = judging.file-patch-accepted;
   printing = prints;

@@ -9,9 +9,9 @@ use mathlib.Core.Logic.{_≢_}
 use mathlib.Core.Bool.{not, true, false}
 use mathlib.Core.List.{List}
 use Prim.Native.Nat.{ℕ, suc, _≤_, _<_}
-use lib.IntN.{ℤ}
+use lib.IntN.{ℤ, pos}
 use lib.Ieee.{Float}
-use lib.ListN.{length, replicate}
+use lib.ListN.{length, take, replicate}
 use Rattle.codes.specs.Refusals.{refusal}
 use Rattle.terms.specs.Limits.{minVertices, maxVertices, trimVertices, countFits}
 use Rattle.terms.specs.Entries.{triple}
@@ -20,8 +20,17 @@ use Rattle.terms.specs.Order as order
 use Rattle.lists.specs.Lists.{filled}
 use Rattle.grid.specs.Number.{finite, roundEighths, distance, HalfStep, EvenHalf}
 use Rattle.grid.specs.declared.GridPoint.{GridPoint}
+use Rattle.grid.specs.Point.{PointOnGrid}
+use Rattle.geometry.specs.declared.Vector.{Vector}
+use Rattle.geometry.specs.Vectors.{dotOf}
+use Rattle.geometry.specs.Vectors as vectors
+use Rattle.geometry.specs.Bounds.{maxNormal, Within}
+use Rattle.geometry.specs.Faces.{normalOf}
+use Rattle.geometry.specs.Measures.{NotZero, IsLength, IsBendBetween, LongerByQuarter}
 use Rattle.polygon.specs.declared.Polygon.{Polygon}
 use Rattle.polygon.specs.Polygon as polygon
+use Rattle.polygon.specs.declared.normal.Normal.{Normal}
+use Rattle.polygon.specs.Normal.{NormalInRange}
 use Rattle.polygon.specs.Normal as polygon-normals
 use Rattle.polygon.specs.Due.{PolygonBefore}
 use Rattle.polygon.specs.Due as polygon-due
@@ -37,7 +46,7 @@ use Rattle.reader.specs.Reading.{readingOf, refusedReading, statusNumber}
 use Rattle.planar.specs.Planes.{OnOneLine}
 use Rattle.planar.specs.Circles.{collinear}
 use Rattle.polygon.specs.Polygon.{vertex}
-use Rattle.weights.specs.Weights.{ownWeight}
+use Rattle.weights.specs.Weights.{vectorOf, ownWeight}
 use Rattle.finder.specs.declared.Found.the-variants as found
 use Rattle.finder.specs.declared.Places.{Places}
 use Rattle.finder.specs.declared.Sizes.the-variants as sizes
@@ -71,7 +80,8 @@ use Rattle.pipeline.specs.Sizes.{sizesFile}
 use Rattle.demands.specs.Candidates.{Face, Flat, CountsInPlane, Candidate, Cocircular}
 use Rattle.demands.specs.Demand1.{polygonIn, TooShort, CallDue}
 use Rattle.demands.specs.Demand2.{TablesHold}
-use Rattle.demands.specs.Demand3.{ListsLeft, jobLeft, problemLeft, answerIn, RightOfTables, HandedOfTables, RestOfTables}
+use Rattle.demands.specs.Quarters.{InQuarters}
+use Rattle.demands.specs.Demand3.{ListsLeft, QuartersLeft, jobLeft, problemLeft, answerIn, RightOfTables, HandedOfTables, RestOfTables}
 use Rattle.demands.specs.Finding.{FindFileDue}
 use Rattle.demands.specs.Polygons.{FindDue, PatchDue, SizesDue}
 use Rattle.demands.specs.Base.{baseFile}
@@ -112,6 +122,9 @@ pub record Finds {Place : Type 0} (Before : Place → Place → Type 0) (Due : P
   pub given-first : (k : ℕ) → finder.numberOf (f .answer) ≡ suc k → order.First Before Due (suc k)
   -- demand 2: a triangle is listed exactly when it is a candidate, every weight is the defined one, no pair lacks its row (rules 2.3 to 2.19)
   pub lists : NoneDue Due → TablesHold p (placesOf p .candidates) (placesOf p .rows) candidates weights rows (f .candidates) (f .weights) (f .rows)
+  -- the lengths in these weights and rows, those of normals outside too, are whole parts of four times the root (rules 2.7, 2.8, 2.10 to 2.15)
+  pub quarters : NoneDue Due →
+      InQuarters p (take (placesOf p .candidates) (f .candidates)) (take (placesOf p .candidates) (f .weights)) (take (placesOf p .rows) (f .rows))
 
 -- the places that the tables of a polygon need are told in the same way, before any is lent (rule 5.5)
 pub record TellsSizes (p : Polygon) : Type 0 where
@@ -129,6 +142,8 @@ pub record Closes {Place : Type 0} (Before : Place → Place → Type 0) (Due : 
   pub given-first : (k : ℕ) → numberOf (x .outcome) ≡ suc k → order.First Before Due (suc k)
   -- demand 2, of the lists in the first places of the tables (rules 2.3 to 2.19, 3.9)
   pub lists : NoneDue Due → ListsLeft p t (x .left)
+  -- with lengths that are whole parts of four times the root (rules 2.7, 2.8, 2.10 to 2.15)
+  pub quarters : NoneDue Due → QuartersLeft p (x .left)
   -- demand 3, over these lists: a patch exactly when they hold a tiling, in walk order with its own total; every other tiling costs at least as much, and
   -- each that costs the same comes later; 'none' exactly when they hold none (rules 3.3 to 3.7)
   pub right : NoneDue Due → RightOfTables p x
@@ -242,6 +257,22 @@ pub record FlatRims : Type 0 where
       collinear (vertex (polygonIn limit file) 0) (vertex (polygonIn limit file) 1) (vertex (polygonIn limit file) 2) ≡ false →
       patchFile limit file t .outcome ≡ Patch 1 (ownWeight (polygonIn limit file) (triple 0 1 2))
 
+-- ---- lengths in quarters, of every normal: those of triangles on the grid and those outside are within maxNormal
+pub record Lengths : Type 0 where
+  pub of-triangles : {a b c : GridPoint} → PointOnGrid a → PointOnGrid b → PointOnGrid c → Within maxNormal (normalOf a b c)
+  pub of-surfaces : {k : Normal} → NormalInRange k → Within maxNormal (vectorOf k)
+  -- m / 4 is at most the length, and less than a quarter below it; there is one such m, and it is at least 1 unless the normal is zero (rule 2.7)
+  pub one-length : (n : Vector) → Within maxNormal n → (m : ℕ) × IsLength n m × ((l : ℕ) → IsLength n l → l ≡ m)
+  pub above-0 : (n : Vector) → Within maxNormal n → NotZero n → (m : ℕ) → IsLength n m → 0 < m
+  -- of two normals whose lengths differ by a quarter or more the longer has the larger m (rule 2.7)
+  pub longer-is-more : (n k : Vector) → LongerByQuarter n k → (l m : ℕ) → IsLength n l → IsLength k m → l < m
+  -- two normals have one bend, from 0 to 2000: 0 where they are equal, 1000 where they are perpendicular, 2000 where they are opposite (rules 2.10, 2.11, 6.5)
+  pub one-bend : (n k : Vector) → Within maxNormal n → Within maxNormal k → NotZero n → NotZero k →
+      (b : ℕ) × (b ≤ 2000) × IsBendBetween n k b × ((c : ℕ) → IsBendBetween n k c → c ≡ b)
+  pub equal : (n : Vector) → Within maxNormal n → NotZero n → IsBendBetween n n 0
+  pub perpendicular : (n k : Vector) → Within maxNormal n → Within maxNormal k → NotZero n → NotZero k → dotOf n k ≡ pos 0 → IsBendBetween n k 1000
+  pub opposite : (n : Vector) → Within maxNormal n → NotZero n → IsBendBetween n (vectors.opposite n) 2000
+
 -- ---- judging patches from elsewhere
 pub record Judging (job : Job) (list : List ℕ) (total : ℕ) (work : List ℕ) : Type 0 where
   -- a list is accepted exactly when the job is, the list is a tiling without repeats, and the total is its total (rules 3.13, 4.36)
@@ -313,6 +344,7 @@ pub record Promises : Type 0 where
   pub limits : (file : List ℕ) → Limits file
   pub turns : Turns
   pub flat-rims : FlatRims
+  pub lengths : Lengths
   pub judging : (job : Job) (list : List ℕ) (total : ℕ) (work : List ℕ) → Judging job list total work
   pub own-patches : OwnPatches
   pub printing : (limit : ℕ) (file : List ℕ) → Printing limit file
@@ -327,7 +359,7 @@ pub record Promises : Type 0 where
 -- what a file says: rim_file/File `areaFactor`, `bendFactor`, reader/Chain `link`, reader/Due `HasRecords`, `HasVertex`, `HasNormal`, `ChainAtMost`,
 --   reader/Rounded `Rounded`, grid/Number `HalfStep`, `EvenHalf`, rim_file/Layouts `Edition1`, `Edition2`, rim_file/Editions `SameRim`
 -- candidates, weights and rows: demands/Candidates `Candidate`, `Flat`, `Cocircular`, demands/Demand2 `TablesHold`, demands/Demand3 `ListsLeft`,
---   `RightOfTables`, `HandedOfTables`, `RestOfTables`, planar/Planes `OnOneLine`, planar/Circles `collinear`, weights/Weights `ownWeight`
+--   `RightOfTables`, `HandedOfTables`, `RestOfTables`, demands/Quarters `InQuarters`, geometry/Measures `IsLength`, `IsBend`, `LongerByQuarter`, planar/Planes `OnOneLine`, planar/Circles `collinear`, weights/Weights `ownWeight`
 -- tilings and answers: jobs/Job `Job`, triangulation/Triangulations `Problem`, `totalWeight`, `preorder`, Problems `problemOf`, Tiling `Tiling`, Demand3
 --   `Demand3`, `HandedBack`, triangulator/Demands `Taken`, `Handed`, `RestLeft`, preorder/Preorder `TurnByTurn`, judge/Demands `IsTiling`, `Acceptable`,
 --   `SameNumbers`, `Excess`
