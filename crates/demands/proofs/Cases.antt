@@ -25,8 +25,8 @@ use Rattle.triangulator.specs.declared.Outcome.{Outcome}
 use Rattle.triangulator.specs.declared.Outcome.the-variants.{Patch}
 use Rattle.triangulator.specs.Call.{totalOf}
 use Rattle.pipeline.specs.Patching.{Tables, Patching, patching, patchFile}
-use Rattle.demands.specs.Worked.{fileP, lentP}
-use Rattle.demands.proofs.Worked.{file-P}
+use Rattle.demands.specs.Worked.{fileP, fileN, lentP}
+use Rattle.demands.proofs.Worked.{file-P, file-N}
 
 -- the rim of rule 6.1 with a bend factor
 abbrev rim : ℕ → Polygon
@@ -90,5 +90,28 @@ pub idle-wrong : {o : Outcome} → patching o lentP ≡ patchFile maxVertices fi
 idle-wrong e = let n = ap (λ (x : Patching). getD (x .left .work) 0 0) (e ∙ file-P) in omega (arith, n)
 
 -- the one call that hands the tiler no rows: the total of the areas alone
-pub rows-left-out-wrong : {t : Tables} → patching (Patch 2 157) t ≡ patchFile maxVertices fileP lentP → ⊥
+pub rows-left-out-wrong : {t : Tables} → patching (Patch 2 629) t ≡ patchFile maxVertices fileP lentP → ⊥
 rows-left-out-wrong e = let n = ap (λ (x : Patching). totalOf (x .outcome)) (e ∙ file-P) in omega (arith, n)
+
+-- ---- programs with another length or ratio than rules 2.7 and 2.10 say, by their totals for P and for the same rim with normals
+-- four times the whole root: 4 · 93 for the last candidate
+pub whole-root-wrong : {t : Tables} → patching (Patch 2 940) t ≡ patchFile maxVertices fileP lentP → ⊥
+whole-root-wrong e = let n = ap (λ (x : Patching). totalOf (x .outcome)) (e ∙ file-P) in omega (arith, n)
+
+-- 1,000 left in the ratio, and 4,000
+pub ratio-1000-wrong : {t : Tables} → patching (Patch 2 1587) t ≡ patchFile maxVertices fileP lentP → ⊥
+ratio-1000-wrong e = let n = ap (λ (x : Patching). totalOf (x .outcome)) (e ∙ file-P) in omega (arith, n)
+
+pub ratio-4000-wrong : {t : Tables} → patching (Patch 2 1458) t ≡ patchFile maxVertices fileP lentP → ⊥
+ratio-4000-wrong e = let n = ap (λ (x : Patching). totalOf (x .outcome)) (e ∙ file-P) in omega (arith, n)
+
+-- the rows left at the whole root, with their old ratio and with the new one
+pub old-rows-wrong : {t : Tables} → patching (Patch 2 941) t ≡ patchFile maxVertices fileP lentP → ⊥
+old-rows-wrong e = let n = ap (λ (x : Patching). totalOf (x .outcome)) (e ∙ file-P) in omega (arith, n)
+
+pub old-lengths-in-rows-wrong : {t : Tables} → patching (Patch 2 629) t ≡ patchFile maxVertices fileP lentP → ⊥
+old-lengths-in-rows-wrong = rows-left-out-wrong
+
+-- the normals outside left at the whole root: all their bends come out as 0
+pub old-length-outside-wrong : {t : Tables} → patching (Patch 2 943) t ≡ patchFile maxVertices fileN lentP → ⊥
+old-length-outside-wrong e = let n = ap (λ (x : Patching). totalOf (x .outcome)) (e ∙ file-N) in omega (arith, n)

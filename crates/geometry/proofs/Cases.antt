@@ -1,14 +1,19 @@
 -- Points of rim P (rule 6.1) and others over the definitions: lengths, bends and positions. Assumes nothing.
 use mathlib.Core.Path.{_≡_, refl}
 use mathlib.Core.Bool.{true, false}
-use Prim.Native.Nat.{_*_}
-use lib.IntN.{pos}
+use Prim.Native.Nat.{ℕ, _*_}
+use lib.Dec.{lit≤}
+use lib.IntN.{pos, natAbs}
 use Rattle.grid.specs.declared.GridPoint.{GridPoint}
 use Rattle.grid.specs.Point.{point}
 use Rattle.integers.specs.Rounding.{floorRoot, rootDigits}
+use Rattle.geometry.specs.declared.Vector.{Vector}
+use Rattle.geometry.specs.Vectors.{squareOf}
 use Rattle.geometry.specs.declared.sphere.Position.the-variants.{Inside, Outside}
-use Rattle.geometry.specs.Bounds.{maxDot, maxLength}
-use Rattle.geometry.specs.Faces.{squareScale, normalOf, lengthOf, ratioOf, bendOf, bendBetween}
+use Rattle.geometry.specs.Bounds.{maxDot, maxLength, maxScaledDot}
+use Rattle.geometry.specs.Faces.{squareScale, ratioScale, normalOf, lengthOf, ratioOf, bendOf, bendBetween}
+use Rattle.geometry.specs.Measures.{LongerByQuarter}
+use Rattle.geometry.proofs.Lengths.{longer-by-quarter}
 use Rattle.geometry.specs.Spheres.{orientOf, centreOf, distanceOf, coplanar, strictlyInside, onSphere}
 use Rattle.geometry.specs.Lifting.{positionOf}
 
@@ -23,6 +28,9 @@ p2 = point (pos 8) (pos 8) (pos 6)
 
 abbrev p3 : GridPoint
 p3 = point (pos 0) (pos 8) (pos 0)
+
+abbrev vector : ℕ → ℕ → ℕ → Vector
+vector x y z = record { x = pos x; y = pos y; z = pos z }
 
 length-012 : lengthOf (normalOf p0 p1 p2) ≡ 320
 unfolding lengthOf rootDigits
@@ -47,6 +55,32 @@ bend-1-3 = refl
 bend-2-0 : bendBetween (normalOf p0 p2 p3) (normalOf p0 p1 p2) ≡ 360
 unfolding lengthOf rootDigits bendOf ratioOf
 bend-2-0 = refl
+
+-- ---- lengths and ratios by numbers
+
+scales : (squareScale ≡ 16) × (ratioScale * squareScale ≡ 16000) × (maxScaledDot ≡ 3072000000000000000)
+scales = (refl, refl, refl)
+
+-- the shortest normals outside
+unit : lengthOf (vector 0 0 1) ≡ 4
+unfolding lengthOf rootDigits
+unit = refl
+
+diagonal : lengthOf (vector 0 1 1) ≡ 5
+unfolding lengthOf rootDigits
+diagonal = refl
+
+-- two normals whose roots have the same whole part, 5, though they differ by more than a quarter: their lengths tell them apart
+same-whole-root : (floorRoot (natAbs (squareOf (vector 3 4 0))) ≡ 5) × (floorRoot (natAbs (squareOf (vector 5 2 0))) ≡ 5)
+unfolding rootDigits
+same-whole-root = (refl, refl)
+
+longer : LongerByQuarter (vector 3 4 0) (vector 5 2 0)
+longer = longer-by-quarter (vector 3 4 0) (vector 5 2 0) 63 (lit≤ tt) (lit≤ tt)
+
+other-length : (lengthOf (vector 3 4 0) ≡ 20) × (lengthOf (vector 5 2 0) ≡ 21)
+unfolding lengthOf rootDigits
+other-length = (refl, refl)
 
 proper : coplanar p0 p1 p2 p3 ≡ false
 unfolding orientOf

@@ -2,19 +2,21 @@
 use mathlib.Core.Path.{_≡_, sym, _∙_}
 use mathlib.Core.Bool.{false}
 use Prim.Native.Nat.{ℕ, _*_, _≤_, _<_}
-use lib.IntN.{pos, _+ℤ_, _*ℤ_, *ℤ-zero}
+use native.Mathlib.Nat.{le-refl}
+use lib.Dec.{lit≤}
+use lib.IntN.{ℤ, pos, _+ℤ_, _*ℤ_, *ℤ-zero}
 use Rattle.grid.specs.declared.GridPoint.{GridPoint}
 use Rattle.grid.specs.Point.{PointOnGrid}
 use Rattle.geometry.specs.declared.Vector.{Vector}
 use Rattle.terms.specs.Limits.{maxAreaFactor, maxBendFactor}
-use Rattle.integers.specs.Bounds.{AtMost}
+use Rattle.integers.specs.Bounds.{AtMost, maxDividend}
 use Rattle.integers.proofs.Ring.{E, ring}
-use Rattle.integers.proofs.Bounds.{mul-le}
+use Rattle.integers.proofs.Bounds.{mul-le, at-most-mul}
 use Rattle.integers.proofs.Order.{equal-is, true≢false}
 use Rattle.geometry.specs.Vectors.{differenceOf, dotOf, squareOf}
 use Rattle.geometry.specs.Spheres.{orientOf, coplanar}
-use Rattle.geometry.specs.Bounds.{maxNormal, maxDot, maxLength, maxBend, Within}
-use Rattle.geometry.specs.Faces.{normalOf, lengthOf, areaWeightOf, bendWeightOf}
+use Rattle.geometry.specs.Bounds.{maxNormal, maxDot, maxScaledDot, maxLength, maxBend, Within}
+use Rattle.geometry.specs.Faces.{squareScale, ratioScale, normalOf, lengthOf, areaWeightOf, bendWeightOf}
 use Rattle.geometry.proofs.Terms.{VectorE, vec, dotE, crossE, minusE, orientE, ofPoints}
 use Rattle.geometry.proofs.Vectors.{within-difference, within-cross, at-most-dot}
 use Rattle.geometry.proofs.Squares.{zero-vector}
@@ -25,6 +27,16 @@ normal-within h k l = within-cross (within-difference k h) (within-difference l 
 
 pub normals-dot : {n k : Vector} → Within maxNormal n → Within maxNormal k → AtMost maxDot (dotOf n k)
 normals-dot h l = at-most-dot h l
+
+-- the dividend of a ratio fits, with room for its quotient
+pub scaled-dot : {d : ℤ} → AtMost maxDot d → AtMost maxScaledDot (pos (ratioScale * squareScale) *ℤ d)
+scaled-dot h = at-most-mul scale h
+  where
+    scale : AtMost (ratioScale * squareScale) (pos (ratioScale * squareScale))
+    scale = record { size = le-refl (ratioScale * squareScale) }
+
+pub scaled-dot-divides : maxScaledDot ≤ maxDividend
+scaled-dot-divides = lit≤ tt
 
 -- ---- weights
 
