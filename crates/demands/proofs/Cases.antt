@@ -49,7 +49,7 @@ found = triple 0 1 2 ∷ triple 0 1 3 ∷ triple 0 2 3 ∷ triple 1 2 3 ∷ trip
 -- where the bend factor is 0, every row has the weight 0 and is there
 pub rows-of-weight-0 :
     findCall (rim 0) (nines 5) (replicate 5 9) (nines 3)
-    ≡ finding (Lists 4 2) found (80 ∷ 64 ∷ 80 ∷ 93 ∷ 9 ∷ []) (triple 1 3 0 ∷ triple 2 0 0 ∷ triple 9 9 9 ∷ [])
+    ≡ finding (Lists 4 2) found (320 ∷ 256 ∷ 320 ∷ 373 ∷ 9 ∷ []) (triple 1 3 0 ∷ triple 2 0 0 ∷ triple 9 9 9 ∷ [])
 unfolding numberDue codeOf repeatedVertex verticesCodeFrom upFrom everyFrom someFrom isFace counts isFaceOfFour isFlat isCandidate
     cospherical degenerate orientOf centreOf distanceOf hangs lengthOf rootDigits ratioOf bendOf sumBelow
 rows-of-weight-0 = refl

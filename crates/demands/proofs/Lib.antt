@@ -1,5 +1,6 @@
 pub mod Candidates
 pub mod Demand2
+pub mod Quarters
 pub mod Tables
 pub mod Patched
 pub mod FileNumbers

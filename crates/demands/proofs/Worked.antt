@@ -68,7 +68,7 @@ abbrev triplesP : List (List ℕ)
 triplesP = triple 0 1 2 ∷ triple 0 1 3 ∷ triple 0 2 3 ∷ triple 1 2 3 ∷ []
 
 abbrev rowsP : List (List ℕ)
-rowsP = triple 1 3 312 ∷ triple 2 0 360 ∷ []
+rowsP = triple 1 3 314 ∷ triple 2 0 360 ∷ []
 
 abbrev job : List ℕ → Problem
 job weights = problemFrom 4 triplesP weights rowsP
@@ -103,23 +103,23 @@ code-N : codeOf (rimWith slopes) ≡ 0
 unfolding codeOf repeatedVertex verticesCodeFrom someFrom
 code-N = refl
 
-weights-P : weightsOf (rimWith none) triplesP ≡ 80 ∷ 64 ∷ 80 ∷ 93 ∷ []
+weights-P : weightsOf (rimWith none) triplesP ≡ 320 ∷ 256 ∷ 320 ∷ 373 ∷ []
 unfolding lengthOf rootDigits sumBelow
 weights-P = refl
 
-weights-N : weightsOf (rimWith slopes) triplesP ≡ 80 ∷ 264 ∷ 800 ∷ 233 ∷ []
+weights-N : weightsOf (rimWith slopes) triplesP ≡ 320 ∷ 456 ∷ 1040 ∷ 516 ∷ []
 unfolding lengthOf rootDigits ratioOf bendOf sumBelow
 weights-N = refl
 
-best-P : best (job (80 ∷ 64 ∷ 80 ∷ 93 ∷ [])) ≡ patch 469 (1 ∷ 3 ∷ [])
+best-P : best (job (320 ∷ 256 ∷ 320 ∷ 373 ∷ [])) ≡ patch 943 (1 ∷ 3 ∷ [])
 unfolding bestKey key isTriangulation everyFrom totalWeight preorderFrom countBetween countOutside
 best-P = refl
 
-best-N : best (job (80 ∷ 264 ∷ 800 ∷ 233 ∷ [])) ≡ patch 809 (1 ∷ 3 ∷ [])
+best-N : best (job (320 ∷ 456 ∷ 1040 ∷ 516 ∷ [])) ≡ patch 1286 (1 ∷ 3 ∷ [])
 unfolding bestKey key isTriangulation everyFrom totalWeight preorderFrom countBetween countOutside
 best-N = refl
 
-tilings-P : withTotals (job (80 ∷ 64 ∷ 80 ∷ 93 ∷ [])) ≡ (520 ∷ 0 ∷ 2 ∷ []) ∷ (469 ∷ 1 ∷ 3 ∷ []) ∷ []
+tilings-P : withTotals (job (320 ∷ 256 ∷ 320 ∷ 373 ∷ [])) ≡ (1000 ∷ 0 ∷ 2 ∷ []) ∷ (943 ∷ 1 ∷ 3 ∷ []) ∷ []
 unfolding isTriangulation everyFrom totalWeight countBetween countOutside
 tilings-P = refl
 
@@ -179,10 +179,10 @@ module _ (normals : List Normal) {w : List ℕ} (weighs : weightsOf (rimWith nor
         ∙ ap (λ (p : Polygon). patched p lentP) reads
         ∙ (λ i. answerWith ((ap best job-is ∙ is-best) i) (candidates-are normals i) (weights-are i) (rows-are i))
 
-pub file-P : patchFile maxVertices fileP lentP ≡ answerWith (patch 469 (1 ∷ 3 ∷ [])) triplesP (80 ∷ 64 ∷ 80 ∷ 93 ∷ []) rowsP
+pub file-P : patchFile maxVertices fileP lentP ≡ answerWith (patch 943 (1 ∷ 3 ∷ [])) triplesP (320 ∷ 256 ∷ 320 ∷ 373 ∷ []) rowsP
 file-P = call-is none weights-P fileP number-P polygon-P code-P best-P
 
-pub file-N : patchFile maxVertices fileN lentP ≡ answerWith (patch 809 (1 ∷ 3 ∷ [])) triplesP (80 ∷ 264 ∷ 800 ∷ 233 ∷ []) rowsP
+pub file-N : patchFile maxVertices fileN lentP ≡ answerWith (patch 1286 (1 ∷ 3 ∷ [])) triplesP (320 ∷ 456 ∷ 1040 ∷ 516 ∷ []) rowsP
 file-N = call-is slopes weights-N fileN number-N polygon-N code-N best-N
 
 -- ---- flat rims

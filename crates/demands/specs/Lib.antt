@@ -1,5 +1,6 @@
 pub mod Candidates
 pub mod Demand2
+pub mod Quarters
 pub mod Demand3
 pub mod Demand1
 pub mod Finding

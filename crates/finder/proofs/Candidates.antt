@@ -11,7 +11,8 @@ use Rattle.polygon.specs.declared.Polygon.{Polygon}
 use Rattle.polygon.specs.Polygon.{ValidPolygon, vertex}
 use Rattle.geometry.specs.Faces.{normalOf, lengthOf}
 use Rattle.geometry.specs.Spheres.{coplanar}
-use Rattle.geometry.proofs.Faces.{normal-within, length-above-0, face-length-pqr, face-length-pqs, face-length-prs, face-length-qrs}
+use Rattle.geometry.proofs.Lengths.{length-above-0}
+use Rattle.geometry.proofs.Faces.{normal-within, face-length-pqr, face-length-pqs, face-length-prs, face-length-qrs}
 use Rattle.planar.specs.Circles.{collinear}
 use Rattle.integers.proofs.Order.{equal-is}
 use Rattle.terms.specs.Entries.{triple, entryAt, vertexA, vertexB, vertexC}
@@ -137,7 +138,7 @@ module _ (p : Polygon) (v : ValidPolygon p) where
       (three-length (f .a) (f .b) (f .c) (omega (arith, f .a<b, f .b<c, f .c<n)) (omega (arith, f .b<c, f .c<n)) (f .c<n)
       (both-right (sameTriple (f .a) (f .b) (f .c) x y z) (countsInPlane p (f .a) (f .b) (f .c)) (f .holds-of)))
 
-  candidate-length : (x y z : ℕ) → isCandidate p x y z ≡ true → HasLength x y z
+  pub candidate-length : (x y z : ℕ) → isCandidate p x y z ≡ true → HasLength x y z
   unfolding isCandidate
   candidate-length x y z e = by (truth (isFlat p))
     where

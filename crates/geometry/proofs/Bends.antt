@@ -9,26 +9,28 @@ use lib.Dec.{ltb}
 use lib.IntN.{ℤ, pos, negsuc, negℤ, natAbs, _-ℤ_, _*ℤ_, +ℤ-idl}
 use borrow.Author.Tests.{ltb-false}
 use Rattle.geometry.specs.declared.Vector.{Vector}
-use Rattle.integers.specs.Rounding.{floorRoot, floorDiv, clamped}
+use Rattle.integers.specs.Rounding.{floorDiv, clamped}
 use Rattle.integers.proofs.Ring.{con, _:-_, ring}
 use Rattle.integers.proofs.Rounding.{clamped-range, product-above-0}
 use Rattle.geometry.specs.Vectors.{dotOf, squareOf, opposite}
 use Rattle.geometry.specs.Bounds.{maxNormal, maxBend, Within}
-use Rattle.geometry.specs.Faces.{lengthOf, ratioOf, bendOf, bendBetween}
+use Rattle.geometry.specs.Faces.{squareScale, ratioScale, lengthOf, ratioOf, bendOf, bendBetween}
+use Rattle.geometry.specs.Measures.{NotZero}
 use Rattle.geometry.proofs.Terms.{vec, dotE, oppositeE}
-use Rattle.geometry.proofs.Faces.{square-size, length-squared}
+use Rattle.geometry.proofs.Squares.{square-size, not-zero}
+use Rattle.geometry.proofs.Lengths.{length-is, length-above-0, same-length}
 
--- ---- three bends, with both lengths 100: of triangles that go on in one plane, of folded ones, and of a dot product of -1 (rules 2.11, 6.5)
+-- ---- three bends, with both lengths 400: of triangles that go on in one plane, of folded ones, and of a dot product of -1 (rules 2.11, 6.5)
 
-pub going-on : bendOf (pos 10000) 100 100 ≡ 0
+pub going-on : bendOf (pos 10000) 400 400 ≡ 0
 unfolding bendOf ratioOf
 going-on = refl
 
-pub folded : bendOf (negsuc 9999) 100 100 ≡ 2000
+pub folded : bendOf (negsuc 9999) 400 400 ≡ 2000
 unfolding bendOf ratioOf
 folded = refl
 
-pub nearly-perpendicular : bendOf (negsuc 0) 100 100 ≡ 1001
+pub nearly-perpendicular : bendOf (negsuc 0) 400 400 ≡ 1001
 unfolding bendOf ratioOf
 nearly-perpendicular = refl
 
@@ -37,7 +39,7 @@ nearly-perpendicular = refl
 module _ (d : ℤ) (m k : ℕ) where
   bend-natural : (j : ℕ) × (j ≤ maxBend) × (pos 1000 -ℤ ratioOf d m k ≡ pos j)
   unfolding ratioOf
-  bend-natural = clamped-range (floorDiv (pos 1000 *ℤ d) (m * k))
+  bend-natural = clamped-range (floorDiv (pos (ratioScale * squareScale) *ℤ d) (m * k))
 
   pub bend-is : pos (bendOf d m k) ≡ pos 1000 -ℤ ratioOf d m k
   unfolding bendOf
@@ -65,20 +67,20 @@ held-low y h = go (ltb 999 y) refl
     go false e = ap negsuc (le-antisymm (ltb-false 999 y e) h)
 
 module _ (m k : ℕ) (above : 0 < m * k) where
-  -- d is at least the product of the lengths
-  pub bend-least : (x : ℕ) → m * k ≤ x → bendOf (pos x) m k ≡ 0
+  -- d, in the scale of squares, is at least the product of the lengths
+  pub bend-least : (x : ℕ) → m * k ≤ squareScale * x → bendOf (pos x) m k ≡ 0
   unfolding bendOf ratioOf
   bend-least x h =
-      ap (λ (z : ℤ). natAbs (pos 1000 -ℤ z)) (held-high ((1000 * x) / (m * k)) (le-div-iff-mul-le above .1 (omega arith)))
+      ap (λ (z : ℤ). natAbs (pos 1000 -ℤ z)) (held-high ((16000 * x) / (m * k)) (le-div-iff-mul-le above .1 (omega arith)))
 
   -- -d is
-  pub bend-most : (x : ℕ) → m * k ≤ x → bendOf (negℤ (pos x)) m k ≡ 2000
+  pub bend-most : (x : ℕ) → m * k ≤ squareScale * x → bendOf (negℤ (pos x)) m k ≡ 2000
   unfolding bendOf ratioOf
   bend-most zero h = absurd (omega arith)
   bend-most (suc a) h =
-      let e : 1000 * suc a ≡ suc (1000 * a + 999) = omega arith in
+      let e : 16000 * suc a ≡ suc (16000 * a + 15999) = omega arith in
       ap (λ (n : ℕ). natAbs (pos 1000 -ℤ clamped (negsuc 999) (pos 1000) (floorDiv (negℤ (pos n)) (m * k)))) e
-      ∙ ap (λ (z : ℤ). natAbs (pos 1000 -ℤ z)) (held-low ((1000 * a + 999) / (m * k)) (le-div-iff-mul-le above .1 (omega arith)))
+      ∙ ap (λ (z : ℤ). natAbs (pos 1000 -ℤ z)) (held-low ((16000 * a + 15999) / (m * k)) (le-div-iff-mul-le above .1 (omega arith)))
 
 pub bend-perpendicular : (m k : ℕ) → bendOf (pos 0) m k ≡ 1000
 unfolding bendOf ratioOf
@@ -86,10 +88,13 @@ bend-perpendicular m k = ap (λ (y : ℕ). natAbs (pos 1000 -ℤ clamped (negsuc
 
 -- ---- the bends of rule 6.5
 
-pub equal-normals : {n : Vector} → Within maxNormal n → 0 < lengthOf n → bendBetween n n ≡ 0
-equal-normals {n} h l =
+pub equal-normals : {n : Vector} → Within maxNormal n → NotZero n → bendBetween n n ≡ 0
+equal-normals {n} h z =
     ap (λ (d : ℤ). bendOf d (lengthOf n) (lengthOf n)) (square-size n)
-    ∙ bend-least (lengthOf n) (lengthOf n) (product-above-0 (lengthOf n) (lengthOf n) l l) (natAbs (squareOf n)) (length-squared h)
+    ∙ bend-least (lengthOf n) (lengthOf n) (product-above-0 (lengthOf n) (lengthOf n) l l) (natAbs (squareOf n)) (length-is h .low)
+  where
+    l : 0 < lengthOf n
+    l = length-above-0 h (not-zero z)
 
 pub perpendicular-normals : (n k : Vector) → dotOf n k ≡ pos 0 → bendBetween n k ≡ 1000
 perpendicular-normals n k e = ap (λ (d : ℤ). bendOf d (lengthOf n) (lengthOf k)) e ∙ bend-perpendicular (lengthOf n) (lengthOf k)
@@ -101,14 +106,13 @@ module _ (n : Vector) where
   opposite-square : squareOf (opposite n) ≡ squareOf n
   opposite-square = ring (n .x ∷ n .y ∷ n .z ∷ []) (dotE (oppositeE (vec 0)) (oppositeE (vec 0))) (dotE (vec 0) (vec 0)) tt
 
-  opposite-length : lengthOf (opposite n) ≡ lengthOf n
-  unfolding lengthOf
-  opposite-length = ap (λ (z : ℤ). floorRoot (natAbs z)) opposite-square
-
-  pub opposite-normals : Within maxNormal n → 0 < lengthOf n → bendBetween n (opposite n) ≡ 2000
-  opposite-normals h l =
-      (λ i. bendOf (dot i) (lengthOf n) (opposite-length i))
-      ∙ bend-most (lengthOf n) (lengthOf n) (product-above-0 (lengthOf n) (lengthOf n) l l) (natAbs (squareOf n)) (length-squared h)
+  pub opposite-normals : Within maxNormal n → NotZero n → bendBetween n (opposite n) ≡ 2000
+  opposite-normals h z =
+      (λ i. bendOf (dot i) (lengthOf n) (same-length (opposite n) n opposite-square i))
+      ∙ bend-most (lengthOf n) (lengthOf n) (product-above-0 (lengthOf n) (lengthOf n) l l) (natAbs (squareOf n)) (length-is h .low)
     where
+      l : 0 < lengthOf n
+      l = length-above-0 h (not-zero z)
+
       dot : dotOf n (opposite n) ≡ negℤ (pos (natAbs (squareOf n)))
       dot = opposite-dot ∙ +ℤ-idl (negℤ (squareOf n)) ∙ ap negℤ (square-size n)

@@ -1,13 +1,14 @@
 -- Points of rim P (rule 6.1) and others over the definitions: lengths, bends and positions. Assumes nothing.
 use mathlib.Core.Path.{_≡_, refl}
 use mathlib.Core.Bool.{true, false}
+use Prim.Native.Nat.{_*_}
 use lib.IntN.{pos}
 use Rattle.grid.specs.declared.GridPoint.{GridPoint}
 use Rattle.grid.specs.Point.{point}
 use Rattle.integers.specs.Rounding.{floorRoot, rootDigits}
 use Rattle.geometry.specs.declared.sphere.Position.the-variants.{Inside, Outside}
 use Rattle.geometry.specs.Bounds.{maxDot, maxLength}
-use Rattle.geometry.specs.Faces.{normalOf, lengthOf, ratioOf, bendOf, bendBetween}
+use Rattle.geometry.specs.Faces.{squareScale, normalOf, lengthOf, ratioOf, bendOf, bendBetween}
 use Rattle.geometry.specs.Spheres.{orientOf, centreOf, distanceOf, coplanar, strictlyInside, onSphere}
 use Rattle.geometry.specs.Lifting.{positionOf}
 
@@ -23,23 +24,23 @@ p2 = point (pos 8) (pos 8) (pos 6)
 abbrev p3 : GridPoint
 p3 = point (pos 0) (pos 8) (pos 0)
 
-length-012 : lengthOf (normalOf p0 p1 p2) ≡ 80
+length-012 : lengthOf (normalOf p0 p1 p2) ≡ 320
 unfolding lengthOf rootDigits
 length-012 = refl
 
-length-013 : lengthOf (normalOf p0 p1 p3) ≡ 64
+length-013 : lengthOf (normalOf p0 p1 p3) ≡ 256
 unfolding lengthOf rootDigits
 length-013 = refl
 
-length-023 : lengthOf (normalOf p0 p2 p3) ≡ 80
+length-023 : lengthOf (normalOf p0 p2 p3) ≡ 320
 unfolding lengthOf rootDigits
 length-023 = refl
 
-length-123 : lengthOf (normalOf p1 p2 p3) ≡ 93
+length-123 : lengthOf (normalOf p1 p2 p3) ≡ 373
 unfolding lengthOf rootDigits
 length-123 = refl
 
-bend-1-3 : bendBetween (normalOf p0 p1 p3) (normalOf p1 p2 p3) ≡ 312
+bend-1-3 : bendBetween (normalOf p0 p1 p3) (normalOf p1 p2 p3) ≡ 314
 unfolding lengthOf rootDigits bendOf ratioOf
 bend-1-3 = refl
 
@@ -52,7 +53,7 @@ unfolding orientOf
 proper = refl
 
 -- the largest whole root that is asked for
-root-of-all : floorRoot maxDot ≡ maxLength
+root-of-all : floorRoot (squareScale * maxDot) ≡ maxLength
 unfolding rootDigits
 root-of-all = refl
 

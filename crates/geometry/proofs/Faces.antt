@@ -1,70 +1,30 @@
--- Lengths of normals and weights: their bounds, and that each face of four points that are not in one plane has a length. Assumes nothing.
-use mathlib.Core.Path.{_≡_, refl, sym, _∙_, ap, subst}
+-- Normals of triangles and weights: their bounds, and that each face of four points that are not in one plane has a length. Assumes nothing.
+use mathlib.Core.Path.{_≡_, sym, _∙_}
 use mathlib.Core.Bool.{false}
-use Prim.Native.Nat.{ℕ, zero, suc, _+_, _*_, _^_, _≤_, _<_}
-use native.Mathlib.Nat.{lt-of-le-of-lt}
-use native.Mathlib.Omega.{arith}
-use lib.Dec.{T, lit<}
-use lib.IntN.{ℤ, pos, negsuc, natAbs, _+ℤ_, _*ℤ_, *ℤ-zero}
-use lib.Signed.{nonNeg}
+use Prim.Native.Nat.{ℕ, _*_, _≤_, _<_}
+use lib.IntN.{pos, _+ℤ_, _*ℤ_, *ℤ-zero}
 use Rattle.grid.specs.declared.GridPoint.{GridPoint}
 use Rattle.grid.specs.Point.{PointOnGrid}
 use Rattle.geometry.specs.declared.Vector.{Vector}
 use Rattle.terms.specs.Limits.{maxAreaFactor, maxBendFactor}
 use Rattle.integers.specs.Bounds.{AtMost}
-use Rattle.integers.proofs.Laws.{square-is}
 use Rattle.integers.proofs.Ring.{E, ring}
 use Rattle.integers.proofs.Bounds.{mul-le}
 use Rattle.integers.proofs.Order.{equal-is, true≢false}
-use Rattle.integers.proofs.Rounding.{floor-root-le, floor-root-above-0, floor-root-square}
 use Rattle.geometry.specs.Vectors.{differenceOf, dotOf, squareOf}
 use Rattle.geometry.specs.Spheres.{orientOf, coplanar}
 use Rattle.geometry.specs.Bounds.{maxNormal, maxDot, maxLength, maxBend, Within}
 use Rattle.geometry.specs.Faces.{normalOf, lengthOf, areaWeightOf, bendWeightOf}
 use Rattle.geometry.proofs.Terms.{VectorE, vec, dotE, crossE, minusE, orientE, ofPoints}
 use Rattle.geometry.proofs.Vectors.{within-difference, within-cross, at-most-dot}
-
--- a squared length is not negative
-pub square-natural : (v : Vector) → squareOf v ≡ pos (natAbs (v .x) * natAbs (v .x) + natAbs (v .y) * natAbs (v .y) + natAbs (v .z) * natAbs (v .z))
-square-natural v = λ i. square-is (v .x) i +ℤ square-is (v .y) i +ℤ square-is (v .z) i
-
-pub square-size : (v : Vector) → squareOf v ≡ pos (natAbs (squareOf v))
-square-size v = square-natural v ∙ ap (λ (z : ℤ). pos (natAbs z)) (sym (square-natural v))
-
-pub square-nonneg : (v : Vector) → T (nonNeg (squareOf v))
-square-nonneg v = subst (λ (z : ℤ). T (nonNeg z)) (sym (square-natural v)) tt
+use Rattle.geometry.proofs.Squares.{zero-vector}
+use Rattle.geometry.proofs.Lengths.{length-above-0}
 
 pub normal-within : {a b c : GridPoint} → PointOnGrid a → PointOnGrid b → PointOnGrid c → Within maxNormal (normalOf a b c)
 normal-within h k l = within-cross (within-difference k h) (within-difference l h)
 
 pub normals-dot : {n k : Vector} → Within maxNormal n → Within maxNormal k → AtMost maxDot (dotOf n k)
 normals-dot h l = at-most-dot h l
-
--- ---- the length of a normal
-
-module _ {n : Vector} (h : Within maxNormal n) where
-  pub square-below : natAbs (squareOf n) < 2 ^ 52
-  square-below = lt-of-le-of-lt (at-most-dot h h .size) (lit< tt)
-
-  square-fits : natAbs (squareOf n) < 2 ^ 64
-  square-fits = lt-of-le-of-lt (at-most-dot h h .size) (lit< tt)
-
-  pub length-bound : lengthOf n ≤ maxLength
-  unfolding lengthOf
-  length-bound = floor-root-le (natAbs (squareOf n)) maxLength square-fits (lt-of-le-of-lt (at-most-dot h h .size) (lit< tt))
-
-  -- the length of a normal that is not 0 is at least 1
-  pub length-above-0 : (squareOf n ≡ pos 0 → ⊥) → 0 < lengthOf n
-  unfolding lengthOf
-  length-above-0 k = floor-root-above-0 (natAbs (squareOf n)) square-fits (positive (natAbs (squareOf n)) refl)
-    where
-      positive : (x : ℕ) → natAbs (squareOf n) ≡ x → 0 < x
-      positive zero e = absurd (k (square-size n ∙ ap pos e))
-      positive (suc x) e = omega arith
-
-  pub length-squared : lengthOf n * lengthOf n ≤ natAbs (squareOf n)
-  unfolding lengthOf
-  length-squared = floor-root-square (natAbs (squareOf n)) square-fits
 
 -- ---- weights
 
@@ -75,22 +35,6 @@ pub bend-weight-bound : {factor bend : ℕ} → factor ≤ maxBendFactor → ben
 bend-weight-bound h k = mul-le h k
 
 -- ---- the faces of four that are not in one plane have a normal
-
--- a vector of length 0 has coordinates 0
-zero-square : (a b c : ℕ) → a * a + b * b + c * c ≡ 0 → (a ≡ 0) × (b ≡ 0) × (c ≡ 0)
-zero-square zero zero zero e = (refl, refl, refl)
-zero-square zero zero (suc c) e = absurd (omega arith)
-zero-square zero (suc b) c e = absurd (omega arith)
-zero-square (suc a) b c e = absurd (omega arith)
-
-zero-size : (z : ℤ) → natAbs z ≡ 0 → z ≡ pos 0
-zero-size (pos n) e = ap pos e
-zero-size (negsuc n) e = absurd (omega arith)
-
-pub zero-vector : (n : Vector) → squareOf n ≡ pos 0 → (n .x ≡ pos 0) × (n .y ≡ pos 0) × (n .z ≡ pos 0)
-zero-vector n h =
-    let k = zero-square (natAbs (n .x)) (natAbs (n .y)) (natAbs (n .z)) (ap natAbs (sym (square-natural n) ∙ h)) in
-    (zero-size (n .x) (k .0), zero-size (n .y) (k .1), zero-size (n .z) (k .2))
 
 dot-zero : (e n : Vector) → squareOf n ≡ pos 0 → dotOf e n ≡ pos 0
 dot-zero e n h =

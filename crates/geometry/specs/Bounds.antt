@@ -6,6 +6,7 @@ use Rattle.geometry.specs.declared.Vector.{Vector}
 use Rattle.geometry.specs.declared.sphere.Lifted.{Lifted}
 use Rattle.geometry.specs.declared.sphere.Pencil.{Pencil}
 use Rattle.geometry.specs.declared.sphere.Sphere.{Sphere}
+use Rattle.geometry.specs.Faces.{squareScale, ratioScale}
 
 -- a coordinate of a difference of two grid points, from -1000 to 1000 each (rule 1.11)
 abbrev pub maxDifference : ℕ
@@ -23,13 +24,17 @@ maxNormal = 2 * (maxDifference * maxDifference)
 abbrev pub maxDot : ℕ
 maxDot = 3 * (maxNormal * maxNormal)
 
--- the length of a normal, cut down to a whole number: the root of maxDot (`root-of-all` of proofs/Cases.antt)
+-- the length of a normal: the whole root of maxDot in the scale of squares (`root-of-all` of proofs/Cases.antt)
 abbrev pub maxLength : ℕ
-maxLength = 13856406
+maxLength = 55425625
+
+-- a dividend of a ratio (rule 2.10)
+abbrev pub maxScaledDot : ℕ
+maxScaledDot = ratioScale * squareScale * maxDot
 
 -- a bend (rule 2.11)
 abbrev pub maxBend : ℕ
-maxBend = 2000
+maxBend = 2 * ratioScale
 
 -- an orientation: the dot product of a normal and a difference
 abbrev pub maxOrient : ℕ

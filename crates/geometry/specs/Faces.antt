@@ -1,6 +1,6 @@
 -- Normals of triangles, their lengths, and the weights that come of them. Definitions only.
 use Prim.Native.Nat.{ℕ, _*_}
-use lib.IntN.{ℤ, pos, negsuc, natAbs, _-ℤ_, _*ℤ_}
+use lib.IntN.{ℤ, pos, negℤ, natAbs, _-ℤ_, _*ℤ_}
 use Rattle.grid.specs.declared.GridPoint.{GridPoint}
 use Rattle.geometry.specs.declared.Vector.{Vector}
 use Rattle.integers.specs.Rounding.{floorRoot, floorDiv, clamped}
@@ -10,21 +10,33 @@ use Rattle.geometry.specs.Vectors.{differenceOf, dotOf, crossOf, squareO
 abbrev pub normalOf : GridPoint → GridPoint → GridPoint → Vector
 normalOf a b c = crossOf (differenceOf b a) (differenceOf c a)
 
--- its length m (rule 2.7)
+-- a length counts quarters: so many to the unit (rule 2.7)
+abbrev pub lengthScale : ℕ
+lengthScale = 4
+
+-- the square of a length, and the product of two, then has so many to the unit (rules 2.7, 2.10)
+abbrev pub squareScale : ℕ
+squareScale = lengthScale * lengthScale
+
+-- its length m: the whole part of lengthScale times the root of its square (rule 2.7)
 unfoldable pub lengthOf : Vector → ℕ
-lengthOf n = floorRoot (natAbs (squareOf n))
+lengthOf n = floorRoot (squareScale * natAbs (squareOf n))
 
 -- the area weight, from the area factor and m (rule 2.8)
 abbrev pub areaWeightOf : ℕ → ℕ → ℕ
 areaWeightOf factor m = factor * m
 
+-- a ratio counts thousandths, and so does a bend (rules 2.10, 2.11)
+abbrev pub ratioScale : ℕ
+ratioScale = 1000
+
 -- the ratio q of two normals, from their dot product d and their lengths (rule 2.10); a candidate's length is at least 1
 unfoldable pub ratioOf : ℤ → ℕ → ℕ → ℤ
-ratioOf d m k = clamped (negsuc 999) (pos 1000) (floorDiv (pos 1000 *ℤ d) (m * k))
+ratioOf d m k = clamped (negℤ (pos ratioScale)) (pos ratioScale) (floorDiv (pos (ratioScale * squareScale) *ℤ d) (m * k))
 
 -- the bend (rule 2.11)
 unfoldable pub bendOf : ℤ → ℕ → ℕ → ℕ
-bendOf d m k = natAbs (pos 1000 -ℤ ratioOf d m k)
+bendOf d m k = natAbs (pos ratioScale -ℤ ratioOf d m k)
 
 -- the bend between two triangles, by their normals (rule 2.11)
 abbrev pub bendBetween : Vector → Vector → ℕ

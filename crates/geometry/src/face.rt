@@ -21,13 +21,24 @@ pub fn normal(a: GridPoint, b: GridPoint, c: GridPoint) -> Vector
     cross(u, v)
 }
 
-// The whole part of a normal's length.
+// Lengths count quarters, and ratios and bends thousandths (rules 2.7, 2.10): so many to the unit.
+const LENGTH_SCALE: i64 = 4;
+
+const SQUARE_SCALE: i64 = LENGTH_SCALE * LENGTH_SCALE;
+
+const RATIO_SCALE: i64 = 1000;
+
+const LEAST_RATIO: i64 = -RATIO_SCALE;
+
+const SCALED_RATIO: i64 = RATIO_SCALE * SQUARE_SCALE;
+
+// The whole part of a normal's length in quarters: the scale goes under the root, before anything is cut off.
 pub fn normal_length(n: Vector) -> u32
     requires { ⌜ Within maxNormal n ⌝ }
     ensures { λ r. ⌜ r ≡ lengthOf n ⌝ }
 {
     let square = dot(n, n);
-    integers::floor_root(square as u64) as u32
+    integers::floor_root((SQUARE_SCALE * square) as u64) as u32
 }
 
 pub fn area_weight(factor: u32, length: u32) -> u32
@@ -42,10 +53,10 @@ pub fn bend(d: i64, m: u32, k: u32) -> u32
     requires { ⌜ (AtMost maxDot d) × (0 < m) × (m ≤ maxLength) × (0 < k) × (k ≤ maxLength) ⌝ }
     ensures { λ r. ⌜ r ≡ bendOf d m k ⌝ }
 {
-    let n = 1000 * d;
+    let n = SCALED_RATIO * d;
     let w = m as i64 * k as i64;
-    let q = integers::clamp(integers::floor_div(n, w), -1000, 1000);
-    (1000 - q) as u32
+    let q = integers::clamp(integers::floor_div(n, w), LEAST_RATIO, RATIO_SCALE);
+    (RATIO_SCALE - q) as u32
 }
 
 pub fn bend_weight(factor: u32, bend: u32) -> u32

@@ -91,6 +91,9 @@ fits t h = subst (λ (x : ℤ). SFits w64 x) (sym (h .value)) (signed-fits t (h 
 pub given : {n : ℕ} {x : ℤ} → T (leb n largest) → AtMost n x → Holds n x (bits x)
 given t h = stored t (record { value = refl; bound = h })
 
+pub literal : (k : ℕ) → Holds k (pos k) (pos k)
+literal k = record { value = refl; bound = record { size = le-refl k } }
+
 infixl 6 _+!_ _-!_
 infixl 7 _*!_
 pub _+!_ : {m n : ℕ} {a b x y : ℤ} → Holds m a x → Holds n b y → Holds (m + n) (a +ℤ b) (x +ℤ y)

@@ -168,28 +168,27 @@ pub is-floor-root : (x r : ℕ) → x < 2 ^ 64 → IsFloorRoot x r → r ≡ flo
 is-floor-root x r h p = floor-root-unique x r (floorRoot x) p (floor-root-is x h)
 
 -- bounds of the whole root
-pub floor-root-le : (x b : ℕ) → x < 2 ^ 64 → x < (b + 1) * (b + 1) → floorRoot x ≤ b
-floor-root-le x b h l = go (decLe (floorRoot x) b)
+pub root-le : {x r : ℕ} (b : ℕ) → IsFloorRoot x r → x < (b + 1) * (b + 1) → r ≤ b
+root-le {x} {r} b i l = go (decLe r b)
   where
-    go : Dec (floorRoot x ≤ b) → floorRoot x ≤ b
+    go : Dec (r ≤ b) → r ≤ b
     go (yes k) = k
     go (no k) =
-        let r = floorRoot x in
         let w : b + 1 ≤ r = omega arith in
         let q = le-trans (mul-le-mul-right (b + 1) w) (mul-le-mul-left r w) in
-        let s = floor-root-is x h .low in
+        let s = i .low in
         absurd (omega arith)
 
-pub floor-root-above-0 : (x : ℕ) → x < 2 ^ 64 → 0 < x → 0 < floorRoot x
-floor-root-above-0 x h p = go (floorRoot x) (floor-root-is x h)
+pub le-root : {x r : ℕ} (b : ℕ) → IsFloorRoot x r → b * b ≤ x → b ≤ r
+le-root {x} {r} b i l = go (decLe b r)
   where
-    go : (r : ℕ) → IsFloorRoot x r → 0 < r
-    go zero i = let l = i .high in absurd (omega arith)
-    go (suc r) i = omega arith
-
--- the whole root squared is within the number
-pub floor-root-square : (x : ℕ) → x < 2 ^ 64 → floorRoot x * floorRoot x ≤ x
-floor-root-square x h = floor-root-is x h .low
+    go : Dec (b ≤ r) → b ≤ r
+    go (yes k) = k
+    go (no k) =
+        let w : r + 1 ≤ b = omega arith in
+        let q = le-trans (mul-le-mul-right (r + 1) w) (mul-le-mul-left b w) in
+        let s = i .high in
+        absurd (omega arith)
 
 -- ---- the clamp to -1000 to 1000, taken from 1000
 

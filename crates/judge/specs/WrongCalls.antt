@@ -30,22 +30,22 @@ wrongCalls =
     -- edges counted without their sides
     call band (1 ∷ 2 ∷ 3 ∷ 5 ∷ 6 ∷ []) 5 (result (Accepted 2) (0 ∷ 0 ∷ 0 ∷ 0 ∷ 0 ∷ 0 ∷ 0 ∷ 9 ∷ []))
     -- a repeat let through, uncounted and counted
-    ∷ call jobP (1 ∷ 3 ∷ 3 ∷ []) 469 (accepted 0)
-    ∷ call jobP (1 ∷ 3 ∷ 3 ∷ []) 874 (accepted 405)
+    ∷ call jobP (1 ∷ 3 ∷ 3 ∷ []) 943 (accepted 0)
+    ∷ call jobP (1 ∷ 3 ∷ 3 ∷ []) 1630 (accepted 687)
     -- 22 before 21
-    ∷ call jobP (1 ∷ 1 ∷ []) 469 (refused 22)
+    ∷ call jobP (1 ∷ 1 ∷ []) 943 (refused 22)
     -- the excess against the stated total
-    ∷ call jobP (0 ∷ 2 ∷ []) 520 (accepted 0)
+    ∷ call jobP (0 ∷ 2 ∷ []) 1000 (accepted 0)
     -- the row of a pair that is not in the list counted
-    ∷ call jobP (1 ∷ 3 ∷ []) 829 (accepted 360)
+    ∷ call jobP (1 ∷ 3 ∷ []) 1303 (accepted 360)
     -- the rows left out
-    ∷ call jobP (1 ∷ 3 ∷ []) 157 (accepted 0)
+    ∷ call jobP (1 ∷ 3 ∷ []) 629 (accepted 0)
     -- the work table cleared on 21
-    ∷ call jobP (1 ∷ 2 ∷ []) 469 (result (Refused (refusal 21)) (0 ∷ 0 ∷ 0 ∷ 0 ∷ 9 ∷ []))
+    ∷ call jobP (1 ∷ 2 ∷ []) 943 (result (Refused (refusal 21)) (0 ∷ 0 ∷ 0 ∷ 0 ∷ 9 ∷ []))
     -- an order asked of the list
-    ∷ call jobP (3 ∷ 1 ∷ []) 469 (refused 21)
+    ∷ call jobP (3 ∷ 1 ∷ []) 943 (refused 21)
     -- the list taken for a table that is too short
-    ∷ call jobP (1 ∷ []) 469 (refused 13)
+    ∷ call jobP (1 ∷ []) 943 (refused 13)
     -- the list tested before the job
     ∷ call (jobOf 2 [] [] []) [] 0 (result (Refused (refusal 21)) (9 ∷ []))
     -- 'none' for a job without a tiling

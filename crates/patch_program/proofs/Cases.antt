@@ -9,9 +9,9 @@ use Rattle.patch_lines.specs.Lines.{linesOf}
 abbrev line : ℕ → ℕ → ℕ → ℕ → ℕ → Line
 line a b c weight row = record { a = a; b = b; c = c; weight = weight; row = row }
 
--- 0 1 3 64 0 and 1 2 3 93 312
+-- 0 1 3 256 0 and 1 2 3 373 314
 pub lines-of-P :
-    linesOf (triple 0 1 2 ∷ triple 0 1 3 ∷ triple 0 2 3 ∷ triple 1 2 3 ∷ []) (80 ∷ 64 ∷ 80 ∷ 93 ∷ []) (triple 1 3 312 ∷ triple 2 0 360 ∷ []) (1 ∷ 3 ∷ [])
-    ≡ line 0 1 3 64 0 ∷ line 1 2 3 93 312 ∷ []
+    linesOf (triple 0 1 2 ∷ triple 0 1 3 ∷ triple 0 2 3 ∷ triple 1 2 3 ∷ []) (320 ∷ 256 ∷ 320 ∷ 373 ∷ []) (triple 1 3 314 ∷ triple 2 0 360 ∷ []) (1 ∷ 3 ∷ [])
+    ≡ line 0 1 3 256 0 ∷ line 1 2 3 373 314 ∷ []
 unfolding hangs
 lines-of-P = refl

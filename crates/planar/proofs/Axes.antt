@@ -16,7 +16,7 @@ use Rattle.geometry.specs.Vectors.{dotOf, crossOf, squareOf, scaledBy, plus}
 use Rattle.geometry.specs.Bounds.{maxDifference, Within, LiftedBounds}
 use Rattle.geometry.specs.Lifting.{turned, noSphere, sphereOf}
 use Rattle.geometry.proofs.Terms.{VectorE, vec, dotE}
-use Rattle.geometry.proofs.Faces.{zero-vector}
+use Rattle.geometry.proofs.Squares.{zero-vector}
 use Rattle.planar.specs.Seen.{axisX, axisY, axisZ, Across, axisAcross}
 use Rattle.planar.proofs.Zero.{at-most-zero, zero-square}
 

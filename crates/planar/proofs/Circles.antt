@@ -14,7 +14,7 @@ use Rattle.integers.proofs.Order.{equal-is, equal-self, equal-yes}
 use Rattle.integers.proofs.Ring.{E, var, con, _:-_, _:*_, ring}
 use Rattle.geometry.specs.Vectors.{differenceOf, dotOf, crossOf, squareOf, scaledBy, plus, minus, opposite}
 use Rattle.geometry.specs.Faces.{normalOf}
-use Rattle.geometry.proofs.Faces.{zero-vector}
+use Rattle.geometry.proofs.Squares.{zero-vector}
 use Rattle.geometry.proofs.Terms.{VectorE, vec, dotE, crossE, scaledE, plusE, minusE, oppositeE, ofVectors}
 use Rattle.geometry.proofs.Centres.{distances-power, equidistant}
 use Rattle.planar.specs.Circles.{collinear, circumcentreOf, distanceInPlane, onCircle}

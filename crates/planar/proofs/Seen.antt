@@ -22,7 +22,7 @@ use Rattle.geometry.specs.Faces.{normalOf}
 use Rattle.geometry.proofs.Terms.{VectorE, vec, dotE, crossE, scaledE, plusE, minusE, oppositeE, ofVectors}
 use Rattle.geometry.proofs.Centres.{distances-power}
 use Rattle.geometry.proofs.Spheres.{by-multiple, pencil-bounds, sphere-bounds, triple-product, turned-orient}
-use Rattle.geometry.proofs.Faces.{square-size}
+use Rattle.geometry.proofs.Squares.{square-size}
 use Rattle.planar.specs.Circles.{collinear, circumcentreOf, distanceInPlane}
 use Rattle.planar.specs.Seen.{positionInPlane, axisX, axisY, axisZ, axisAcross, circleOf}
 use Rattle.planar.proofs.Circles.{centre, normalE, centreE}

@@ -6,7 +6,7 @@ use lib.IntN.{pos, _+ℤ_, _*ℤ_}
 use Rattle.geometry.specs.declared.Vector.{Vector}
 use Rattle.integers.specs.Bounds.{AtMost}
 use Rattle.geometry.specs.Vectors.{squareOf}
-use Rattle.geometry.proofs.Faces.{zero-vector}
+use Rattle.geometry.proofs.Squares.{zero-vector}
 use Rattle.planar.specs.Planes.{zeroVector}
 
 -- 0 is within every bound

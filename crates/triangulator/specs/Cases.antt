@@ -24,4 +24,4 @@ ties rows = quadrilateral (1 ∷ 1 ∷ 1 ∷ 1 ∷ []) rows
 
 -- the lists that rim file P gives (rule 6.1)
 abbrev pub jobP : Job
-jobP = quadrilateral (80 ∷ 64 ∷ 80 ∷ 93 ∷ []) (triple 1 3 312 ∷ triple 2 0 360 ∷ [])
+jobP = quadrilateral (320 ∷ 256 ∷ 320 ∷ 373 ∷ []) (triple 1 3 314 ∷ triple 2 0 360 ∷ [])

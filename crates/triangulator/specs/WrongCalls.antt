@@ -32,7 +32,7 @@ wrongCalls =
     -- a total of its own
     ∷ call single (result (Patch 1 4) (0 ∷ 9 ∷ []) (0 ∷ 9 ∷ []))
     -- a fan around vertex 0, with its own true total
-    ∷ call jobP (result (Patch 2 520) (2 ∷ 0 ∷ 9 ∷ []) cleared)
+    ∷ call jobP (result (Patch 2 1000) (2 ∷ 0 ∷ 9 ∷ []) cleared)
     -- the first triangle twice
     ∷ call (ties []) (result (Patch 2 2) (1 ∷ 1 ∷ 9 ∷ []) cleared)
     -- the later of two equal tilings

@@ -1,3 +1,4 @@
 pub mod Surfaces
 pub mod Edges
 pub mod RimEdges
+pub mod Measures

@@ -4,10 +4,10 @@ use mathlib.Core.Bool.{Bool, true, false, cond}
 use mathlib.Core.List.{List}
 use mathlib.Core.Logic.{_⊎_, inl, inr}
 use Prim.Native.Nat.{ℕ, zero, suc, _+_, _*_, _≤_, _<_}
-use native.Mathlib.Nat.{add-zero}
+use native.Mathlib.Nat.{add-zero, le-trans}
 use native.Mathlib.Omega.{arith}
 use borrow.Author.Tests.{eq-eqb, ne-eqb, eqb-true, eqb-false}
-use lib.Dec.{eqb}
+use lib.Dec.{eqb, lit≤}
 use Rattle.lists.specs.Lists.{both, either}
 use Rattle.lists.specs.Sums.{sumBelow}
 use Rattle.lists.proofs.Choice.{yes, below-or-same, either-left, either-right, both-true}
@@ -16,13 +16,14 @@ use Rattle.polygon.specs.declared.normal.Normal.{Normal}
 use Rattle.polygon.specs.Polygon.{ValidPolygon}
 use Rattle.polygon.specs.Normal.{noNormal, isNone, normalAt}
 use Rattle.geometry.specs.Bounds.{maxLength, maxBend}
-use Rattle.geometry.proofs.Faces.{length-bound, area-weight-bound}
+use Rattle.geometry.proofs.Lengths.{length-bound}
+use Rattle.geometry.proofs.Faces.{area-weight-bound}
 use Rattle.terms.specs.Limits.{maxAreaFactor, maxBendFactor, maxWeight}
 use Rattle.terms.specs.Entries.{vertexA, vertexB, vertexC}
 use Rattle.dihedrals.specs.Dihedrals.{faceNormal}
 use Rattle.dihedrals.proofs.Faces.{face-within}
 use Rattle.weights.specs.Weights.{nextVertex, isCorner, hasRimEdge, rimBend, rimBends, areaWeight, ownWeight}
-use Rattle.weights.specs.Edges.{edgeNormal, outsideWeightOf, ownWeightOf}
+use Rattle.weights.specs.Edges.{edgeNormal, outsideWeightOf, ownWeightOf, maxOwnWeight}
 use Rattle.weights.proofs.Surfaces.{of-the-next, of-the-last, not-from-0, not-to-the-last, outside-none, outside-bound}
 use Rattle.weights.proofs.Edges.{edgesOf}
 
@@ -201,11 +202,14 @@ module _ (p : Polygon) (t : List ℕ) (ab : vertexA t < vertexB t) (bc : vertexB
   pub own-weight-along-the-rim : ownWeightOf (p .«area_factor») (p .«bend_factor») (faceNormal p t) (edgesOf p t) ≡ ownWeight p t
   own-weight-along-the-rim = omega (arith, three term a b c (p .n) ab bc cn elsewhere, first, second, third)
 
-  -- no own weight is above what a direct job may have
-  pub own-weight-bound : ValidPolygon p → ownWeight p t ≤ maxWeight
-  own-weight-bound v =
+  pub own-weight-most : ValidPolygon p → ownWeight p t ≤ maxOwnWeight
+  own-weight-most v =
       let area : areaWeight p t ≤ maxAreaFactor * maxLength =
       area-weight-bound (v .area-factor) (length-bound (face-within {t = t} v (record { a<n = omega arith; b<n = omega arith; c<n = cn }))) in
       let bend : (x y : ℕ) → outside x y ≤ maxBendFactor * maxBend =
       λ x y. outside-bound (p .«bend_factor») (faceNormal p t) (outsideNormal x y) (v .bend-factor) in
       omega (arith, own-weight-along-the-rim, area, bend a b, bend b c, bend a c)
+
+  -- no own weight is above what a direct job may have
+  pub own-weight-bound : ValidPolygon p → ownWeight p t ≤ maxWeight
+  own-weight-bound v = le-trans (own-weight-most v) (lit≤ tt)

@@ -17,7 +17,9 @@ use Rattle.geometry.specs.declared.Vector.{Vector}
 use Rattle.geometry.specs.Vectors.{dotOf, squareOf}
 use Rattle.geometry.specs.Bounds.{maxNormal, maxBend, Within}
 use Rattle.geometry.specs.Faces.{lengthOf, bendBetween, bendWeightOf}
-use Rattle.geometry.proofs.Faces.{zero-vector, length-above-0, bend-weight-bound}
+use Rattle.geometry.proofs.Squares.{zero-vector}
+use Rattle.geometry.proofs.Lengths.{length-above-0}
+use Rattle.geometry.proofs.Faces.{bend-weight-bound}
 use Rattle.geometry.proofs.Bends.{bend-bound}
 use Rattle.terms.specs.Limits.{maxBendFactor}
 use Rattle.weights.specs.Weights.{vectorOf}

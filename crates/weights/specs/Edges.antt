@@ -2,7 +2,7 @@
 use mathlib.Core.Path.{_≡_}
 use mathlib.Core.Bool.{Bool, cond}
 use mathlib.Core.List.{List}
-use Prim.Native.Nat.{ℕ, _+_, _≤_}
+use Prim.Native.Nat.{ℕ, _+_, _*_, _≤_}
 use lib.Dec.{eqb}
 use lib.ListN.{length, take}
 use Rattle.lists.specs.Lists.{both}
@@ -10,6 +10,8 @@ use Rattle.polygon.specs.declared.Polygon.{Polygon}
 use Rattle.polygon.specs.declared.normal.Normal.{Normal}
 use Rattle.polygon.specs.Normal.{noNormal, isNone, NormalInRange}
 use Rattle.geometry.specs.declared.Vector.{Vector}
+use Rattle.terms.specs.Limits.{maxAreaFactor, maxBendFactor}
+use Rattle.geometry.specs.Bounds.{maxLength, maxBend}
 use Rattle.geometry.specs.Faces.{lengthOf, areaWeightOf, bendBetween, bendWeightOf}
 use Rattle.dihedrals.specs.Dihedrals.{lengthsOf}
 use Rattle.dihedrals.specs.Lists.{ProperCandidates}
@@ -41,6 +43,10 @@ outsideWeightOf factor normal outside = cond (isNone outside) 0 (bendWeightOf fa
 abbrev pub ownWeightOf : ℕ → ℕ → Vector → EdgeNormals → ℕ
 ownWeightOf area bend normal e =
     areaWeightOf area (lengthOf normal) + outsideWeightOf bend normal (e .ab) + outsideWeightOf bend normal (e .bc) + outsideWeightOf bend normal (e .ac)
+
+-- no own weight is larger: the longest normal at the largest area factor, and a bend at each of three edges (rule 4.17)
+abbrev pub maxOwnWeight : ℕ
+maxOwnWeight = maxAreaFactor * maxLength + 3 * (maxBendFactor * maxBend)
 
 -- the candidates, and the lengths of their normals in the first places of the table
 abbrev pub WeightsFrom : Polygon → List (List ℕ) → List ℕ → Type 0

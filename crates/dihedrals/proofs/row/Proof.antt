@@ -8,7 +8,8 @@ use Rattle.geometry.specs.Vectors.{dotOf}
 use Rattle.geometry.specs.Bounds.{maxDot, maxBend}
 use Rattle.geometry.specs.Faces.{bendOf, bendWeightOf}
 use Rattle.geometry.proofs.Vectors.{products-fit}
-use Rattle.geometry.proofs.Faces.{normals-dot, length-bound}
+use Rattle.geometry.proofs.Lengths.{length-bound}
+use Rattle.geometry.proofs.Faces.{normals-dot}
 use Rattle.geometry.proofs.Bends.{bend-bound}
 use Rattle.dihedrals.proofs.row.Statement.{statement}
 use Rattle.dihedrals.proofs.row.Tie as tie

@@ -8,7 +8,8 @@ use Rattle.polygon.specs.declared.normal.Normal.{Normal}
 use Rattle.geometry.specs.Bounds.{maxLength, maxBend}
 use Rattle.geometry.specs.declared.Vector.{Vector}
 use Rattle.geometry.specs.Faces.{normalOf, lengthOf, areaWeightOf}
-use Rattle.geometry.proofs.Faces.{length-bound, area-weight-bound}
+use Rattle.geometry.proofs.Lengths.{length-bound}
+use Rattle.geometry.proofs.Faces.{area-weight-bound}
 use Rattle.weights.specs.Edges.{outsideWeightOf}
 use Rattle.dihedrals.specs.Lists.{Measured}
 use Rattle.weights.proofs.Surfaces.{outside-bound}

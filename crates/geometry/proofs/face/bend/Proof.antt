@@ -2,7 +2,7 @@
 use mathlib.Core.Path.{_≡_, refl, sym, _∙_, ap, subst}
 use Prim.Native.Nat.{ℕ, _*_, _≤_}
 use native.Mathlib.Nat.{lt-of-le-of-lt}
-use lib.Dec.{T, lit<, lit≤, lt→ltb}
+use lib.Dec.{T, lit<, lt→ltb}
 use lib.IntN.{ℤ, pos, negsuc, natAbs, _-ℤ_, _*ℤ_}
 use lib.Signed.{nonNeg, _<ℤ_}
 use mir.Syntax.{w64}
@@ -10,28 +10,25 @@ use mir.ValLaws.{toZ-ofZ}
 use Rattle.integers.specs.Bounds.{AtMost}
 use Rattle.integers.specs.Rounding.{floorDiv, clamped}
 use Rattle.geometry.specs.Bounds.{maxDot, maxLength, maxBend}
-use Rattle.geometry.specs.Faces.{ratioOf, bendOf}
+use Rattle.geometry.specs.Faces.{squareScale, ratioScale, ratioOf, bendOf}
 use Rattle.integers.proofs.Rounding.{product-above-0}
-use Rattle.integers.proofs.Bounds.{Holds, bits, given, stored, fits, signed-fits, at-most-held, at-most-le, _*!_}
+use Rattle.integers.proofs.Bounds.{Holds, bits, literal, given, stored, fits, signed-fits, at-most-held, at-most-le, _*!_}
 use Rattle.geometry.proofs.Bends.{bend-is, bend-bound}
 use Rattle.geometry.proofs.face.bend.Statement.{statement}
 use Rattle.geometry.proofs.face.bend.Tie as tie
-
-thousand : Holds 1000 (pos 1000) (pos 1000)
-thousand = record { value = refl; bound = record { size = lit≤ tt } }
 
 natural : {n m : ℕ} → m ≤ n → AtMost n (pos m)
 natural h = record { size = h }
 
 module _ (s : tie.Start) where
-  numerator : Holds (1000 * maxDot) (pos 1000 *ℤ s .args .d) (pos 1000 *ℤ bits (s .args .d))
-  numerator = thousand *! given tt (s .pre .0)
+  dividend : (k : ℕ) → Holds (k * maxDot) (pos k *ℤ s .args .d) (pos k *ℤ bits (s .args .d))
+  dividend k = literal k *! given tt (s .pre .0)
 
   divisor : Holds (maxLength * maxLength) (pos (s .args .m * s .args .k)) (bits (pos (s .args .m)) *ℤ bits (pos (s .args .k)))
   divisor = given tt (natural (s .pre .2)) *! given tt (natural (s .pre .4))
 
 mul-n : tie.Need-mul-n
-mul-n c = fits tt (numerator c)
+mul-n c = fits tt (dividend c _)
 
 cast-w : tie.Need-cast-w
 cast-w c = signed-fits tt (natural (c .pre .2))
@@ -44,7 +41,7 @@ mul-w c = fits tt (divisor c)
 
 floor-div-requires : tie.Need-floor-div-requires
 floor-div-requires c κs = (
-  at-most-le tt (at-most-held (stored tt (numerator c))),
+  at-most-le tt (at-most-held (stored tt (dividend c _))),
   subst (λ (z : ℤ). pos 0 <ℤ z) (sym (stored tt (divisor c) .value))
       (record { lt = lt→ltb 0 _ (product-above-0 (c .args .m) (c .args .k) (c .pre .1) (c .pre .3)) }),
 )
@@ -59,7 +56,7 @@ ratio! c =
     let q = c .before .floor-div in
     c .clamp .ensures
     ∙ ap (clamped (negsuc 999) (pos 1000)) (toZ-ofZ w64 (q .result) (record { sfits = q .ok }) ∙ q .ensures
-    ∙ (λ i. floorDiv (stored tt (numerator s) .value i) (natAbs (stored tt (divisor s) .value i))))
+    ∙ (λ i. floorDiv (stored tt (dividend s (ratioScale * squareScale)) .value i) (natAbs (stored tt (divisor s) .value i))))
 
 bend! : (c : tie.After-clamp) → Holds maxBend (pos (bendOf (c .before .before .args .d) (c .before .before .args .m) (c .before .before .args .k)))
     (pos 1000 -ℤ bits (c .clamp .result))

@@ -8,7 +8,8 @@ use Rattle.geometry.specs.Vectors.{dotOf}
 use Rattle.geometry.specs.Bounds.{maxNormal, maxDot, maxBend, Within}
 use Rattle.geometry.specs.Faces.{lengthOf, bendOf, bendWeightOf}
 use Rattle.geometry.proofs.Vectors.{products-fit, within-as}
-use Rattle.geometry.proofs.Faces.{normals-dot, length-bound}
+use Rattle.geometry.proofs.Lengths.{length-bound}
+use Rattle.geometry.proofs.Faces.{normals-dot}
 use Rattle.geometry.proofs.Bends.{bend-bound}
 use Rattle.weights.specs.Weights.{vectorOf}
 use Rattle.weights.proofs.Surfaces.{outside-within, outside-above-0, outside-none, outside-some}
