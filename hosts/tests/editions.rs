@@ -21,21 +21,21 @@ fn closed(file: &[u8]) -> Result<(Outcome, Vec<u16>, Vec<u32>), Number> {
 }
 
 /// By hand: the candidates have the normals (0, -48, 64), (0, 0, 64), (-48, 0, 64), (-48, -48, 64) and
-/// the lengths 80, 64, 80, 93; their bends to (0, -600, 800) are 0, 200, 360 and 140.
+/// the lengths 320, 256, 320, 373; their bends to (0, -600, 800) are 0, 200, 360 and 143.
 #[test]
 fn weights_have_the_bends_at_rim_edges() {
     let patch = |total: u64| Outcome::Patch { triangles: 2, total };
-    let plain = (patch(469), vec![1, 3], vec![80, 64, 80, 93]);
+    let plain = (patch(943), vec![1, 3], vec![320, 256, 320, 373]);
     assert_eq!(closed(&p(None)), Ok(plain.clone()));
     let none = [0; 3];
     assert_eq!(closed(&p(Some([none; 4]))), Ok(plain));
     let wall = [0, -600, 800];
     let cases = [
-        ([wall, none, none, none], patch(520), vec![2, 0], vec![80, 264, 80, 93]),
-        ([none, wall, none, none], patch(520), vec![2, 0], vec![80, 64, 80, 233]),
-        ([none, none, wall, none], patch(609), vec![1, 3], vec![80, 64, 440, 233]),
-        ([none, none, none, wall], patch(669), vec![1, 3], vec![80, 264, 440, 93]),
-        ([wall; 4], patch(1149), vec![1, 3], vec![80, 464, 800, 373]),
+        ([wall, none, none, none], patch(1000), vec![2, 0], vec![320, 456, 320, 373]),
+        ([none, wall, none, none], patch(1000), vec![2, 0], vec![320, 256, 320, 516]),
+        ([none, none, wall, none], patch(1086), vec![1, 3], vec![320, 256, 680, 516]),
+        ([none, none, none, wall], patch(1143), vec![1, 3], vec![320, 456, 680, 373]),
+        ([wall; 4], patch(1629), vec![1, 3], vec![320, 656, 1040, 659]),
     ];
     for (normals, outcome, triangles, weights) in cases {
         assert_eq!(closed(&p(Some(normals))), Ok((outcome, triangles, weights)), "{normals:?}");

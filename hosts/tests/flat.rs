@@ -21,10 +21,10 @@ fn tilted<const N: usize>(places: [[f32; 2]; N]) -> [[f32; 3]; N] {
     places.map(|[s, t]| [0, 1, 2].map(|k| s * u[k] + t * v[k]))
 }
 
-/// By hand: the normals are (0, 0, 64) and (0, -48, 64), of the lengths 64 and 80.
+/// By hand: the normals are (0, 0, 64) and (0, -48, 64), so the lengths in quarters are 256 and 320.
 #[test]
 fn triangles_are_closed() {
-    for (height, total) in [(0.0, 64), (0.75, 80)] {
+    for (height, total) in [(0.0, 256), (0.75, 320)] {
         let triangle = [[0.0, 0.0, 0.0], [1.0, 0.0, 0.0], [0.0, 1.0, height]];
         let patch = Outcome::Patch { triangles: 1, total };
         assert_eq!(closed(&triangle), Ok((patch, vec![[0, 1, 2]])));
@@ -32,11 +32,11 @@ fn triangles_are_closed() {
 }
 
 /// A rhombus has the two halves at its short diagonal, without a bend. By hand: each half is 27 square
-/// millimetres, so it weighs 27 * 128.
+/// millimetres, so it weighs 27 * 512.
 #[test]
 fn a_rhombus_is_halved() {
     let rhombus = tilted([[-3.0, 0.0], [0.0, -1.0], [3.0, 0.0], [0.0, 1.0]]);
-    let patch = Outcome::Patch { triangles: 2, total: 2 * 27 * 128 };
+    let patch = Outcome::Patch { triangles: 2, total: 2 * 27 * 512 };
     assert_eq!(closed(&rhombus), Ok((patch, vec![[0, 1, 3], [1, 2, 3]])));
 }
 

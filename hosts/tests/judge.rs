@@ -17,13 +17,13 @@ struct Job {
     places: usize,
 }
 
-/// The job of rim file P (rule 6.1): its two triangulations cost 469 and 520.
+/// The job of rim file P (rule 6.1): its two triangulations cost 943 and 1000.
 fn p() -> Job {
     Job {
         n: 4,
         candidates: vec![[0, 1, 2], [0, 1, 3], [0, 2, 3], [1, 2, 3]],
-        weights: vec![80, 64, 80, 93],
-        rows: vec![[1, 3, 312], [2, 0, 360]],
+        weights: vec![320, 256, 320, 373],
+        rows: vec![[1, 3, 314], [2, 0, 360]],
         places: 6,
     }
 }
@@ -53,27 +53,27 @@ impl Job {
 #[test]
 fn accepted_in_any_order() {
     for (list, stated, excess) in
-        [([1, 3], 469, 0), ([3, 1], 469, 0), ([0, 2], 520, 51), ([2, 0], 520, 51)]
+        [([1, 3], 943, 0), ([3, 1], 943, 0), ([0, 2], 1000, 57), ([2, 0], 1000, 57)]
     {
         assert_eq!(p().judge(&list, stated), Ok(excess));
     }
 }
 
-/// Their bends count 0, so the totals are 64 + 93 and 80 + 80.
+/// Their bends count 0, so the totals are 256 + 373 and 320 + 320.
 #[test]
 fn pairs_without_a_row() {
     let job = p().with(|job| job.rows.clear());
-    assert_eq!(job.judge(&[1, 3], 157), Ok(0));
-    assert_eq!(job.judge(&[2, 0], 160), Ok(3));
+    assert_eq!(job.judge(&[1, 3], 629), Ok(0));
+    assert_eq!(job.judge(&[2, 0], 640), Ok(11));
 }
 
 /// As many as there are candidates; a further weight counts for nothing.
 #[test]
 fn places_that_just_suffice() {
     let job = p().with(|job| job.places = 4);
-    assert_eq!(job.judge(&[0, 2], 520), Ok(51));
+    assert_eq!(job.judge(&[0, 2], 1000), Ok(57));
     let longer = p().with(|job| job.weights.push(u32::MAX));
-    assert_eq!(longer.judge(&[0, 2], 520), Ok(51));
+    assert_eq!(longer.judge(&[0, 2], 1000), Ok(57));
 }
 
 /// Too few triangles, too many, the wrong ones, one twice, and numbers of no candidate, whatever the
@@ -99,7 +99,7 @@ fn lists_that_are_no_triangulation() {
         &[1; 1000],
     ];
     for list in lists {
-        for stated in [0, 469, 520] {
+        for stated in [0, 943, 1000] {
             assert_eq!(p().judge(list, stated), Err(Number::NotATriangulation), "{list:?}");
         }
     }
@@ -108,16 +108,16 @@ fn lists_that_are_no_triangulation() {
         job.rows.clear();
     });
     for list in [&[][..], &[0], &[1], &[0, 1]] {
-        assert_eq!(open.judge(list, 144), Err(Number::NotATriangulation), "{list:?}");
+        assert_eq!(open.judge(list, 576), Err(Number::NotATriangulation), "{list:?}");
     }
 }
 
 #[test]
 fn totals_that_are_not_the_lists() {
-    for stated in [0, 157, 468, 470, 520, (1 << 32) + 469, u64::MAX] {
+    for stated in [0, 629, 942, 944, 1000, (1 << 32) + 943, u64::MAX] {
         assert_eq!(p().judge(&[1, 3], stated), Err(Number::WrongTotal), "{stated}");
     }
-    for stated in [469, 519, 521] {
+    for stated in [943, 999, 1001] {
         assert_eq!(p().judge(&[0, 2], stated), Err(Number::WrongTotal), "{stated}");
     }
 }
@@ -142,7 +142,7 @@ fn numbers_of_the_job_come_first() {
         (count.with(|job| job.n = 2), Number::VertexCount),
     ] {
         for list in [&[][..], &[1, 3], &[3, 1, 1], &[1; 70]] {
-            for stated in [469, 470] {
+            for stated in [943, 944] {
                 assert_eq!(job.judge(list, stated), Err(number), "{list:?}");
             }
         }

@@ -26,6 +26,11 @@ pub fn on_all(n: usize, random: &mut Random) -> Vec<Normal> {
     (0..n).map(|_| any()).collect()
 }
 
+/// A short normal for each of n vertices, now and then none.
+pub fn short(n: usize, random: &mut Random) -> Vec<Normal> {
+    (0..n).map(|_| any(2, random)).collect()
+}
+
 /// Numbers of any size up to this one.
 fn any(size: i64, random: &mut Random) -> Normal {
     [0; 3].map(|_| random.between(-size, size) as i16)
@@ -59,7 +64,7 @@ fn shrunk(vector: Point) -> Normal {
     least.map(|x| (x * 1000 / highest) as i16)
 }
 
-fn greatest_divisor(a: i64, b: i64) -> i64 {
+pub fn greatest_divisor(a: i64, b: i64) -> i64 {
     if b == 0 {
         a
     } else {

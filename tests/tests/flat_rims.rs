@@ -5,7 +5,7 @@ use outside_tests::calls::{PatchAnswer, Places, Tables, Triangle};
 use outside_tests::comparison::{compare_calls, compare_finder, compare_rim};
 use outside_tests::fast::FAST;
 use outside_tests::jobs::job_of;
-use outside_tests::law::finder::{candidates, has_rim_edge, is_flat, normal, whole_length};
+use outside_tests::law::finder::{candidates, has_rim_edge, is_flat, length, normal};
 use outside_tests::law::{BY_INTERVALS, BY_SETS};
 use outside_tests::library::{each, under_test};
 use outside_tests::planes::{self, is_on_grid, with_one_off, Directions, Outline, Plane, Step};
@@ -295,7 +295,7 @@ fn candidates_outside_the_polygon() {
         let mut area = 0;
         for (&three, &weight) in job.candidates.iter().zip(&job.weights) {
             let own = normal(&points, three);
-            let m = whole_length(own) as u32;
+            let m = length(own) as u32;
             let is_inside = own.iter().zip(up).map(|(x, y)| x * y).sum::<i64>() > 0;
             let rim_edges = (0..n).filter(|&i| has_rim_edge(three, i, n)).count() as u32;
             let bend = if is_inside { 0 } else { 2000 };

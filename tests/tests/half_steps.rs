@@ -181,9 +181,9 @@ fn other_ways_at_a_half() {
         record.bits = point.map(|x| (x as f32 / 8.0).to_bits());
     }
     assert_eq!(file.bytes(), include_bytes!("../../examples/halves.rim"));
-    assert_eq!(total(&file), 5381);
-    assert_eq!(total(&rounded(f64::round_ties_even)), 5381);
-    assert_eq!(OTHERS.map(|way| total(&rounded(way))), [5260, 5372, 5515, 5126, 5257]);
+    assert_eq!(total(&file), 21_122);
+    assert_eq!(total(&rounded(f64::round_ties_even)), 21_122);
+    assert_eq!(OTHERS.map(|way| total(&rounded(way))), [20_554, 21_036, 21_526, 20_086, 20_480]);
 }
 
 /// Tables that are longer than needed by different numbers of places, and hold anything.

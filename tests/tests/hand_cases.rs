@@ -73,17 +73,17 @@ fn expect_refusal(points: &[Point], number: u32) {
 
 #[test]
 fn rim_file_p() {
-    let lists = job(4, &P_TRIPLES, &[80, 64, 80, 93], &[[1, 3, 312], [2, 0, 360]]);
-    expect_rim(&P, [1, 1], &lists, &[1, 3], 469);
+    let lists = job(4, &P_TRIPLES, &[320, 256, 320, 373], &[[1, 3, 314], [2, 0, 360]]);
+    expect_rim(&P, [1, 1], &lists, &[1, 3], 943);
 }
 
 #[test]
-fn other_tiling_of_p_costs_520() {
-    let rows = HashMap::from([([1, 3], 312), ([2, 0], 360)]);
-    let job = job(4, &P_TRIPLES, &[80, 64, 80, 93], &[]);
+fn other_tiling_of_p() {
+    let rows = HashMap::from([([1, 3], 314), ([2, 0], 360)]);
+    let job = job(4, &P_TRIPLES, &[320, 256, 320, 373], &[]);
     assert!(tilings::is_tiling(4, &P_TRIPLES, &[0, 2]));
-    assert_eq!(tilings::total(&job, &rows, &[0, 2]), 520);
-    assert_eq!(tilings::total(&job, &rows, &[1, 3]), 469);
+    assert_eq!(tilings::total(&job, &rows, &[0, 2]), 1000);
+    assert_eq!(tilings::total(&job, &rows, &[1, 3]), 943);
     assert_eq!(tilings::from_all_sets(4, &P_TRIPLES).len(), 2);
 }
 
@@ -103,7 +103,7 @@ fn bends() {
     assert_eq!(bend_of([1, 1, 1], [1, 1, 1]), 0);
     assert_eq!(bend_of([5, 0, 0], [0, 3, 0]), 1000);
     assert_eq!(bend_of([1, 1, 1], [-1, -1, -1]), 2000);
-    assert_eq!(bend(-1, 100, 100), 1001);
+    assert_eq!(bend(-1, 400, 400), 1001);
 }
 
 /// P with one coordinate given by its bits.
@@ -184,7 +184,7 @@ fn a_vertex_on_a_sphere_that_does_not_count() {
 #[test]
 fn three_vertices() {
     for (points, m) in
-        [([[0, 0, 0], [8, 0, 0], [0, 8, 0]], 64), ([[1, 2, 3], [4, 6, 3], [1, 2, 8]], 25)]
+        [([[0, 0, 0], [8, 0, 0], [0, 8, 0]], 256), ([[1, 2, 3], [4, 6, 3], [1, 2, 8]], 100)]
     {
         for [i, j, k] in [[0, 1, 2], [0, 2, 1], [1, 0, 2], [1, 2, 0], [2, 0, 1], [2, 1, 0]] {
             let lists = job(3, &[[0, 1, 2]], &[3 * m], &[]);
@@ -198,18 +198,18 @@ fn three_vertices() {
 #[test]
 fn a_triangle() {
     let file = include_bytes!("../../examples/triangle.rim");
-    expect_file(file, &job(3, &[[0, 1, 2]], &[53_146], &[]), &[0], 53_146);
+    expect_file(file, &job(3, &[[0, 1, 2]], &[212_586], &[]), &[0], 212_586);
     let points = reader::read(file).expect("taken").points;
     let upright = RimFile::plain(&points, 1, 1).with_normals(&[[0, 0, 9]; 3]).bytes();
-    expect_file(&upright, &job(3, &[[0, 1, 2]], &[53_224], &[]), &[0], 53_224);
+    expect_file(&upright, &job(3, &[[0, 1, 2]], &[212_664], &[]), &[0], 212_664);
 }
 
-/// The areas of the three candidates are half of 9900, 5700 and 6800, and all normals look up.
+/// The normals of the three candidates are 9900, 5700 and 6800 long, and all look up.
 #[test]
 fn flat_rim() {
     let candidates = [[0, 1, 3], [0, 3, 4], [1, 2, 3]];
-    let lists = job(5, &candidates, &[9900, 5700, 6800], &[[0, 2, 0], [1, 0, 0]]);
-    expect_rim(&FLAT, [1, 1], &lists, &[1, 0, 2], 22_400);
+    let lists = job(5, &candidates, &[39_600, 22_800, 27_200], &[[0, 2, 0], [1, 0, 0]]);
+    expect_rim(&FLAT, [1, 1], &lists, &[1, 0, 2], 89_600);
 }
 
 #[test]
@@ -217,7 +217,7 @@ fn corners_of_a_square() {
     expect_refusal(&SQUARE, 12);
     for left_out in 0..4 {
         let three: Vec<Point> = (0..4).filter(|k| *k != left_out).map(|k| SQUARE[k]).collect();
-        expect_rim(&three, [1, 1], &job(3, &[[0, 1, 2]], &[64], &[]), &[0], 64);
+        expect_rim(&three, [1, 1], &job(3, &[[0, 1, 2]], &[256], &[]), &[0], 256);
     }
 }
 
@@ -227,9 +227,9 @@ fn corners_of_a_square() {
 fn a_square_with_a_dent() {
     let file = include_bytes!("../../examples/dent.rim");
     let candidates = [[0, 1, 4], [0, 3, 4], [1, 2, 4], [2, 3, 4]];
-    let weights = [58_880, 23_040, 79_360, 43_520];
+    let weights = [235_520, 92_160, 317_440, 174_080];
     let lists = job(5, &candidates, &weights, &[[0, 2, 0], [2, 3, 0]]);
-    expect_file(file, &lists, &[0, 2, 3], 181_760);
+    expect_file(file, &lists, &[0, 2, 3], 727_040);
 }
 
 /// The star of examples/tilted.rim, in the plane x + y + z = 0. The normals of its four triangles are
@@ -238,9 +238,9 @@ fn a_square_with_a_dent() {
 fn a_tilted_star() {
     let file = include_bytes!("../../examples/tilted.rim");
     let candidates = [[0, 1, 2], [0, 1, 5], [0, 4, 5], [1, 2, 3], [1, 3, 5], [2, 3, 4], [3, 4, 5]];
-    let weights = [24_941, 8978, 24_941, 8978, 8978, 24_941, 8978];
+    let weights = [99_766, 35_915, 99_766, 35_915, 35_915, 99_766, 35_915];
     let lists = job(6, &candidates, &weights, &[[1, 4, 0], [4, 3, 0], [4, 6, 0]]);
-    expect_file(file, &lists, &[1, 4, 3, 6], 35_912);
+    expect_file(file, &lists, &[1, 4, 3, 6], 143_660);
 }
 
 /// The points of examples/line.rim, which stand in order on their line, and others that do not.

@@ -25,20 +25,20 @@ fn alone(n: usize, edge: usize, normal: Normal) -> Vec<Normal> {
     normals
 }
 
-/// The whole length of a vector, up from 0 in steps that halve.
+/// The length of a vector in whole quarters, up from 0 in steps that halve.
 fn length(vector: [i128; 3]) -> i128 {
-    let square: i128 = vector.iter().map(|x| x * x).sum();
+    let square: i128 = vector.iter().map(|x| (4 * x).pow(2)).sum();
     let steps = (0..32).rev().map(|k| 1 << k);
     steps
         .fold(0, |root: i128, step| if (root + step).pow(2) <= square { root + step } else { root })
 }
 
-/// 1000 less the largest q of -1000 to 1000 with q · m · m' ≤ 1000 d, or -1000 where there is none.
+/// 1000 less the largest q of -1000 to 1000 with q · m · m' ≤ 16,000 d, or -1000 where there is none.
 fn bend(candidate: [i128; 3], outside: Normal) -> i128 {
     let outside = outside.map(i128::from);
     let d: i128 = candidate.iter().zip(outside).map(|(x, y)| x * y).sum();
     let both = length(candidate) * length(outside);
-    1000 - (-1000..=1000).rev().find(|q| q * both <= 1000 * d).unwrap_or(-1000)
+    1000 - (-1000..=1000).rev().find(|q| q * both <= 16_000 * d).unwrap_or(-1000)
 }
 
 fn normal_of(points: &[Point], corners: Triangle) -> [i128; 3] {
@@ -92,12 +92,12 @@ fn rim(n: usize, random: &mut Random) -> Vec<Point> {
 /// of the edges.
 #[test]
 fn rim_file_p_by_hand() {
-    let plain = [80, 64, 80, 93];
+    let plain = [320, 256, 320, 373];
     let bends = [
-        ([0, 0, 1], [200, 0, 200, 312]),
-        ([0, 0, -1], [1800, 2000, 1800, 1689]),
-        ([1, 0, 0], [1000, 1000, 1600, 1517]),
-        ([0, -3, 4], [0, 200, 360, 140]),
+        ([0, 0, 1], [200, 0, 200, 314]),
+        ([0, 0, -1], [1800, 2000, 1800, 1687]),
+        ([1, 0, 0], [1000, 1000, 1600, 1515]),
+        ([0, -3, 4], [0, 200, 360, 143]),
     ];
     let edges = [[0, 1], [0, 3], [2, 3], [1, 2]];
     for (normal, bends) in bends {
@@ -107,7 +107,7 @@ fn rim_file_p_by_hand() {
             let count = |t: usize| edges[t].iter().filter(|&&edge| on(edge)).count() as u32;
             let job = job_with(&P, [1, 1], &normals);
             assert_eq!(job.weights, [0, 1, 2, 3].map(|t| plain[t] + count(t) * bends[t]));
-            assert_eq!(job.rows, [[1, 3, 312], [2, 0, 360]]);
+            assert_eq!(job.rows, [[1, 3, 314], [2, 0, 360]]);
         }
     }
 }
@@ -116,9 +116,9 @@ fn rim_file_p_by_hand() {
 #[test]
 fn normals_change_the_patch() {
     let cases: [([Normal; 4], [u16; 2], u64); 3] = [
-        ([[0; 3]; 4], [1, 3], 469),
-        ([[0, 0, 1]; 4], [1, 3], 1093),
-        ([[0, -3, 4], [0, -3, 4], [-3, 0, 4], [-3, 0, 4]], [2, 0], 520),
+        ([[0; 3]; 4], [1, 3], 943),
+        ([[0, 0, 1]; 4], [1, 3], 1571),
+        ([[0, -3, 4], [0, -3, 4], [-3, 0, 4], [-3, 0, 4]], [2, 0], 1000),
     ];
     for (normals, walk, total) in cases {
         let file = RimFile::plain(&P, 1, 1).with_normals(&normals).bytes();
@@ -251,7 +251,7 @@ fn three_rim_edges() {
     ];
     for (i, j, k) in (0..125).map(|some| (some % 5, some / 5 % 5, some / 25)) {
         let edges = [normals[i], normals[j], normals[k]];
-        let expected = 2 * 64 + 3 * edges.iter().map(|edge| edge.1).sum::<u32>();
+        let expected = 2 * 256 + 3 * edges.iter().map(|edge| edge.1).sum::<u32>();
         let job = check(&points, [2, 3], &edges.map(|edge| edge.0));
         assert_eq!((job.candidates, job.weights), (vec![[0, 1, 2]], vec![expected]), "{edges:?}");
         assert_eq!(job.rows, Vec::<Row>::new());

@@ -23,21 +23,21 @@ fn expect(file: &[u8], text: &str) {
 #[test]
 fn rim_file_p() {
     let file = RimFile::plain(&P, 1, 1).bytes();
-    expect(&file, "patch 4 2 469\n0 1 3 64 0\n1 2 3 93 312\n");
+    expect(&file, "patch 4 2 943\n0 1 3 256 0\n1 2 3 373 314\n");
 }
 
-/// The fourth number is the whole own weight: 93 and twice 312 for the surfaces outside.
+/// The fourth number is the whole own weight: 373 and twice 314 for the surfaces outside.
 #[test]
 fn rim_file_p_with_normals() {
     let file = RimFile::plain(&P, 1, 1).with_normals(&[[0, 0, 1]; 4]).bytes();
-    expect(&file, "patch 4 2 1093\n0 1 3 64 0\n1 2 3 717 312\n");
+    expect(&file, "patch 4 2 1571\n0 1 3 256 0\n1 2 3 1001 314\n");
 }
 
 #[test]
 fn flat_rims() {
     let file = |points: &[Point]| RimFile::plain(points, 1, 1).bytes();
-    expect(&file(&FLAT), "patch 5 3 22400\n0 3 4 5700 0\n0 1 3 9900 0\n1 2 3 6800 0\n");
-    expect(&file(&FLAT[..3]), "patch 3 1 6300\n0 1 2 6300 0\n");
+    expect(&file(&FLAT), "patch 5 3 89600\n0 3 4 22800 0\n0 1 3 39600 0\n1 2 3 27200 0\n");
+    expect(&file(&FLAT[..3]), "patch 3 1 25200\n0 1 2 25200 0\n");
     expect(&file(&SQUARE), "refused 12\n");
     expect(&file(&LINE), "none\n");
 }

@@ -11,7 +11,7 @@ use std::collections::{BTreeSet, HashMap};
 use std::fs;
 
 /// The lines that the bench program prints for p.rim.
-const PRINTED: &str = "patch 4 2 469\n0 1 3 64 0\n1 2 3 93 312\n";
+const PRINTED: &str = "patch 4 2 943\n0 1 3 256 0\n1 2 3 373 314\n";
 
 /// A patch of triangles alone.
 fn text(n: usize, triangles: &[Candidate], total: u64) -> String {
@@ -61,14 +61,14 @@ fn the_box_accepts_its_own_patches() {
 #[test]
 fn in_any_order() {
     for text in [
-        "patch 4 2 469\n1 2 3\n0 1 3\n",
-        "patch 4 2 469\n3 0 1\n2 3 1",
-        "\u{feff}patch\t4\t2\t469\r\n3\t1\t0\t64\t0\r\n\r\n3\t2\t1\t93\t312\r\n",
-        "# from elsewhere\n\n  patch 4 2 469 # the best\n 0 1 3\n#\n 1 2 3 no weights\n",
+        "patch 4 2 943\n1 2 3\n0 1 3\n",
+        "patch 4 2 943\n3 0 1\n2 3 1",
+        "\u{feff}patch\t4\t2\t943\r\n3\t1\t0\t256\t0\r\n\r\n3\t2\t1\t373\t314\r\n",
+        "# from elsewhere\n\n  patch 4 2 943 # the best\n 0 1 3\n#\n 1 2 3 no weights\n",
     ] {
         accepted("p.rim", text, 0);
     }
-    accepted("p.rim", "patch 4 2 520\n0 1 2\n0 2 3\n", 51);
+    accepted("p.rim", "patch 4 2 1000\n0 1 2\n0 2 3\n", 57);
 }
 
 /// The triangles of the example are those of the rim with area factor 0.
@@ -81,22 +81,22 @@ fn the_example_from_elsewhere() {
     let best: BTreeSet<[u64; 3]> = best.iter().map(|triangle| triangle.map(u64::from)).collect();
     let patch = parse(&example).expect("a patch");
     assert_eq!(patch.triangles.iter().map(|t| t.vertices).collect::<BTreeSet<_>>(), best);
-    accepted("gap.rim", example, 34);
+    accepted("gap.rim", example, 185);
     let readme = String::from_utf8(bytes_of("README.md")).expect("text");
-    let command = "`./rim judge examples/gap.rim examples/gap-bends.txt` prints `accepted 34`";
+    let command = "`./rim judge examples/gap.rim examples/gap-bends.txt` prints `accepted 185`";
     assert!(readme.contains(command));
 }
 
 #[test]
 fn what_is_no_triangulation() {
     for (text, place) in [
-        ("patch 4 2 469\n0 1 3\n1 2 4\n", "line 3: 1 2 4 is no candidate of the rim"),
-        ("patch 4 2 469\n3 3 0\n0 1 3\n", "line 2: 0 3 3 is no candidate of the rim"),
+        ("patch 4 2 943\n0 1 3\n1 2 4\n", "line 3: 1 2 4 is no candidate of the rim"),
+        ("patch 4 2 943\n3 3 0\n0 1 3\n", "line 2: 0 3 3 is no candidate of the rim"),
         ("patch 4 1 0\n0 1 256\n", "line 2: 0 1 256 is no candidate of the rim"),
-        ("patch 4 2 469\n0 1 3\n#\n1 3 0\n", "line 4: 0 1 3 is on line 2 too"),
-        ("patch 4 3 469\n0 1 3\n1 2 3\n3 2 1", "line 4: 1 2 3 is on line 3 too"),
+        ("patch 4 2 943\n0 1 3\n#\n1 3 0\n", "line 4: 0 1 3 is on line 2 too"),
+        ("patch 4 3 943\n0 1 3\n1 2 3\n3 2 1", "line 4: 1 2 3 is on line 3 too"),
         ("patch 4 0 0\n", "the rim edge from 0 to 1 is in 0 triangles, not in one"),
-        ("patch 4 1 64\n0 1 3\n", "the rim edge from 1 to 2 is in 0 triangles, not in one"),
+        ("patch 4 1 256\n0 1 3\n", "the rim edge from 1 to 2 is in 0 triangles, not in one"),
         ("patch 4 2 1\n0 1 2\n1 2 3\n", "the rim edge from 1 to 2 is in 2 triangles, not in one"),
         ("patch 4 2 1\n0 2 3\n1 2 3\n", "the rim edge from 0 to 1 is in 0 triangles, not in one"),
     ] {
@@ -111,13 +111,13 @@ fn what_is_no_triangulation() {
 
 #[test]
 fn what_is_not_the_total() {
-    for stated in [0, 468, 470, u64::MAX] {
+    for stated in [0, 942, 944, u64::MAX] {
         let text = format!("# P\npatch 4 2 {stated}\n0 1 3\n1 2 3\n");
-        let place = format!("line 2: it says {stated}, the triangles have 469");
+        let place = format!("line 2: it says {stated}, the triangles have 943");
         refused("p.rim", text, Number::WrongTotal, &place);
     }
-    let place = "line 1: it says 192082, the triangles have 167198";
-    let text = own_text("ridge.rim").replace("167198", "192082");
+    let place = "line 1: it says 768342, the triangles have 668804";
+    let text = own_text("ridge.rim").replace("668804", "768342");
     refused("ridge.rim", text, Number::WrongTotal, place);
 }
 
@@ -143,19 +143,19 @@ fn texts_that_are_no_patch() {
         ("none\n", format!("line 1: {begins}")),
         ("#\nrefused 12\n", format!("line 2: {begins}")),
         ("patch 4 2\n", format!("line 1: {begins}")),
-        ("patch 4 2 469 0\n", format!("line 1: {begins}")),
+        ("patch 4 2 943 0\n", format!("line 1: {begins}")),
         ("0 1 3\n1 2 3\n", format!("line 1: {begins}")),
-        ("patch 4 2 -469\n", format!("line 1: {}", not("-469"))),
-        ("patch 4 x 469\n", format!("line 1: {}", not("x"))),
-        ("patch 4 2 469\n0 1 3\n1 2.0 3\n", format!("line 3: {}", not("2.0"))),
-        ("patch 4 2 469\n0,1,3\n1,2,3\n", format!("line 2: {count} 1")),
-        ("patch 4 2 469\n\n0 1 3\n1 2\n", format!("line 4: {count} 2")),
-        ("patch 4 2 469\n0 1 3\n", "line 1: it says 2 triangles, the text has 1".into()),
+        ("patch 4 2 -943\n", format!("line 1: {}", not("-943"))),
+        ("patch 4 x 943\n", format!("line 1: {}", not("x"))),
+        ("patch 4 2 943\n0 1 3\n1 2.0 3\n", format!("line 3: {}", not("2.0"))),
+        ("patch 4 2 943\n0,1,3\n1,2,3\n", format!("line 2: {count} 1")),
+        ("patch 4 2 943\n\n0 1 3\n1 2\n", format!("line 4: {count} 2")),
+        ("patch 4 2 943\n0 1 3\n", "line 1: it says 2 triangles, the text has 1".into()),
         (
-            "patch 4 2 469\n0 1 3\n1 2 3\n0 1 3\n",
+            "patch 4 2 943\n0 1 3\n1 2 3\n0 1 3\n",
             "line 1: it says 2 triangles, the text has 3".into(),
         ),
-        ("patch 5 2 469\n0 1 3\n1 2 3\n", "line 1: it says 5 vertices, the rim has 4".into()),
+        ("patch 5 2 943\n0 1 3\n1 2 3\n", "line 1: it says 5 vertices, the rim has 4".into()),
     ] {
         judged("p.rim", text).refused(2, &format!("standard input: {why}"));
     }
@@ -198,7 +198,7 @@ fn into_a_file() {
     let written = || fs::read_to_string(folder.0.join("out")).expect("written");
     assert_eq!(judged(PRINTED).done().text(), "");
     assert_eq!(written(), "accepted 0\n");
-    assert_eq!(judged(&PRINTED.replace("469", "470")).status, 1);
+    assert_eq!(judged(&PRINTED.replace("943", "944")).status, 1);
     assert_eq!(written(), "refused 22\n");
     assert_eq!(judged("none\n").status, 2);
     assert_eq!(written(), "refused 22\n");

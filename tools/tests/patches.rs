@@ -23,9 +23,9 @@ fn examples_are_up_to_date() {
         (&["obj"], "gap.rim", "gap.obj"),
         (&["make"], "halves.txt", "halves.rim"),
         (&["make"], "line.txt", "line.rim"),
-        (&["make", "--bend", "16"], "ridge.txt", "ridge.rim"),
+        (&["make", "--bend", "64"], "ridge.txt", "ridge.rim"),
         (&["draw"], "ridge.rim", "ridge.svg"),
-        (&["make", "--bend", "16"], "ridge-normals.txt", "ridge-normals.rim"),
+        (&["make", "--bend", "64"], "ridge-normals.txt", "ridge-normals.rim"),
         (&["draw"], "ridge-normals.rim", "ridge-normals.svg"),
         (&["make"], "skew64.txt", "skew64.rim"),
         (&["make"], "tilted.txt", "tilted.rim"),
@@ -163,7 +163,7 @@ fn normals_lead_the_patch() {
         ["ridge.rim", "ridge-normals.rim"].map(|name| close(&bytes_of(name)).expect("accepted"));
     let [without, with] = &patches;
     assert_eq!(without.vertices, with.vertices);
-    assert_eq!([without.total, with.total], [167_198, 192_082]);
+    assert_eq!([without.total, with.total], [668_804, 768_342]);
     let on_the_edge = |triangle: &&Triangle| [0, 4].iter().all(|k| triangle.vertices.contains(k));
     let counts = patches.each_ref().map(|patch| patch.triangles.iter().filter(on_the_edge).count());
     assert_eq!(counts, [0, 2]);

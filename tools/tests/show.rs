@@ -25,17 +25,17 @@ vertex record  grid: x      y      z         x mm         y mm         z mm
      2      3        8      8      6            1            1         0.75
      3      4        0      8      0            0            1            0
 
-patch of 2 triangles, total 469
+patch of 2 triangles, total 943
 
      a      b      c   own weight  bend weight
-     0      1      3           64            0
-     1      2      3           93          312
+     0      1      3          256            0
+     1      2      3          373          314
 ";
     assert_eq!(run(&["show", "-"], &bytes_of("p.rim")).done().text(), text);
 }
 
-/// By hand: the triangles of the patch have the normals (0, 0, 64) of length 64 and (-48, -48, 64) of
-/// length 93, so the bends to (0, -600, 800) are 1000 - 800 and 1000 - 860.
+/// By hand: the triangles of the patch have the normals (0, 0, 64) of length 256 and (-48, -48, 64) of
+/// length 373, so the bends to (0, -600, 800) are 1000 - 800 and 1000 - 857.
 #[test]
 fn rim_file_p_with_normals() {
     let list = "0 0 0 normal 0 -600 800\n1 0 0\n1 1 0.75 normal 0 -600 800\n0 1 0 normal 0 0 0\n";
@@ -54,27 +54,27 @@ vertex record  grid: x      y      z         x mm         y mm         z mm
      2      3        8      8      6            1            1         0.75
      3      4        0      8      0            0            1            0
 
-patch of 2 triangles, total 809
+patch of 2 triangles, total 1286
 
      a      b      c   own weight  bend weight
-     0      1      3          264            0
-     1      2      3          233          312
+     0      1      3          456            0
+     1      2      3          516          314
 ";
     let file = run(&["make", "-"], list.as_bytes()).done().out;
     assert_eq!(run(&["show", "-"], &file).done().text(), text);
 }
 
-/// By hand: 5.5, 10 and 5.5 square millimetres, at 128 each, and no bends. The circle of 0, 1, 2 and 4
+/// By hand: 5.5, 10 and 5.5 square millimetres, at 512 each, and no bends. The circle of 0, 1, 2 and 4
 /// has vertex 3 inside, so 12 is not due.
 #[test]
 fn rim_file_flat5() {
     let text = "
-patch of 3 triangles, total 2688
+patch of 3 triangles, total 10752
 
      a      b      c   own weight  bend weight
-     0      3      4          704            0
-     0      1      3         1280            0
-     1      2      3          704            0
+     0      3      4         2816            0
+     0      1      3         5120            0
+     1      2      3         2816            0
 ";
     let shown = run(&["show", "-"], &bytes_of("flat5.rim")).done().text();
     assert!(shown.ends_with(text), "{shown}");

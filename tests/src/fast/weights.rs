@@ -4,7 +4,23 @@ use super::reader::Polygon;
 use super::vectors::{cross, dot, minus, Vector};
 use crate::calls::Triangle;
 
-/// A normal with its whole length, which is 0 for no surface.
+/// The parts of a unit in which lengths are counted.
+const PARTS: i64 = 4;
+
+/// The bend at a right angle, and the scale of ratios, which takes the parts of both lengths out.
+const RIGHT_ANGLE: i64 = 1000;
+const SCALE: i64 = RIGHT_ANGLE * PARTS * PARTS;
+
+/// The whole part of a root. Squares are below 2^52: f64 holds them, and rounds no root up to the next
+/// whole number.
+#[inline]
+fn root(square: i64) -> i64 {
+    let root = (square as f64).sqrt() as i64;
+    debug_assert!(root * root <= square && square < (root + 1) * (root + 1));
+    root
+}
+
+/// A normal with its length, which is 0 for no surface.
 #[derive(Clone, Copy)]
 pub struct Normal {
     at: Vector,
@@ -14,7 +30,7 @@ pub struct Normal {
 impl Normal {
     #[inline]
     fn new(at: Vector) -> Normal {
-        Normal { at, length: (dot(at, at) as u64).isqrt() as i64 }
+        Normal { at, length: root(PARTS * PARTS * dot(at, at)) }
     }
 
     #[inline]
@@ -25,8 +41,8 @@ impl Normal {
 
     #[inline]
     pub fn bend(&self, other: &Normal) -> u32 {
-        let quotient = (1000 * dot(self.at, other.at)).div_euclid(self.length * other.length);
-        (1000 - quotient.clamp(-1000, 1000)) as u32
+        let ratio = (SCALE * dot(self.at, other.at)).div_euclid(self.length * other.length);
+        (RIGHT_ANGLE - ratio.clamp(-RIGHT_ANGLE, RIGHT_ANGLE)) as u32
     }
 }
 

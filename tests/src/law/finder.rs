@@ -179,24 +179,30 @@ pub fn normal(points: &[Point], [a, b, c]: Triangle) -> Point {
     cross([0, 1, 2].map(|k| q[k] - p[k]), [0, 1, 2].map(|k| r[k] - p[k]))
 }
 
-/// Rule 2.7.
-pub fn whole_length(normal: Point) -> u64 {
-    let square = squared(normal) as u128;
-    let root = square.isqrt();
-    assert!(root * root <= square && square < (root + 1) * (root + 1));
-    root as u64
+/// Lengths count quarters (rule 2.7).
+const QUARTERS: i128 = 4;
+
+/// The thousand of rule 2.10, and the quarters of the two lengths that it is divided by.
+const RATIO: i128 = 1000 * QUARTERS * QUARTERS;
+
+/// Rule 2.7: the largest m with m · m ≤ (4 |normal|)².
+pub fn length(normal: Point) -> u64 {
+    let square = QUARTERS * QUARTERS * squared(normal);
+    let m = square.isqrt();
+    assert!(m * m <= square && square < (m + 1) * (m + 1));
+    m as u64
 }
 
-/// 1000 - q, with q the clamped floor of 1000 d / (m · m).
+/// 1000 - q, with q the clamped floor of 16,000 d / (m · m).
 pub fn bend(d: i128, m_inner: u64, m_outer: u64) -> u64 {
     // The divisor is positive, so the Euclidean quotient is the floor.
-    let q = (1000 * d).div_euclid(m_inner as i128 * m_outer as i128).clamp(-1000, 1000);
+    let q = (RATIO * d).div_euclid(m_inner as i128 * m_outer as i128).clamp(-1000, 1000);
     (1000 - q) as u64
 }
 
 /// The bend of two normals.
 pub fn bend_of(inner: Point, outer: Point) -> u64 {
-    bend(dot(inner.map(i128::from), outer), whole_length(inner), whole_length(outer))
+    bend(dot(inner.map(i128::from), outer), length(inner), length(outer))
 }
 
 /// Rule 2.9.
@@ -211,7 +217,7 @@ pub fn has_rim_edge(t: Triangle, i: usize, n: usize) -> bool {
 
 /// Rule 2.15: the area weight, and a bend weight for each rim edge that has a surface outside.
 fn own_weight(rim: &Rim, t: Triangle, normal: Point) -> u64 {
-    let mut weight = rim.area_factor * whole_length(normal);
+    let mut weight = rim.area_factor * length(normal);
     for (i, surface) in rim.surfaces.iter().enumerate() {
         if let Some(outside) = surface {
             if has_rim_edge(t, i, rim.points.len()) {
