@@ -270,7 +270,7 @@ fn run_refused() {
     run(with_normal(polygon(6, 1, 1, FLAT), 5, steep), 20, 20, 20);
 }
 
-// The bend of equal, perpendicular and opposite normals of length 100, which is 400 quarters, and for a dot product of -1.
+// The bend of equal, perpendicular and opposite normals that are 100 long, which is 400 quarters, and for a dot product of -1.
 fn run_bends() {
     io::write_all(STANDARD_OUTPUT, b"bends");
     print_number(face::bend(10000, 400, 400) as u64);

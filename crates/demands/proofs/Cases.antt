@@ -89,7 +89,7 @@ row-0-dropped-wrong e = let n = ap (λ (f : Finding). rowCountOf (f .answer)) (e
 pub idle-wrong : {o : Outcome} → patching o lentP ≡ patchFile maxVertices fileP lentP → ⊥
 idle-wrong e = let n = ap (λ (x : Patching). getD (x .left .work) 0 0) (e ∙ file-P) in omega (arith, n)
 
--- the one call that hands the tiler no rows: the total of the areas alone
+-- the one call that hands the tiler no rows, or has whole roots for lengths in the rows, by which they all weigh 0: the total of the areas alone
 pub rows-left-out-wrong : {t : Tables} → patching (Patch 2 629) t ≡ patchFile maxVertices fileP lentP → ⊥
 rows-left-out-wrong e = let n = ap (λ (x : Patching). totalOf (x .outcome)) (e ∙ file-P) in omega (arith, n)
 
@@ -105,13 +105,14 @@ ratio-1000-wrong e = let n = ap (λ (x : Patching). totalOf (x .outcome)) (e ∙
 pub ratio-4000-wrong : {t : Tables} → patching (Patch 2 1458) t ≡ patchFile maxVertices fileP lentP → ⊥
 ratio-4000-wrong e = let n = ap (λ (x : Patching). totalOf (x .outcome)) (e ∙ file-P) in omega (arith, n)
 
--- the rows left at the whole root, with their old ratio and with the new one
+-- the rows left at whole roots, with 1,000 in their ratio
 pub old-rows-wrong : {t : Tables} → patching (Patch 2 941) t ≡ patchFile maxVertices fileP lentP → ⊥
 old-rows-wrong e = let n = ap (λ (x : Patching). totalOf (x .outcome)) (e ∙ file-P) in omega (arith, n)
 
-pub old-lengths-in-rows-wrong : {t : Tables} → patching (Patch 2 629) t ≡ patchFile maxVertices fileP lentP → ⊥
-old-lengths-in-rows-wrong = rows-left-out-wrong
+-- the bends against the surface outside left at whole roots, with 1,000 in their ratio
+pub old-bends-outside-wrong : {t : Tables} → patching (Patch 2 1283) t ≡ patchFile maxVertices fileN lentP → ⊥
+old-bends-outside-wrong e = let n = ap (λ (x : Patching). totalOf (x .outcome)) (e ∙ file-N) in omega (arith, n)
 
--- the normals outside left at the whole root: all their bends come out as 0
+-- the normals outside alone left at whole roots: all their bends come out as 0
 pub old-length-outside-wrong : {t : Tables} → patching (Patch 2 943) t ≡ patchFile maxVertices fileN lentP → ⊥
 old-length-outside-wrong e = let n = ap (λ (x : Patching). totalOf (x .outcome)) (e ∙ file-N) in omega (arith, n)

@@ -1,5 +1,5 @@
 -- Lengths in quarters, of any lists of which demand 2 holds. Assumes nothing.
-use mathlib.Core.Path.{_≡_, refl, sym, _∙_, ap, subst}
+use mathlib.Core.Path.{_≡_, sym, _∙_, ap, subst}
 use mathlib.Core.List.{List, []}
 use Prim.Native.Nat.{ℕ, zero, suc, _+_, _*_, _≤_, _<_}
 use native.Mathlib.Nat.{mul-le-mul-left}
@@ -7,20 +7,27 @@ use native.Mathlib.Omega.{arith}
 use lib.ListN.{length}
 use Rattle.polygon.specs.declared.Polygon.{Polygon}
 use Rattle.polygon.specs.Polygon.{ValidPolygon}
+use Rattle.geometry.specs.declared.Vector.{Vector}
 use Rattle.geometry.specs.Bounds.{maxNormal, Within}
 use Rattle.geometry.specs.Faces.{lengthOf}
+use Rattle.geometry.proofs.Faces.{normal-within}
 use Rattle.geometry.proofs.Lengths.{longer-is-more}
 use Rattle.terms.specs.Entries.{entryAt, outer, inner, vertexA, vertexB, vertexC}
 use Rattle.lists.proofs.Members.{entry-member}
 use Rattle.dihedrals.specs.Dihedrals.{faceNormal}
-use Rattle.dihedrals.specs.Lists.{Corners}
 use Rattle.dihedrals.proofs.Faces.{face-within}
-use Rattle.dihedrals.proofs.Measures.{hinge-measured}
-use Rattle.weights.proofs.Measures.{own-weight-measured, rim-bend-measured}
+use Rattle.dihedrals.proofs.Quarters.{hinge-in-quarters}
+use Rattle.weights.proofs.Surfaces.{outside-within}
+use Rattle.weights.proofs.Quarters.{own-weight-in-quarters, rim-bend-in-quarters}
 use Rattle.finder.proofs.Candidates.{candidate-length}
 use Rattle.demands.specs.Demand2.{Demand2}
-use Rattle.demands.specs.Quarters.{InQuarters}
+use Rattle.demands.specs.Quarters.{IsNormal, of-triangle, of-surface, InQuarters}
 use Rattle.demands.proofs.Candidates.{true-candidate}
+
+-- every normal is within the bounds of the code
+pub within : {n : Vector} → IsNormal n → Within maxNormal n
+within (of-triangle a b c ha hb hc) = normal-within ha hb hc
+within (of-surface k r) = outside-within r
 
 module _ (p : Polygon) (v : ValidPolygon p) {candidates : List (List ℕ)} {weights : List ℕ} {rows : List (List ℕ)}
     (d : Demand2 p candidates weights rows) where
@@ -47,20 +54,20 @@ module _ (p : Polygon) (v : ValidPolygon p) {candidates : List (List ℕ)} {weig
 
   pub in-quarters : InQuarters p candidates weights rows
   in-quarters = record {
-    weight = λ i h. let f = face i h in let w = own-weight-measured p (entryAt candidates i) (f .0) (f .1) in (w .0, w .1, w .2, d .weight i h ∙ w .3);
-    outside = λ i u h k some. let f = face i h in rim-bend-measured p (entryAt candidates i) (f .0) (f .1) u (v .normals-in-range u k) some;
+    weight = λ i h. let f = face i h in let w = own-weight-in-quarters p (entryAt candidates i) (f .0) (f .1) in (w .0, w .1, w .2, d .weight i h ∙ w .3);
+    outside = λ i u h k some. let f = face i h in rim-bend-in-quarters p (entryAt candidates i) (f .0) (f .1) u (v .normals-in-range u k) some;
     row = λ k h.
         let t = entryAt candidates (inner (entryAt rows k)) in
         let u = entryAt candidates (outer (entryAt rows k)) in
         let f = face (inner (entryAt rows k)) (d .hinge-inner k h) in
         let g = face (outer (entryAt rows k)) (d .hinge-outer k h) in
-        let w = hinge-measured p t u (f .0) (g .0) (f .1) (g .1) in
+        let w = hinge-in-quarters p t u (f .0) (g .0) (f .1) (g .1) in
         (w .0, w .1, d .hinge-weight k h ∙ w .2);
     told-apart = λ i j hi hj longer above same.
         let f = face i hi in
         let g = face j hj in
-        let x = own-weight-measured p (entryAt candidates i) (f .0) (f .1) in
-        let y = own-weight-measured p (entryAt candidates j) (g .0) (g .1) in
+        let x = own-weight-in-quarters p (entryAt candidates i) (f .0) (f .1) in
+        let y = own-weight-in-quarters p (entryAt candidates j) (g .0) (g .1) in
         let l = longer-is-more (faceNormal p (entryAt candidates i)) (faceNormal p (entryAt candidates j)) longer (x .0) (y .0) (x .1) (y .1) in
         omega (arith, d .weight i hi, d .weight j hj, x .3, y .3, more (p .«area_factor») (x .0) (y .0) _ _ above l same);
   }

@@ -81,6 +81,9 @@ downward = record { x = pos 0; y = pos 0; z = negsuc 63 }
 abbrev pub sideward : Vector
 sideward = record { x = pos 48; y = pos 0; z = pos 0 }
 
+abbrev pub slanting : Vector
+slanting = record { x = pos 0; y = pos 1; z = pos 1 }
+
 -- a rim by its points in steps of the grid, with both factors 1 and these normals (rule 6.8)
 abbrev pub rimOf : List GridPoint → List Normal → Polygon
 rimOf points normals = record { n = length points; «area_factor» = 1; «bend_factor» = 1; vertices = points; normals = normals }
@@ -173,10 +176,11 @@ worked =
     ∷ judges (ties (triple 1 0 1 ∷ [])) (1 ∷ 1 ∷ []) 0 (refused 16)
     ∷ judges single (0 ∷ []) 5 (judge.result (judgement.Accepted 0) (0 ∷ 9 ∷ []))
     ∷ judges (jobOf 3 [] [] []) [] 0 (judge.result (judgement.Refused (refusal 21)) (9 ∷ []))
-    -- rule 6.5: equal, perpendicular and opposite normals; a dot product of -1
+    -- rule 6.5: equal, perpendicular and opposite normals; a short one, whose length 5 is no four times a whole root; a dot product of -1
     ∷ case (of-bend (bendBetween upward upward)) (of-bend 0)
     ∷ case (of-bend (bendBetween upward sideward)) (of-bend 1000)
     ∷ case (of-bend (bendBetween upward downward)) (of-bend 2000)
+    ∷ case (of-bend (bendBetween upward slanting)) (of-bend 200)
     ∷ case (of-bend (bendOf (negsuc 0) 400 400)) (of-bend 1001)
     -- rule 6.7: 0.0625, 0.1875, -0.0625, -0.1875, 124.9375 and -124.9375 mm
     ∷ rounds 0x3d80_0000 (pos 0)

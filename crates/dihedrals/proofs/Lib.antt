@@ -1,3 +1,3 @@
 pub mod Rows
 pub mod Faces
-pub mod Measures
+pub mod Quarters

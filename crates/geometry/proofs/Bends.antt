@@ -2,7 +2,7 @@
 use mathlib.Core.Path.{_≡_, refl, sym, _∙_, ap, subst}
 use mathlib.Core.List.{[], _∷_}
 use mathlib.Core.Bool.{Bool, true, false, cond}
-use Prim.Native.Nat.{ℕ, zero, suc, _+_, _*_, _/_, _≤_, _<_}
+use Prim.Native.Nat.{ℕ, zero, suc, _+_, _*_, _-_, _/_, _≤_, _<_}
 use native.Mathlib.Nat.{le-antisymm, le-div-iff-mul-le, zero-div}
 use native.Mathlib.Omega.{arith}
 use lib.Dec.{ltb}
@@ -12,13 +12,12 @@ use Rattle.geometry.specs.declared.Vector.{Vector}
 use Rattle.integers.specs.Rounding.{floorDiv, clamped}
 use Rattle.integers.proofs.Ring.{con, _:-_, ring}
 use Rattle.integers.proofs.Rounding.{clamped-range, product-above-0}
-use Rattle.geometry.specs.Vectors.{dotOf, squareOf, opposite}
+use Rattle.geometry.specs.Vectors.{dotOf, squareOf, zeroVector, opposite}
 use Rattle.geometry.specs.Bounds.{maxNormal, maxBend, Within}
-use Rattle.geometry.specs.Faces.{squareScale, ratioScale, lengthOf, ratioOf, bendOf, bendBetween}
-use Rattle.geometry.specs.Measures.{NotZero}
+use Rattle.geometry.specs.Faces.{squareScale, dividendScale, lengthOf, ratioOf, bendOf, bendBetween}
 use Rattle.geometry.proofs.Terms.{vec, dotE, oppositeE}
-use Rattle.geometry.proofs.Squares.{square-size, not-zero}
-use Rattle.geometry.proofs.Lengths.{length-is, length-above-0, same-length}
+use Rattle.geometry.proofs.Squares.{square-size}
+use Rattle.geometry.proofs.Lengths.{length-is, not-zero-above-0, length-by-square}
 
 -- ---- three bends, with both lengths 400: of triangles that go on in one plane, of folded ones, and of a dot product of -1 (rules 2.11, 6.5)
 
@@ -39,7 +38,7 @@ nearly-perpendicular = refl
 module _ (d : ℤ) (m k : ℕ) where
   bend-natural : (j : ℕ) × (j ≤ maxBend) × (pos 1000 -ℤ ratioOf d m k ≡ pos j)
   unfolding ratioOf
-  bend-natural = clamped-range (floorDiv (pos (ratioScale * squareScale) *ℤ d) (m * k))
+  bend-natural = clamped-range (floorDiv (pos dividendScale *ℤ d) (m * k))
 
   pub bend-is : pos (bendOf d m k) ≡ pos 1000 -ℤ ratioOf d m k
   unfolding bendOf
@@ -71,16 +70,16 @@ module _ (m k : ℕ) (above : 0 < m * k) where
   pub bend-least : (x : ℕ) → m * k ≤ squareScale * x → bendOf (pos x) m k ≡ 0
   unfolding bendOf ratioOf
   bend-least x h =
-      ap (λ (z : ℤ). natAbs (pos 1000 -ℤ z)) (held-high ((16000 * x) / (m * k)) (le-div-iff-mul-le above .1 (omega arith)))
+      ap (λ (z : ℤ). natAbs (pos 1000 -ℤ z)) (held-high (dividendScale * x / (m * k)) (le-div-iff-mul-le above .1 (omega arith)))
 
   -- -d is
   pub bend-most : (x : ℕ) → m * k ≤ squareScale * x → bendOf (negℤ (pos x)) m k ≡ 2000
   unfolding bendOf ratioOf
   bend-most zero h = absurd (omega arith)
   bend-most (suc a) h =
-      let e : 16000 * suc a ≡ suc (16000 * a + 15999) = omega arith in
+      let e : dividendScale * suc a ≡ suc (dividendScale * a + (dividendScale - 1)) = omega arith in
       ap (λ (n : ℕ). natAbs (pos 1000 -ℤ clamped (negsuc 999) (pos 1000) (floorDiv (negℤ (pos n)) (m * k)))) e
-      ∙ ap (λ (z : ℤ). natAbs (pos 1000 -ℤ z)) (held-low ((16000 * a + 15999) / (m * k)) (le-div-iff-mul-le above .1 (omega arith)))
+      ∙ ap (λ (z : ℤ). natAbs (pos 1000 -ℤ z)) (held-low ((dividendScale * a + (dividendScale - 1)) / (m * k)) (le-div-iff-mul-le above .1 (omega arith)))
 
 pub bend-perpendicular : (m k : ℕ) → bendOf (pos 0) m k ≡ 1000
 unfolding bendOf ratioOf
@@ -88,13 +87,13 @@ bend-perpendicular m k = ap (λ (y : ℕ). natAbs (pos 1000 -ℤ clamped (negsuc
 
 -- ---- the bends of rule 6.5
 
-pub equal-normals : {n : Vector} → Within maxNormal n → NotZero n → bendBetween n n ≡ 0
+pub equal-normals : {n : Vector} → Within maxNormal n → (n ≡ zeroVector → ⊥) → bendBetween n n ≡ 0
 equal-normals {n} h z =
     ap (λ (d : ℤ). bendOf d (lengthOf n) (lengthOf n)) (square-size n)
     ∙ bend-least (lengthOf n) (lengthOf n) (product-above-0 (lengthOf n) (lengthOf n) l l) (natAbs (squareOf n)) (length-is h .low)
   where
     l : 0 < lengthOf n
-    l = length-above-0 h (not-zero z)
+    l = not-zero-above-0 h z
 
 pub perpendicular-normals : (n k : Vector) → dotOf n k ≡ pos 0 → bendBetween n k ≡ 1000
 perpendicular-normals n k e = ap (λ (d : ℤ). bendOf d (lengthOf n) (lengthOf k)) e ∙ bend-perpendicular (lengthOf n) (lengthOf k)
@@ -106,13 +105,13 @@ module _ (n : Vector) where
   pub opposite-square : squareOf (opposite n) ≡ squareOf n
   opposite-square = ring (n .x ∷ n .y ∷ n .z ∷ []) (dotE (oppositeE (vec 0)) (oppositeE (vec 0))) (dotE (vec 0) (vec 0)) tt
 
-  pub opposite-normals : Within maxNormal n → NotZero n → bendBetween n (opposite n) ≡ 2000
+  pub opposite-normals : Within maxNormal n → (n ≡ zeroVector → ⊥) → bendBetween n (opposite n) ≡ 2000
   opposite-normals h z =
-      (λ i. bendOf (dot i) (lengthOf n) (same-length (opposite n) n opposite-square i))
+      (λ i. bendOf (dot i) (lengthOf n) (length-by-square (opposite n) n opposite-square i))
       ∙ bend-most (lengthOf n) (lengthOf n) (product-above-0 (lengthOf n) (lengthOf n) l l) (natAbs (squareOf n)) (length-is h .low)
     where
       l : 0 < lengthOf n
-      l = length-above-0 h (not-zero z)
+      l = not-zero-above-0 h z
 
       dot : dotOf n (opposite n) ≡ negℤ (pos (natAbs (squareOf n)))
       dot = opposite-dot ∙ +ℤ-idl (negℤ (squareOf n)) ∙ ap negℤ (square-size n)

@@ -10,9 +10,9 @@ use Rattle.integers.specs.Rounding.{floorRoot, rootDigits}
 use Rattle.geometry.specs.declared.Vector.{Vector}
 use Rattle.geometry.specs.Vectors.{squareOf}
 use Rattle.geometry.specs.declared.sphere.Position.the-variants.{Inside, Outside}
-use Rattle.geometry.specs.Bounds.{maxDot, maxLength, maxScaledDot}
-use Rattle.geometry.specs.Faces.{squareScale, ratioScale, normalOf, lengthOf, ratioOf, bendOf, bendBetween}
-use Rattle.geometry.specs.Measures.{LongerByQuarter}
+use Rattle.geometry.specs.Bounds.{maxDot, maxLength, maxRatioDividend}
+use Rattle.geometry.specs.Faces.{squareScale, dividendScale, normalOf, lengthOf, ratioOf, bendOf, bendBetween}
+use Rattle.geometry.specs.Quarters.{LongerByQuarter}
 use Rattle.geometry.proofs.Lengths.{longer-by-quarter}
 use Rattle.geometry.specs.Spheres.{orientOf, centreOf, distanceOf, coplanar, strictlyInside, onSphere}
 use Rattle.geometry.specs.Lifting.{positionOf}
@@ -58,7 +58,7 @@ bend-2-0 = refl
 
 -- ---- lengths and ratios by numbers
 
-scales : (squareScale ≡ 16) × (ratioScale * squareScale ≡ 16000) × (maxScaledDot ≡ 3072000000000000000)
+scales : (squareScale ≡ 16) × (dividendScale ≡ 16000) × (maxRatioDividend ≡ 3072000000000000000)
 scales = (refl, refl, refl)
 
 -- the shortest normals outside

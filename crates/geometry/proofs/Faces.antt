@@ -2,7 +2,6 @@
 use mathlib.Core.Path.{_≡_, sym, _∙_}
 use mathlib.Core.Bool.{false}
 use Prim.Native.Nat.{ℕ, _*_, _≤_, _<_}
-use native.Mathlib.Nat.{le-refl}
 use lib.Dec.{lit≤}
 use lib.IntN.{ℤ, pos, _+ℤ_, _*ℤ_, *ℤ-zero}
 use Rattle.grid.specs.declared.GridPoint.{GridPoint}
@@ -11,12 +10,12 @@ use Rattle.geometry.specs.declared.Vector.{Vector}
 use Rattle.terms.specs.Limits.{maxAreaFactor, maxBendFactor}
 use Rattle.integers.specs.Bounds.{AtMost, maxDividend}
 use Rattle.integers.proofs.Ring.{E, ring}
-use Rattle.integers.proofs.Bounds.{mul-le, at-most-mul}
+use Rattle.integers.proofs.Bounds.{mul-le, at-most-mul, literal}
 use Rattle.integers.proofs.Order.{equal-is, true≢false}
 use Rattle.geometry.specs.Vectors.{differenceOf, dotOf, squareOf}
 use Rattle.geometry.specs.Spheres.{orientOf, coplanar}
-use Rattle.geometry.specs.Bounds.{maxNormal, maxDot, maxScaledDot, maxLength, maxBend, Within}
-use Rattle.geometry.specs.Faces.{squareScale, ratioScale, normalOf, lengthOf, areaWeightOf, bendWeightOf}
+use Rattle.geometry.specs.Bounds.{maxNormal, maxDot, maxRatioDividend, maxLength, maxBend, Within}
+use Rattle.geometry.specs.Faces.{dividendScale, normalOf, lengthOf, areaWeightOf, bendWeightOf}
 use Rattle.geometry.proofs.Terms.{VectorE, vec, dotE, crossE, minusE, orientE, ofPoints}
 use Rattle.geometry.proofs.Vectors.{within-difference, within-cross, at-most-dot}
 use Rattle.geometry.proofs.Squares.{zero-vector}
@@ -28,15 +27,12 @@ normal-within h k l = within-cross (within-difference k h) (within-difference l 
 pub normals-dot : {n k : Vector} → Within maxNormal n → Within maxNormal k → AtMost maxDot (dotOf n k)
 normals-dot h l = at-most-dot h l
 
--- the dividend of a ratio fits, with room for its quotient
-pub scaled-dot : {d : ℤ} → AtMost maxDot d → AtMost maxScaledDot (pos (ratioScale * squareScale) *ℤ d)
-scaled-dot h = at-most-mul scale h
-  where
-    scale : AtMost (ratioScale * squareScale) (pos (ratioScale * squareScale))
-    scale = record { size = le-refl (ratioScale * squareScale) }
+-- what a ratio divides fits, with room for the quotient
+pub ratio-dividend-bound : {d : ℤ} → AtMost maxDot d → AtMost maxRatioDividend (pos dividendScale *ℤ d)
+ratio-dividend-bound h = at-most-mul (literal dividendScale .bound) h
 
-pub scaled-dot-divides : maxScaledDot ≤ maxDividend
-scaled-dot-divides = lit≤ tt
+pub ratio-dividend-fits : maxRatioDividend ≤ maxDividend
+ratio-dividend-fits = lit≤ tt
 
 -- ---- weights
 

@@ -6,7 +6,7 @@ use Rattle.geometry.specs.declared.Vector.{Vector}
 use Rattle.geometry.specs.declared.sphere.Lifted.{Lifted}
 use Rattle.geometry.specs.declared.sphere.Pencil.{Pencil}
 use Rattle.geometry.specs.declared.sphere.Sphere.{Sphere}
-use Rattle.geometry.specs.Faces.{squareScale, ratioScale}
+use Rattle.geometry.specs.Faces.{ratioScale, dividendScale}
 
 -- a coordinate of a difference of two grid points, from -1000 to 1000 each (rule 1.11)
 abbrev pub maxDifference : ℕ
@@ -28,9 +28,9 @@ maxDot = 3 * (maxNormal * maxNormal)
 abbrev pub maxLength : ℕ
 maxLength = 55425625
 
--- a dividend of a ratio (rule 2.10)
-abbrev pub maxScaledDot : ℕ
-maxScaledDot = ratioScale * squareScale * maxDot
+-- what a ratio divides (rule 2.10)
+abbrev pub maxRatioDividend : ℕ
+maxRatioDividend = dividendScale * maxDot
 
 -- a bend (rule 2.11)
 abbrev pub maxBend : ℕ

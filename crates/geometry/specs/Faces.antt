@@ -18,7 +18,7 @@ lengthScale = 4
 abbrev pub squareScale : ℕ
 squareScale = lengthScale * lengthScale
 
--- its length m: the whole part of lengthScale times the root of its square (rule 2.7)
+-- the length m of a normal: the whole part of lengthScale times the root of its square (rule 2.7)
 unfoldable pub lengthOf : Vector → ℕ
 lengthOf n = floorRoot (squareScale * natAbs (squareOf n))
 
@@ -26,13 +26,17 @@ lengthOf n = floorRoot (squareScale * natAbs (squareOf n))
 abbrev pub areaWeightOf : ℕ → ℕ → ℕ
 areaWeightOf factor m = factor * m
 
--- a ratio counts thousandths, and so does a bend (rules 2.10, 2.11)
+-- ratios and bends count thousandths (rules 2.10, 2.11)
 abbrev pub ratioScale : ℕ
 ratioScale = 1000
 
--- the ratio q of two normals, from their dot product d and their lengths (rule 2.10); a candidate's length is at least 1
+-- what their dot product is multiplied by, to be divided by two lengths (rule 2.10)
+abbrev pub dividendScale : ℕ
+dividendScale = ratioScale * squareScale
+
+-- the ratio q of two normals, from their dot product d and their lengths (rule 2.10); a candidate's length is above 0
 unfoldable pub ratioOf : ℤ → ℕ → ℕ → ℤ
-ratioOf d m k = clamped (negℤ (pos ratioScale)) (pos ratioScale) (floorDiv (pos (ratioScale * squareScale) *ℤ d) (m * k))
+ratioOf d m k = clamped (negℤ (pos ratioScale)) (pos ratioScale) (floorDiv (pos dividendScale *ℤ d) (m * k))
 
 -- the bend (rule 2.11)
 unfoldable pub bendOf : ℤ → ℕ → ℕ → ℕ

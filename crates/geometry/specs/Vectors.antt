@@ -15,9 +15,13 @@ dotOf u v = u .x *ℤ v .x +ℤ u .y *ℤ v .y +ℤ u .z *ℤ v .z
 abbrev pub crossOf : Vector → Vector → Vector
 crossOf u v = record { x = u .y *ℤ v .z -ℤ u .z *ℤ v .y; y = u .z *ℤ v .x -ℤ u .x *ℤ v .z; z = u .x *ℤ v .y -ℤ u .y *ℤ v .x }
 
--- the squared length (rule 2.7)
+-- the square of the Euclidean length (rule 2.7)
 abbrev pub squareOf : Vector → ℤ
 squareOf v = dotOf v v
+
+-- (rules 2.11, 2.17)
+abbrev pub zeroVector : Vector
+zeroVector = record { x = pos 0; y = pos 0; z = pos 0 }
 
 abbrev pub scaledBy : ℤ → Vector → Vector
 scaledBy k v = record { x = k *ℤ v .x; y = k *ℤ v .y; z = k *ℤ v .z }

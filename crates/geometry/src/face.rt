@@ -30,7 +30,7 @@ const RATIO_SCALE: i64 = 1000;
 
 const LEAST_RATIO: i64 = -RATIO_SCALE;
 
-const SCALED_RATIO: i64 = RATIO_SCALE * SQUARE_SCALE;
+const DIVIDEND_SCALE: i64 = RATIO_SCALE * SQUARE_SCALE;
 
 // The whole part of a normal's length in quarters: the scale goes under the root, before anything is cut off.
 pub fn normal_length(n: Vector) -> u32
@@ -53,7 +53,7 @@ pub fn bend(d: i64, m: u32, k: u32) -> u32
     requires { ⌜ (AtMost maxDot d) × (0 < m) × (m ≤ maxLength) × (0 < k) × (k ≤ maxLength) ⌝ }
     ensures { λ r. ⌜ r ≡ bendOf d m k ⌝ }
 {
-    let n = SCALED_RATIO * d;
+    let n = DIVIDEND_SCALE * d;
     let w = m as i64 * k as i64;
     let q = integers::clamp(integers::floor_div(n, w), LEAST_RATIO, RATIO_SCALE);
     (RATIO_SCALE - q) as u32

@@ -1,4 +1,4 @@
--- Tests of order and equality of integers: by the sign of the difference, and unchanged by a positive factor. Assumes nothing.
+-- Tests of order and equality of integers, and order as a fact: by the sign of the difference, and unchanged by a positive factor. Assumes nothing.
 use mathlib.Core.Path.{_≡_, refl, sym, _∙_, ap, subst}
 use mathlib.Core.List.{[], _∷_}
 use mathlib.Core.Bool.{Bool, true, false, not, cond}
@@ -112,18 +112,18 @@ equal-by-multiple k a b c e = equal-by-difference a b ∙ ap (λ (z : ℤ). equa
 
 -- ---- order as a fact
 
-pub not-less : {a b : ℤ} → a ≤ℤ b → ltZ b a ≡ false
+not-less : {a b : ℤ} → a ≤ℤ b → ltZ b a ≡ false
 not-less {a} {b} h = go (ltZ b a) refl
   where
     go : (t : Bool) → ltZ b a ≡ t → t ≡ false
     go true e = clashℤ (ltZ-yes (subst T (sym e) tt)) h
     go false e = refl
 
-pub at-most : {a b : ℤ} → ltZ b a ≡ false → a ≤ℤ b
-at-most e = ltZ-no (subst (λ (t : Bool). T (not t)) (sym e) tt)
+false-≤ℤ : {a b : ℤ} → ltZ b a ≡ false → a ≤ℤ b
+false-≤ℤ e = ltZ-no (subst (λ (t : Bool). T (not t)) (sym e) tt)
 
-pub at-most-trans : {a b c : ℤ} → a ≤ℤ b → b ≤ℤ c → a ≤ℤ c
-at-most-trans {a} {b} {c} h k = at-most (go (ltZ c a) refl)
+pub ≤ℤ-trans : {a b c : ℤ} → a ≤ℤ b → b ≤ℤ c → a ≤ℤ c
+≤ℤ-trans {a} {b} {c} h k = false-≤ℤ (go (ltZ c a) refl)
   where
     go : (t : Bool) → ltZ c a ≡ t → t ≡ false
     go true e = clashℤ (<ℤ-≤ℤ-trans (ltZ-yes (subst T (sym e) tt)) h) k
@@ -135,20 +135,21 @@ less-le (pos a) (negsuc b) h = absurd h
 less-le (negsuc a) (pos b) h = tt
 less-le (negsuc a) (negsuc b) h = let k = ltb→lt b a h in le→leb b a (omega arith)
 
-pub less-at-most : {a b : ℤ} → ltZ a b ≡ true → a ≤ℤ b
-less-at-most {a} {b} e = leZ-yes (less-le a b (subst T (sym e) tt))
+pub true-≤ℤ : {a b : ℤ} → ltZ a b ≡ true → a ≤ℤ b
+true-≤ℤ {a} {b} e = leZ-yes (less-le a b (subst T (sym e) tt))
 
 -- a positive factor, or the same summand, on both sides
-pub at-most-multiple : (a b : ℤ) (w : ℕ) → 0 < w → a ≤ℤ b → (a *ℤ pos w) ≤ℤ (b *ℤ pos w)
-at-most-multiple a b zero p h = absurd (omega arith)
-at-most-multiple a b (suc w) p h = at-most (less-by-multiple w (b *ℤ pos (suc w)) (a *ℤ pos (suc w)) (b -ℤ a) common ∙ sym (less-by-difference b a) ∙ not-less h)
+pub ≤ℤ-multiple : (a b : ℤ) (w : ℕ) → 0 < w → a ≤ℤ b → (a *ℤ pos w) ≤ℤ (b *ℤ pos w)
+≤ℤ-multiple a b zero p h = absurd (omega arith)
+≤ℤ-multiple a b (suc w) p h =
+    false-≤ℤ (less-by-multiple w (b *ℤ pos (suc w)) (a *ℤ pos (suc w)) (b -ℤ a) common ∙ sym (less-by-difference b a) ∙ not-less h)
   where
     common : b *ℤ pos (suc w) -ℤ a *ℤ pos (suc w) ≡ pos (suc w) *ℤ (b -ℤ a)
     common = ring (a ∷ b ∷ pos (suc w) ∷ []) (var 1 :* var 2 :- var 0 :* var 2) (var 2 :* (var 1 :- var 0)) tt
 
-pub at-most-plus : (a b c : ℤ) → a ≤ℤ b → (a +ℤ c) ≤ℤ (b +ℤ c)
-at-most-plus a b c h =
-    at-most (less-by-difference (b +ℤ c) (a +ℤ c) ∙ ap (λ (z : ℤ). ltZ z (pos 0)) same ∙ sym (less-by-difference b a) ∙ not-less h)
+pub ≤ℤ-plus : (a b c : ℤ) → a ≤ℤ b → (a +ℤ c) ≤ℤ (b +ℤ c)
+≤ℤ-plus a b c h =
+    false-≤ℤ (less-by-difference (b +ℤ c) (a +ℤ c) ∙ ap (λ (z : ℤ). ltZ z (pos 0)) same ∙ sym (less-by-difference b a) ∙ not-less h)
   where
     same : (b +ℤ c) -ℤ (a +ℤ c) ≡ b -ℤ a
     same = ring (a ∷ b ∷ c ∷ []) ((var 1 :+ var 2) :- (var 0 :+ var 2)) (var 1 :- var 0) tt

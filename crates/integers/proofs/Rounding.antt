@@ -118,24 +118,20 @@ floor-div-high (negsuc a) k h = subst (λ (z : ℤ). negsuc a <ℤ (z *ℤ pos k
 
 -- ---- the whole root
 
+-- a number whose square is within x is at most every b whose next square is above x
+pub root-at-most : {x : ℕ} (r b : ℕ) → r * r ≤ x → x < (b + 1) * (b + 1) → r ≤ b
+root-at-most {x} r b l h = go (decLe r b)
+  where
+    go : Dec (r ≤ b) → r ≤ b
+    go (yes k) = k
+    go (no k) =
+        let w : b + 1 ≤ r = omega arith in
+        let q = le-trans (mul-le-mul-right (b + 1) w) (mul-le-mul-left r w) in
+        absurd (omega arith)
+
 -- there is one whole root
 pub floor-root-unique : (x r s : ℕ) → IsFloorRoot x r → IsFloorRoot x s → r ≡ s
-floor-root-unique x r s p q = le-antisymm (no-more r s p q) (no-more s r q p)
-  where
-    square : {a b : ℕ} → a ≤ b → a * a ≤ b * b
-    square {a} {b} h = le-trans (mul-le-mul-right a h) (mul-le-mul-left b h)
-
-    no-more : (r s : ℕ) → IsFloorRoot x r → IsFloorRoot x s → r ≤ s
-    no-more r s p q = go (decLe r s)
-      where
-        go : Dec (r ≤ s) → r ≤ s
-        go (yes h) = h
-        go (no h) =
-            let k : s + 1 ≤ r = omega arith in
-            let w = square k in
-            let a = p .low in
-            let b = q .high in
-            absurd (omega arith)
+floor-root-unique x r s p q = le-antisymm (root-at-most r s (p .low) (q .high)) (root-at-most s r (q .low) (p .high))
 
 -- the digits from x / 4 to x
 double-low : (s y x : ℕ) → s * s ≤ y → 4 * y ≤ x → (2 * s) * (2 * s) ≤ x
@@ -166,29 +162,6 @@ floor-root-is x h = root-digits 32 x h
 
 pub is-floor-root : (x r : ℕ) → x < 2 ^ 64 → IsFloorRoot x r → r ≡ floorRoot x
 is-floor-root x r h p = floor-root-unique x r (floorRoot x) p (floor-root-is x h)
-
--- bounds of the whole root
-pub root-le : {x r : ℕ} (b : ℕ) → IsFloorRoot x r → x < (b + 1) * (b + 1) → r ≤ b
-root-le {x} {r} b i l = go (decLe r b)
-  where
-    go : Dec (r ≤ b) → r ≤ b
-    go (yes k) = k
-    go (no k) =
-        let w : b + 1 ≤ r = omega arith in
-        let q = le-trans (mul-le-mul-right (b + 1) w) (mul-le-mul-left r w) in
-        let s = i .low in
-        absurd (omega arith)
-
-pub le-root : {x r : ℕ} (b : ℕ) → IsFloorRoot x r → b * b ≤ x → b ≤ r
-le-root {x} {r} b i l = go (decLe b r)
-  where
-    go : Dec (b ≤ r) → b ≤ r
-    go (yes k) = k
-    go (no k) =
-        let w : r + 1 ≤ b = omega arith in
-        let q = le-trans (mul-le-mul-right (r + 1) w) (mul-le-mul-left b w) in
-        let s = i .high in
-        absurd (omega arith)
 
 -- ---- the clamp to -1000 to 1000, taken from 1000
 

@@ -5,7 +5,7 @@ use lib.Dec.{leb}
 use lib.IntN.{ℤ, pos, negsuc}
 use lib.Signed.{ltZ}
 
--- rule 2.7: r is the square root of x, cut down to a whole number
+-- r is the square root of x, cut down to a whole number; a length is that of 16 |n|² (rule 2.7)
 pub record IsFloorRoot (x r : ℕ) : Type 0 where
   pub low : r * r ≤ x
   pub high : x < (r + 1) * (r + 1)

@@ -1,6 +1,6 @@
 -- The lines of rim file P by its lists (rule 6.1). Assumes nothing.
 use mathlib.Core.Path.{_≡_, refl}
-use mathlib.Core.List.{List, [], _∷_}
+use mathlib.Core.List.{[], _∷_}
 use Prim.Native.Nat.{ℕ}
 use Rattle.terms.specs.Entries.{triple, hangs}
 use Rattle.patch_lines.specs.declared.Line.{Line}

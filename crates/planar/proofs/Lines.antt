@@ -10,15 +10,16 @@ use Rattle.geometry.specs.declared.Vector.{Vector}
 use Rattle.integers.specs.Order.{equal}
 use Rattle.integers.proofs.Order.{equal-is, equal-yes, no-divisor, true≢false}
 use Rattle.integers.proofs.Ring.{E, con, ring}
-use Rattle.geometry.specs.Vectors.{differenceOf, dotOf, crossOf, squareOf, scaledBy, minus}
+use Rattle.geometry.specs.Vectors.{differenceOf, dotOf, crossOf, squareOf, scaledBy, minus, zeroVector}
 use Rattle.geometry.specs.Faces.{normalOf}
 use Rattle.geometry.proofs.Terms.{VectorE, vec, dotE, crossE, scaledE, minusE, ofVectors, ofPoints}
 use Rattle.lists.specs.Lists.{some}
 use Rattle.lists.proofs.Choice.{Truth, holds, fails, truth, Compared, less, same, more, compared, fails-via, not-false-true}
 use Rattle.lists.proofs.Ranges.{some-found, some-none}
+use Rattle.geometry.proofs.Squares.{vanishes}
 use Rattle.planar.specs.Circles.{collinear}
-use Rattle.planar.specs.Planes.{OnOneLine, zeroVector}
-use Rattle.planar.proofs.Zero.{vanishes, vanished}
+use Rattle.planar.specs.Planes.{OnOneLine}
+use Rattle.planar.proofs.Zero.{vanished}
 
 -- every three of the first n points are on one line
 pub record ThreesOnLine (at : ℕ → GridPoint) (n : ℕ) : Type 0 where

@@ -18,9 +18,10 @@ use Rattle.geometry.proofs.Terms.{VectorE, vec, dotE, crossE, minusE, orientE, 
 use Rattle.lists.specs.Lists.{some}
 use Rattle.lists.proofs.Choice.{Truth, holds, fails, truth, Compared, less, same, more, compared, fails-via, not-false-true}
 use Rattle.lists.proofs.Ranges.{some-found, some-none, some-here}
+use Rattle.geometry.proofs.Squares.{vanishes}
 use Rattle.planar.specs.Circles.{collinear}
 use Rattle.planar.specs.Planes.{InOnePlane, OnOneLine}
-use Rattle.planar.proofs.Zero.{zero-square, vanishes}
+use Rattle.planar.proofs.Zero.{zero-square}
 use Rattle.planar.proofs.Seen.{on-plane}
 use Rattle.planar.proofs.OnePlane.{one-plane}
 use Rattle.planar.proofs.Lines.{threes-line, square-first, square-second}

@@ -5,10 +5,8 @@ use Prim.Native.Nat.{ℕ}
 use Rattle.rim_file.specs.File.{Bytes}
 use Rattle.rim_file.proofs.Layouts as layouts
 use Rattle.grid.proofs.Unique as unique
-use Rattle.geometry.proofs.Faces as triangles
 use Rattle.geometry.proofs.Lengths as lengths
-use Rattle.geometry.proofs.Measures as bends
-use Rattle.weights.proofs.Surfaces as surfaces
+use Rattle.geometry.proofs.Quarters as bends
 use Rattle.polygon.specs.declared.Polygon.{Polygon}
 use Rattle.reader.proofs.Demand1 as reader
 use Rattle.reader.proofs.Accepted as accepted
@@ -39,6 +37,7 @@ use Rattle.demands.proofs.Judging as judging
 use Rattle.demands.proofs.Limits as limits
 use Rattle.demands.proofs.OnePatch as one-patch
 use Rattle.demands.proofs.Polygons as polygons
+use Rattle.demands.proofs.Quarters as quarters
 use Rattle.demands.proofs.Sizes as sizes
 use Rattle.demands.proofs.Tables as tables
 use Rattle.demands.proofs.Turns as turns
@@ -192,15 +191,14 @@ in-plane = record {
 
 measures : Lengths
 measures = record {
-  of-triangles = triangles.normal-within;
-  of-surfaces = surfaces.outside-within;
-  one-length = lengths.has-one-length;
-  above-0 = lengths.not-zero-above-0;
+  one-length = λ n h. lengths.has-one-length n (quarters.within h);
+  above-0 = λ n h. lengths.length-is-above-0 (quarters.within h);
+  about-four-times = lengths.about-four-times;
   longer-is-more = lengths.longer-is-more;
-  one-bend = bends.has-one-bend;
-  equal = λ n h z. bends.equal-bend h z;
-  perpendicular = λ n k hn hk zn zk e. bends.perpendicular-bend hn zn hk zk e;
-  opposite = λ n h z. bends.opposite-bend h z;
+  one-bend = λ n k hn hk. bends.has-one-bend n k (quarters.within hn) (quarters.within hk);
+  equal = λ n h. bends.equal-bend (quarters.within h);
+  perpendicular = λ n k hn hk zn zk. bends.perpendicular-bend (quarters.within hn) zn (quarters.within hk) zk;
+  opposite = λ n h. bends.opposite-bend (quarters.within h);
 }
 
 judges : (job : Job) (list : List ℕ) (total : ℕ) (work : List ℕ) → Judging job list total work

@@ -8,8 +8,8 @@ use mathlib.Core.Path.{_≡_}
 use mathlib.Core.Logic.{_≢_}
 use mathlib.Core.Bool.{not, true, false}
 use mathlib.Core.List.{List}
-use Prim.Native.Nat.{ℕ, suc, _≤_, _<_}
-use lib.IntN.{ℤ, pos}
+use Prim.Native.Nat.{ℕ, suc, _+_, _*_, _≤_, _<_}
+use lib.IntN.{ℤ, pos, natAbs}
 use lib.Ieee.{Float}
 use lib.ListN.{length, take, replicate}
 use Rattle.codes.specs.Refusals.{refusal}
@@ -18,19 +18,15 @@ use Rattle.terms.specs.Entries.{triple}
 use Rattle.terms.specs.Order.{NoneDue}
 use Rattle.terms.specs.Order as order
 use Rattle.lists.specs.Lists.{filled}
+use Rattle.integers.specs.Rounding.{IsFloorRoot}
 use Rattle.grid.specs.Number.{finite, roundEighths, distance, HalfStep, EvenHalf}
 use Rattle.grid.specs.declared.GridPoint.{GridPoint}
-use Rattle.grid.specs.Point.{PointOnGrid}
 use Rattle.geometry.specs.declared.Vector.{Vector}
-use Rattle.geometry.specs.Vectors.{dotOf}
+use Rattle.geometry.specs.Vectors.{dotOf, squareOf, zeroVector}
 use Rattle.geometry.specs.Vectors as vectors
-use Rattle.geometry.specs.Bounds.{maxNormal, Within}
-use Rattle.geometry.specs.Faces.{normalOf}
-use Rattle.geometry.specs.Measures.{NotZero, IsLength, IsBendBetween, LongerByQuarter}
+use Rattle.geometry.specs.Quarters.{IsLength, IsBendBetween, LongerByQuarter}
 use Rattle.polygon.specs.declared.Polygon.{Polygon}
 use Rattle.polygon.specs.Polygon as polygon
-use Rattle.polygon.specs.declared.normal.Normal.{Normal}
-use Rattle.polygon.specs.Normal.{NormalInRange}
 use Rattle.polygon.specs.Normal as polygon-normals
 use Rattle.polygon.specs.Due.{PolygonBefore}
 use Rattle.polygon.specs.Due as polygon-due
@@ -46,7 +42,7 @@ use Rattle.reader.specs.Reading.{readingOf, refusedReading, statusNumber}
 use Rattle.planar.specs.Planes.{OnOneLine}
 use Rattle.planar.specs.Circles.{collinear}
 use Rattle.polygon.specs.Polygon.{vertex}
-use Rattle.weights.specs.Weights.{vectorOf, ownWeight}
+use Rattle.weights.specs.Weights.{ownWeight}
 use Rattle.finder.specs.declared.Found.the-variants as found
 use Rattle.finder.specs.declared.Places.{Places}
 use Rattle.finder.specs.declared.Sizes.the-variants as sizes
@@ -80,7 +76,7 @@ use Rattle.pipeline.specs.Sizes.{sizesFile}
 use Rattle.demands.specs.Candidates.{Face, Flat, CountsInPlane, Candidate, Cocircular}
 use Rattle.demands.specs.Demand1.{polygonIn, TooShort, CallDue}
 use Rattle.demands.specs.Demand2.{TablesHold}
-use Rattle.demands.specs.Quarters.{InQuarters}
+use Rattle.demands.specs.Quarters.{IsNormal, InQuarters}
 use Rattle.demands.specs.Demand3.{ListsLeft, QuartersLeft, jobLeft, problemLeft, answerIn, RightOfTables, HandedOfTables, RestOfTables}
 use Rattle.demands.specs.Finding.{FindFileDue}
 use Rattle.demands.specs.Polygons.{FindDue, PatchDue, SizesDue}
@@ -257,21 +253,22 @@ pub record FlatRims : Type 0 where
       collinear (vertex (polygonIn limit file) 0) (vertex (polygonIn limit file) 1) (vertex (polygonIn limit file) 2) ≡ false →
       patchFile limit file t .outcome ≡ Patch 1 (ownWeight (polygonIn limit file) (triple 0 1 2))
 
--- ---- lengths in quarters, of every normal: those of triangles on the grid and those outside are within maxNormal
+-- ---- lengths in quarters, of every normal of a triangle and of a surface outside
 pub record Lengths : Type 0 where
-  pub of-triangles : {a b c : GridPoint} → PointOnGrid a → PointOnGrid b → PointOnGrid c → Within maxNormal (normalOf a b c)
-  pub of-surfaces : {k : Normal} → NormalInRange k → Within maxNormal (vectorOf k)
-  -- m / 4 is at most the length, and less than a quarter below it; there is one such m, and it is at least 1 unless the normal is zero (rule 2.7)
-  pub one-length : (n : Vector) → Within maxNormal n → (m : ℕ) × IsLength n m × ((l : ℕ) → IsLength n l → l ≡ m)
-  pub above-0 : (n : Vector) → Within maxNormal n → NotZero n → (m : ℕ) → IsLength n m → 0 < m
-  -- of two normals whose lengths differ by a quarter or more the longer has the larger m (rule 2.7)
+  -- m / 4 is at most the Euclidean length, and less than a quarter below it; there is one such m, and it is above 0 unless the normal is zero (rule 2.7)
+  pub one-length : (n : Vector) → IsNormal n → (m : ℕ) × IsLength n m × ((l : ℕ) → IsLength n l → l ≡ m)
+  pub above-0 : (n : Vector) → IsNormal n → n ≢ zeroVector → (m : ℕ) → IsLength n m → 0 < m
+  -- so it is about four times the whole part r of the root (rule 2.7)
+  pub about-four-times : (n : Vector) (m r : ℕ) → IsLength n m → IsFloorRoot (natAbs (squareOf n)) r → (4 * r ≤ m) × (m < 4 * (r + 1))
+  -- of two normals whose Euclidean lengths differ by a quarter or more the longer has the larger m (rule 2.7)
   pub longer-is-more : (n k : Vector) → LongerByQuarter n k → (l m : ℕ) → IsLength n l → IsLength k m → l < m
-  -- two normals have one bend, from 0 to 2000: 0 where they are equal, 1000 where they are perpendicular, 2000 where they are opposite (rules 2.10, 2.11, 6.5)
-  pub one-bend : (n k : Vector) → Within maxNormal n → Within maxNormal k → NotZero n → NotZero k →
+  -- two normals that are not zero have one bend, from 0 to 2000 (rules 2.10, 2.11)
+  pub one-bend : (n k : Vector) → IsNormal n → IsNormal k → n ≢ zeroVector → k ≢ zeroVector →
       (b : ℕ) × (b ≤ 2000) × IsBendBetween n k b × ((c : ℕ) → IsBendBetween n k c → c ≡ b)
-  pub equal : (n : Vector) → Within maxNormal n → NotZero n → IsBendBetween n n 0
-  pub perpendicular : (n k : Vector) → Within maxNormal n → Within maxNormal k → NotZero n → NotZero k → dotOf n k ≡ pos 0 → IsBendBetween n k 1000
-  pub opposite : (n : Vector) → Within maxNormal n → NotZero n → IsBendBetween n (vectors.opposite n) 2000
+  -- 0 where they are equal, 1000 where they are perpendicular, 2000 where they are opposite (rules 2.11, 6.5)
+  pub equal : (n : Vector) → IsNormal n → n ≢ zeroVector → IsBendBetween n n 0
+  pub perpendicular : (n k : Vector) → IsNormal n → IsNormal k → n ≢ zeroVector → k ≢ zeroVector → dotOf n k ≡ pos 0 → IsBendBetween n k 1000
+  pub opposite : (n : Vector) → IsNormal n → n ≢ zeroVector → IsBendBetween n (vectors.opposite n) 2000
 
 -- ---- judging patches from elsewhere
 pub record Judging (job : Job) (list : List ℕ) (total : ℕ) (work : List ℕ) : Type 0 where
@@ -359,7 +356,8 @@ pub record Promises : Type 0 where
 -- what a file says: rim_file/File `areaFactor`, `bendFactor`, reader/Chain `link`, reader/Due `HasRecords`, `HasVertex`, `HasNormal`, `ChainAtMost`,
 --   reader/Rounded `Rounded`, grid/Number `HalfStep`, `EvenHalf`, rim_file/Layouts `Edition1`, `Edition2`, rim_file/Editions `SameRim`
 -- candidates, weights and rows: demands/Candidates `Candidate`, `Flat`, `Cocircular`, demands/Demand2 `TablesHold`, demands/Demand3 `ListsLeft`,
---   `RightOfTables`, `HandedOfTables`, `RestOfTables`, demands/Quarters `InQuarters`, geometry/Measures `IsLength`, `IsBend`, `LongerByQuarter`, planar/Planes `OnOneLine`, planar/Circles `collinear`, weights/Weights `ownWeight`
+--   `QuartersLeft`, `RightOfTables`, `HandedOfTables`, `RestOfTables`, demands/Quarters `InQuarters`, `IsNormal`, geometry/Quarters `IsLength`,
+--   `IsBendBetween`, `LongerByQuarter`, integers/Rounding `IsFloorRoot`, planar/Planes `OnOneLine`, planar/Circles `collinear`, weights/Weights `ownWeight`
 -- tilings and answers: jobs/Job `Job`, triangulation/Triangulations `Problem`, `totalWeight`, `preorder`, Problems `problemOf`, Tiling `Tiling`, Demand3
 --   `Demand3`, `HandedBack`, triangulator/Demands `Taken`, `Handed`, `RestLeft`, preorder/Preorder `TurnByTurn`, judge/Demands `IsTiling`, `Acceptable`,
 --   `SameNumbers`, `Excess`

@@ -1,4 +1,4 @@
 pub mod Surfaces
 pub mod Edges
 pub mod RimEdges
-pub mod Measures
+pub mod Quarters

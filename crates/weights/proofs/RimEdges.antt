@@ -210,10 +210,10 @@ module _ (p : Polygon) (t : List ℕ) (ab : vertexA t < vertexB t) (bc : vertexB
       λ x y. outside-bound (p .«bend_factor») (faceNormal p t) (outsideNormal x y) (v .bend-factor) in
       omega (arith, own-weight-along-the-rim, area, bend a b, bend b c, bend a c)
 
-  -- in numbers
-  own-weight-largest : maxOwnWeight ≡ 1280020000
-  own-weight-largest = refl
-
   -- no own weight is above what a direct job may have
   pub own-weight-bound : ValidPolygon p → ownWeight p t ≤ maxWeight
   own-weight-bound v = le-trans (own-weight-most v) (lit≤ tt)
+
+-- in numbers
+pub own-weight-largest : maxOwnWeight ≡ 1280020000
+own-weight-largest = refl

@@ -32,7 +32,7 @@ at-most g = record { size = le-trans (g .size) (lit≤ tt) }
 pub outside-within : {k : Normal} → NormalInRange k → Within maxNormal (vectorOf k)
 outside-within r = record { in-x = at-most (r .x); in-y = at-most (r .y); in-z = at-most (r .z) }
 
--- a surface has a normal of length 1 or more
+-- the normal of a surface is longer than 0
 pub outside-above-0 : (k : Normal) → NormalInRange k → isNone k ≡ false → 0 < lengthOf (vectorOf k)
 outside-above-0 k r h = length-above-0 (outside-within r) (λ e. true-not-false (none e) h)
   where

@@ -44,7 +44,7 @@ abbrev pub ownWeightOf : ℕ → ℕ → Vector → EdgeNormals → ℕ
 ownWeightOf area bend normal e =
     areaWeightOf area (lengthOf normal) + outsideWeightOf bend normal (e .ab) + outsideWeightOf bend normal (e .bc) + outsideWeightOf bend normal (e .ac)
 
--- no own weight is larger: the longest normal at the largest area factor, and a bend at each of three edges (rule 4.17)
+-- no own weight is larger: the longest normal at the largest area factor, and a bend at each of three edges (rules 2.8, 2.15)
 abbrev pub maxOwnWeight : ℕ
 maxOwnWeight = maxAreaFactor * maxLength + 3 * (maxBendFactor * maxBend)
 

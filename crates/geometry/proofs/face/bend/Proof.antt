@@ -1,5 +1,5 @@
 -- `geometry::face::bend` meets its contract.
-use mathlib.Core.Path.{_≡_, refl, sym, _∙_, ap, subst}
+use mathlib.Core.Path.{_≡_, sym, _∙_, ap, subst}
 use Prim.Native.Nat.{ℕ, _*_, _≤_}
 use native.Mathlib.Nat.{lt-of-le-of-lt}
 use lib.Dec.{T, lit<, lt→ltb}
@@ -10,7 +10,7 @@ use mir.ValLaws.{toZ-ofZ}
 use Rattle.integers.specs.Bounds.{AtMost}
 use Rattle.integers.specs.Rounding.{floorDiv, clamped}
 use Rattle.geometry.specs.Bounds.{maxDot, maxLength, maxBend}
-use Rattle.geometry.specs.Faces.{squareScale, ratioScale, ratioOf, bendOf}
+use Rattle.geometry.specs.Faces.{dividendScale, ratioOf, bendOf}
 use Rattle.integers.proofs.Rounding.{product-above-0}
 use Rattle.integers.proofs.Bounds.{Holds, bits, literal, given, stored, fits, signed-fits, at-most-held, at-most-le, _*!_}
 use Rattle.geometry.proofs.Bends.{bend-is, bend-bound}
@@ -56,7 +56,7 @@ ratio! c =
     let q = c .before .floor-div in
     c .clamp .ensures
     ∙ ap (clamped (negsuc 999) (pos 1000)) (toZ-ofZ w64 (q .result) (record { sfits = q .ok }) ∙ q .ensures
-    ∙ (λ i. floorDiv (stored tt (dividend s (ratioScale * squareScale)) .value i) (natAbs (stored tt (divisor s) .value i))))
+    ∙ (λ i. floorDiv (stored tt (dividend s dividendScale) .value i) (natAbs (stored tt (divisor s) .value i))))
 
 bend! : (c : tie.After-clamp) → Holds maxBend (pos (bendOf (c .before .before .args .d) (c .before .before .args .m) (c .before .before .args .k)))
     (pos 1000 -ℤ bits (c .clamp .result))

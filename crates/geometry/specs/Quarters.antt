@@ -2,17 +2,12 @@
 use Prim.Native.Nat.{ℕ, _+_, _*_, _≤_, _<_}
 use lib.IntN.{ℤ, pos, natAbs, _-ℤ_, _*ℤ_}
 use lib.Signed.{_≤ℤ_, _<ℤ_}
-use mathlib.Core.Path.{_≡_}
 use Rattle.geometry.specs.declared.Vector.{Vector}
 use Rattle.integers.specs.Rounding.{IsFloorRoot}
 use Rattle.geometry.specs.Vectors.{dotOf, squareOf}
-use Rattle.geometry.specs.Faces.{lengthScale, squareScale, ratioScale}
+use Rattle.geometry.specs.Faces.{lengthScale, squareScale, ratioScale, dividendScale}
 
--- the vector is not zero (rule 2.7)
-abbrev pub NotZero : Vector → Type 0
-NotZero n = (n .x ≡ pos 0) × (n .y ≡ pos 0) × (n .z ≡ pos 0) → ⊥
-
--- m is the whole part of four times the length of n (rule 2.7): m quarters are at most the length, and m + 1 are more
+-- m is the length of n, the whole part of four times its Euclidean length (rule 2.7): m quarters are at most that, and m + 1 are more
 abbrev pub IsLength : Vector → ℕ → Type 0
 IsLength n m = IsFloorRoot (squareScale * natAbs (squareOf n)) m
 
@@ -20,10 +15,10 @@ IsLength n m = IsFloorRoot (squareScale * natAbs (squareOf n)) m
 -- that is above 1000, when b is 0, or below -1000, when b is 2000
 pub record IsBend (d : ℤ) (m k b : ℕ) : Type 0 where
   pub most : b ≤ 2 * ratioScale
-  pub low : b < 2 * ratioScale → ((pos ratioScale -ℤ pos b) *ℤ pos (m * k)) ≤ℤ (pos (ratioScale * squareScale) *ℤ d)
-  pub high : 0 < b → (pos (ratioScale * squareScale) *ℤ d) <ℤ ((pos (ratioScale + 1) -ℤ pos b) *ℤ pos (m * k))
+  pub low : b < 2 * ratioScale → ((pos ratioScale -ℤ pos b) *ℤ pos (m * k)) ≤ℤ (pos dividendScale *ℤ d)
+  pub high : 0 < b → (pos dividendScale *ℤ d) <ℤ ((pos (ratioScale + 1) -ℤ pos b) *ℤ pos (m * k))
 
--- b is the bend between two triangles with these normals, both of them longer than 0 (rules 2.7, 2.10, 2.11)
+-- b is the bend of these normals, whose lengths are above 0 (rules 2.7, 2.10, 2.11)
 pub record IsBendBetween (n k : Vector) (b : ℕ) : Type 0 where
   pub m : ℕ
   pub l : ℕ
@@ -33,7 +28,8 @@ pub record IsBendBetween (n k : Vector) (b : ℕ) : Type 0 where
   pub l-above-0 : 0 < l
   pub is : IsBend (dotOf n k) m l b
 
--- k is longer than n by a quarter or more (rule 2.7): each fraction s / t that is at most the length of n is, with a quarter added, at most that of k
+-- the Euclidean length of k is above that of n by a quarter or more (rule 2.7): each fraction s / t that is at most that of n is, with a quarter added, at
+-- most that of k
 abbrev pub LongerByQuarter : Vector → Vector → Type 0
 LongerByQuarter n k = (s t : ℕ) → 0 < t → s * s ≤ natAbs (squareOf n) * (t * t) →
     (lengthScale * s + t) * (lengthScale * s + t) ≤ squareScale * natAbs (squareOf k) * (t * t)

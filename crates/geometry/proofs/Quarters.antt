@@ -12,20 +12,19 @@ use Rattle.integers.specs.Bounds.{AtMost}
 use Rattle.integers.specs.Rounding.{floorDiv}
 use Rattle.integers.proofs.Bounds.{at-most-sub}
 use Rattle.integers.proofs.Ring.{var, con, _:+_, _:-_, ring}
-use Rattle.integers.proofs.Order.{less-at-most, at-most-trans, at-most-multiple, at-most-plus}
+use Rattle.integers.proofs.Order.{true-≤ℤ, ≤ℤ-trans, ≤ℤ-multiple, ≤ℤ-plus}
 use Rattle.integers.proofs.Rounding.{floor-div-low, floor-div-high, product-above-0}
 use Rattle.geometry.specs.declared.Vector.{Vector}
-use Rattle.geometry.specs.Vectors.{dotOf, opposite}
+use Rattle.geometry.specs.Vectors.{dotOf, zeroVector, opposite}
 use Rattle.geometry.specs.Bounds.{maxNormal, Within}
-use Rattle.geometry.specs.Faces.{squareScale, ratioScale, lengthOf, ratioOf, bendOf, bendBetween}
-use Rattle.geometry.specs.Measures.{NotZero, IsBend, IsBendBetween}
-use Rattle.geometry.proofs.Squares.{not-zero}
-use Rattle.geometry.proofs.Lengths.{length-is, one-length, length-above-0, same-length}
+use Rattle.geometry.specs.Faces.{ratioScale, dividendScale, lengthOf, ratioOf, bendOf, bendBetween}
+use Rattle.geometry.specs.Quarters.{IsBend, IsBendBetween}
+use Rattle.geometry.proofs.Lengths.{length-is, length-unique, not-zero-above-0, length-by-square}
 use Rattle.geometry.proofs.Bends.{bend-is, bend-bound, equal-normals, perpendicular-normals, opposite-square, opposite-normals}
 
 module _ (d : ℤ) (m k : ℕ) (above : 0 < m * k) where
   abbrev dividend : ℤ
-  dividend = pos (ratioScale * squareScale) *ℤ d
+  dividend = pos dividendScale *ℤ d
 
   abbrev quotient : ℤ
   quotient = floorDiv dividend (m * k)
@@ -36,7 +35,7 @@ module _ (d : ℤ) (m k : ℕ) (above : 0 < m * k) where
   ratio-low = held (ltZ quotient (negsuc 999))
     where
       high : (t : Bool) → ltZ (pos 1000) quotient ≡ t → (cond t (pos 1000) quotient *ℤ pos (m * k)) ≤ℤ dividend
-      high true e = at-most-trans (at-most-multiple (pos 1000) quotient (m * k) above (less-at-most e)) (floor-div-low dividend (m * k) above)
+      high true e = ≤ℤ-trans (≤ℤ-multiple (pos 1000) quotient (m * k) above (true-≤ℤ e)) (floor-div-low dividend (m * k) above)
       high false e = floor-div-low dividend (m * k) above
 
       held : (t : Bool) → (cond t (negsuc 999) (cond (ltZ (pos 1000) quotient) (pos 1000) quotient) ≡ negsuc 999 → ⊥) →
@@ -57,7 +56,7 @@ module _ (d : ℤ) (m k : ℕ) (above : 0 < m * k) where
           dividend <ℤ ((cond t (negsuc 999) (cond (ltZ (pos 1000) quotient) (pos 1000) quotient) +ℤ pos 1) *ℤ pos (m * k))
       low true e h =
           <ℤ-≤ℤ-trans (floor-div-high dividend (m * k) above)
-          (at-most-multiple (quotient +ℤ pos 1) (negsuc 998) (m * k) above (at-most-plus quotient (negsuc 999) (pos 1) (less-at-most e)))
+          (≤ℤ-multiple (quotient +ℤ pos 1) (negsuc 998) (m * k) above (≤ℤ-plus quotient (negsuc 999) (pos 1) (true-≤ℤ e)))
       low false e h = held (ltZ (pos 1000) quotient) h
 
   -- the ratio by the bend
@@ -85,8 +84,8 @@ module _ (d : ℤ) (m k : ℕ) (above : 0 < m * k) where
       below e h = omega arith
 
   -- and it is the only such number: of two, the smaller would have its ratio above the other's
-  pub one-bend : (b : ℕ) → IsBend d m k b → b ≡ bendOf d m k
-  one-bend b h = le-antisymm (no-more b (bendOf d m k) h bend-meets) (no-more (bendOf d m k) b bend-meets h)
+  pub bend-unique : (b : ℕ) → IsBend d m k b → b ≡ bendOf d m k
+  bend-unique b h = le-antisymm (no-more b (bendOf d m k) h bend-meets) (no-more (bendOf d m k) b bend-meets h)
     where
       less : (b c e : ℕ) → b ≡ c + 1 + e → (pos (ratioScale + 1) -ℤ pos b) ≤ℤ (pos ratioScale -ℤ pos c)
       less b c e h =
@@ -94,7 +93,7 @@ module _ (d : ℤ) (m k : ℕ) (above : 0 < m * k) where
           (ring (pos c ∷ pos e ∷ []) ((con (pos 0) :- var 1) :+ (con (pos 1000) :- var 0)) (con (pos 1001) :- (var 0 :+ con (pos 1) :+ var 1)) tt
           ∙ ap (λ (x : ℕ). pos (ratioScale + 1) -ℤ pos x) (sym h))
           (subst (λ (z : ℤ). ((pos 0 -ℤ pos e) +ℤ (pos ratioScale -ℤ pos c)) ≤ℤ z) (+ℤ-idl (pos ratioScale -ℤ pos c))
-          (at-most-plus (pos 0 -ℤ pos e) (pos 0) (pos ratioScale -ℤ pos c) negative))
+          (≤ℤ-plus (pos 0 -ℤ pos e) (pos 0) (pos ratioScale -ℤ pos c) negative))
         where
           not-positive : (e : ℕ) → negℤ (pos e) ≤ℤ pos 0
           not-positive zero = leZ-yes tt
@@ -111,8 +110,8 @@ module _ (d : ℤ) (m k : ℕ) (above : 0 < m * k) where
           go (no h) =
               let most = i .most in
               clashℤ (i .high (omega arith))
-              (at-most-trans
-              (at-most-multiple (pos (ratioScale + 1) -ℤ pos b) (pos ratioScale -ℤ pos c) (m * k) above (less b c (b - suc c) (omega arith)))
+              (≤ℤ-trans
+              (≤ℤ-multiple (pos (ratioScale + 1) -ℤ pos b) (pos ratioScale -ℤ pos c) (m * k) above (less b c (b - suc c) (omega arith)))
               (j .low (omega arith)))
 
 -- ---- the bend between two triangles, by their normals
@@ -128,38 +127,42 @@ module _ {n k : Vector} (hn : Within maxNormal n) (hk : Within maxNormal k) wher
     is = bend-meets (dotOf n k) (lengthOf n) (lengthOf k) (product-above-0 (lengthOf n) (lengthOf k) pn pk);
   }
 
-  pub one-bend-between : (b : ℕ) → IsBendBetween n k b → b ≡ bendBetween n k
-  one-bend-between b h =
-      one-bend (dotOf n k) (h .m) (h .l) (product-above-0 (h .m) (h .l) (h .m-above-0) (h .l-above-0)) b (h .is)
-      ∙ (λ i. bendOf (dotOf n k) (one-length hn (h .m) (h .m-is) i) (one-length hk (h .l) (h .l-is) i))
+  bend-between-unique : (b : ℕ) → IsBendBetween n k b → b ≡ bendBetween n k
+  bend-between-unique b h =
+      bend-unique (dotOf n k) (h .m) (h .l) (product-above-0 (h .m) (h .l) (h .m-above-0) (h .l-above-0)) b (h .is)
+      ∙ (λ i. bendOf (dotOf n k) (length-unique hn (h .m) (h .m-is) i) (length-unique hk (h .l) (h .l-is) i))
 
 -- two normals that are not zero have one bend, from 0 to 2000
-pub has-one-bend : (n k : Vector) → Within maxNormal n → Within maxNormal k → NotZero n → NotZero k →
+pub has-one-bend : (n k : Vector) → Within maxNormal n → Within maxNormal k → (n ≡ zeroVector → ⊥) → (k ≡ zeroVector → ⊥) →
     (b : ℕ) × (b ≤ 2000) × IsBendBetween n k b × ((c : ℕ) → IsBendBetween n k c → c ≡ b)
-has-one-bend n k hn hk zn zk =
-    (bendBetween n k, bend-bound (dotOf n k) (lengthOf n) (lengthOf k),
-    bend-between hn hk (length-above-0 hn (not-zero zn)) (length-above-0 hk (not-zero zk)), one-bend-between hn hk)
+has-one-bend n k hn hk zn zk = (
+  bendBetween n k,
+  bend-bound (dotOf n k) (lengthOf n) (lengthOf k),
+  bend-between hn hk (not-zero-above-0 hn zn) (not-zero-above-0 hk zk),
+  bend-between-unique hn hk,
+)
 
 -- equal, perpendicular and opposite normals that are not zero (rule 6.5)
-module _ {n : Vector} (hn : Within maxNormal n) (zn : NotZero n) where
+module _ {n : Vector} (hn : Within maxNormal n) (zn : n ≡ zeroVector → ⊥) where
   pub equal-bend : IsBendBetween n n 0
-  equal-bend = subst (λ (b : ℕ). IsBendBetween n n b) (equal-normals hn zn) (bend-between hn hn (length-above-0 hn (not-zero zn)) (length-above-0 hn (not-zero zn)))
+  equal-bend =
+      subst (λ (b : ℕ). IsBendBetween n n b) (equal-normals hn zn) (bend-between hn hn (not-zero-above-0 hn zn) (not-zero-above-0 hn zn))
 
-  pub perpendicular-bend : {k : Vector} → Within maxNormal k → NotZero k → dotOf n k ≡ pos 0 → IsBendBetween n k 1000
+  pub perpendicular-bend : {k : Vector} → Within maxNormal k → (k ≡ zeroVector → ⊥) → dotOf n k ≡ pos 0 → IsBendBetween n k 1000
   perpendicular-bend {k} hk zk e =
       subst (λ (b : ℕ). IsBendBetween n k b) (perpendicular-normals n k e)
-      (bend-between hn hk (length-above-0 hn (not-zero zn)) (length-above-0 hk (not-zero zk)))
+      (bend-between hn hk (not-zero-above-0 hn zn) (not-zero-above-0 hk zk))
 
   pub opposite-bend : IsBendBetween n (opposite n) 2000
   opposite-bend =
       subst (λ (b : ℕ). IsBendBetween n (opposite n) b) (opposite-normals n hn zn)
-      (bend-between hn turned above (subst (λ (m : ℕ). 0 < m) (sym (same-length (opposite n) n (opposite-square n))) above))
+      (bend-between hn within above (subst (λ (m : ℕ). 0 < m) (sym (length-by-square (opposite n) n (opposite-square n))) above))
     where
       above : 0 < lengthOf n
-      above = length-above-0 hn (not-zero zn)
+      above = not-zero-above-0 hn zn
 
-      turned : Within maxNormal (opposite n)
-      turned = record { in-x = at-most-sub zero (hn .in-x); in-y = at-most-sub zero (hn .in-y); in-z = at-most-sub zero (hn .in-z) }
+      within : Within maxNormal (opposite n)
+      within = record { in-x = at-most-sub nought (hn .in-x); in-y = at-most-sub nought (hn .in-y); in-z = at-most-sub nought (hn .in-z) }
         where
-          zero : AtMost 0 (pos 0)
-          zero = record { size = le-refl 0 }
+          nought : AtMost 0 (pos 0)
+          nought = record { size = le-refl 0 }
