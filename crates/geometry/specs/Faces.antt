@@ -10,11 +10,11 @@ use Rattle.geometry.specs.Vectors.{differenceOf, dotOf, crossOf, squareO
 abbrev pub normalOf : GridPoint → GridPoint → GridPoint → Vector
 normalOf a b c = crossOf (differenceOf b a) (differenceOf c a)
 
--- a length counts quarters: so many to the unit (rule 2.7)
+-- lengths count quarters: so many to the unit (rule 2.7)
 abbrev pub lengthScale : ℕ
 lengthScale = 4
 
--- the square of a length, and the product of two, then has so many to the unit (rules 2.7, 2.10)
+-- so squares of lengths, and products of two, count sixteenths (rules 2.7, 2.10)
 abbrev pub squareScale : ℕ
 squareScale = lengthScale * lengthScale
 
@@ -30,7 +30,7 @@ areaWeightOf factor m = factor * m
 abbrev pub ratioScale : ℕ
 ratioScale = 1000
 
--- what their dot product is multiplied by, to be divided by two lengths (rule 2.10)
+-- what the dot product of two normals is multiplied by, to be divided by their lengths (rule 2.10)
 abbrev pub dividendScale : ℕ
 dividendScale = ratioScale * squareScale
 
@@ -42,7 +42,7 @@ ratioOf d m k = clamped (negℤ (pos ratioScale)) (pos ratioScale) (floorDiv (po
 unfoldable pub bendOf : ℤ → ℕ → ℕ → ℕ
 bendOf d m k = natAbs (pos ratioScale -ℤ ratioOf d m k)
 
--- the bend between two triangles, by their normals (rule 2.11)
+-- the bend between two normals (rule 2.11)
 abbrev pub bendBetween : Vector → Vector → ℕ
 bendBetween n k = bendOf (dotOf n k) (lengthOf n) (lengthOf k)
 

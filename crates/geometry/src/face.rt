@@ -12,6 +12,19 @@ ghost use Rattle.integers.specs.Bounds.{AtMost};
 ghost use Rattle.geometry.specs.Bounds.{maxNormal, maxDot, maxLength, maxBend, Within};
 ghost use Rattle.geometry.specs.Faces.{normalOf, lengthOf, areaWeightOf, bendOf, bendWeightOf};
 
+// Lengths count quarters, so many to the unit (rule 2.7), and so squares of lengths count sixteenths.
+const LENGTH_SCALE: i64 = 4;
+
+const SQUARE_SCALE: i64 = LENGTH_SCALE * LENGTH_SCALE;
+
+// Ratios and bends count thousandths (rules 2.10, 2.11).
+const RATIO_SCALE: i64 = 1000;
+
+const LEAST_RATIO: i64 = -RATIO_SCALE;
+
+// What a dot product is multiplied by, to be divided by two lengths (rule 2.10).
+const DIVIDEND_SCALE: i64 = RATIO_SCALE * SQUARE_SCALE;
+
 pub fn normal(a: GridPoint, b: GridPoint, c: GridPoint) -> Vector
     requires { ⌜ (PointOnGrid a) × (PointOnGrid b) × (PointOnGrid c) ⌝ }
     ensures { λ r. ⌜ r ≡ normalOf a b c ⌝ }
@@ -21,18 +34,7 @@ pub fn normal(a: GridPoint, b: GridPoint, c: GridPoint) -> Vector
     cross(u, v)
 }
 
-// Lengths count quarters, and ratios and bends thousandths (rules 2.7, 2.10): so many to the unit.
-const LENGTH_SCALE: i64 = 4;
-
-const SQUARE_SCALE: i64 = LENGTH_SCALE * LENGTH_SCALE;
-
-const RATIO_SCALE: i64 = 1000;
-
-const LEAST_RATIO: i64 = -RATIO_SCALE;
-
-const DIVIDEND_SCALE: i64 = RATIO_SCALE * SQUARE_SCALE;
-
-// The whole part of a normal's length in quarters: the scale goes under the root, before anything is cut off.
+// The length in quarters: their scale goes under the root, before anything is cut off.
 pub fn normal_length(n: Vector) -> u32
     requires { ⌜ Within maxNormal n ⌝ }
     ensures { λ r. ⌜ r ≡ lengthOf n ⌝ }
@@ -48,7 +50,7 @@ pub fn area_weight(factor: u32, length: u32) -> u32
     factor * length
 }
 
-// The bend between two triangles: d is the dot product of their normals, m and k are the lengths of these.
+// The bend of two normals: d is their dot product, m and k are their lengths.
 pub fn bend(d: i64, m: u32, k: u32) -> u32
     requires { ⌜ (AtMost maxDot d) × (0 < m) × (m ≤ maxLength) × (0 < k) × (k ≤ maxLength) ⌝ }
     ensures { λ r. ⌜ r ≡ bendOf d m k ⌝ }
