@@ -1,14 +1,12 @@
 -- The length of a normal is the whole part of four times its Euclidean length, so it is less than a quarter below that. Assumes nothing.
 use mathlib.Core.Path.{_≡_, refl, sym, _∙_, ap, subst}
-use Prim.Native.Nat.{ℕ, zero, suc, _+_, _*_, _^_, _≤_, _<_}
+use Prim.Native.Nat.{ℕ, zero, suc, _+_, _*_, _≤_, _<_}
 use native.Mathlib.Nat.{lt-of-le-of-lt, mul-le-mul-right}
-use native.Mathlib.Decide.{decLt}
 use native.Mathlib.Omega.{arith}
 use lib.Dec.{lit<}
 use lib.IntN.{ℤ, pos, natAbs}
 use Rattle.geometry.specs.declared.Vector.{Vector}
 use Rattle.integers.specs.Rounding.{IsFloorRoot, floorRoot}
-use Rattle.integers.proofs.Bounds.{mul-le}
 use Rattle.integers.proofs.Rounding.{floor-root-is, floor-root-unique, root-at-most}
 use Rattle.geometry.specs.Vectors.{squareOf, zeroVector}
 use Rattle.geometry.specs.Bounds.{maxNormal, maxLength, Within}
@@ -58,21 +56,17 @@ has-one-length n h = (lengthOf n, length-is h, length-unique h)
 pub about-four-times : (n : Vector) (m r : ℕ) → IsLength n m → IsFloorRoot (natAbs (squareOf n)) r → (lengthScale * r ≤ m) × (m < lengthScale * (r + 1))
 about-four-times n m r i j = (
   root-at-most (lengthScale * r) m (fourfold (natAbs (squareOf n)) (j .low)) (i .high),
-  less (natAbs (squareOf n)) (j .high) (i .low),
+  next (root-at-most m (lengthScale * r + 3) (i .low) (square (natAbs (squareOf n)) (j .high))),
 )
   where
     fourfold : (x : ℕ) → r * r ≤ x → lengthScale * r * (lengthScale * r) ≤ squareScale * x
     fourfold x l = omega arith
 
-    less : (x : ℕ) → x < (r + 1) * (r + 1) → m * m ≤ squareScale * x → m < lengthScale * (r + 1)
-    less x l h = go (decLt m (lengthScale * (r + 1)))
-      where
-        go : Dec (m < lengthScale * (r + 1)) → m < lengthScale * (r + 1)
-        go (yes k) = k
-        go (no k) =
-            let w : lengthScale * (r + 1) ≤ m = omega arith in
-            let q = mul-le w w in
-            absurd (omega arith)
+    square : (x : ℕ) → x < (r + 1) * (r + 1) → squareScale * x < (lengthScale * r + 3 + 1) * (lengthScale * r + 3 + 1)
+    square x l = omega arith
+
+    next : m ≤ lengthScale * r + 3 → m < lengthScale * (r + 1)
+    next l = omega arith
 
 pub length-by-square : (n k : Vector) → squareOf n ≡ squareOf k → lengthOf n ≡ lengthOf k
 unfolding lengthOf

@@ -114,7 +114,7 @@ module _ (d : ℤ) (m k : ℕ) (above : 0 < m * k) where
               (≤ℤ-multiple (pos (ratioScale + 1) -ℤ pos b) (pos ratioScale -ℤ pos c) (m * k) above (less b c (b - suc c) (omega arith)))
               (j .low (omega arith)))
 
--- ---- the bend between two triangles, by their normals
+-- ---- the bend between two normals
 module _ {n k : Vector} (hn : Within maxNormal n) (hk : Within maxNormal k) where
   pub bend-between : 0 < lengthOf n → 0 < lengthOf k → IsBendBetween n k (bendBetween n k)
   bend-between pn pk = record {

@@ -43,8 +43,10 @@ use Rattle.demands.proofs.Tables as tables
 use Rattle.demands.proofs.Turns as turns
 use Rattle.patch_program.specs.Printing.{printoutOf}
 use Rattle.patch_program.proofs.Demands as lines
-use Rattle.promises.specs.Promises.{ReaderCall, Finds, TellsSizes, Closes, TellsFileSizes, DirectJob, Editions, ConverterCall}
-use Rattle.promises.specs.Promises.{HalfSteps, Limits, Turns, FlatRims, Lengths, Judging, Printing, Promises}
+use Rattle.promises.specs.Files.{ReaderCall, Editions, ConverterCall, HalfSteps, Limits}
+use Rattle.promises.specs.Rims.{Finds, TellsSizes, Closes, TellsFileSizes, FlatRims, Lengths, Printing}
+use Rattle.promises.specs.Jobs.{DirectJob, Turns, Judging}
+use Rattle.promises.specs.Promises.{Promises}
 
 reads : (limit : ℕ) (file : List ℕ) → ReaderCall limit file
 reads limit file = record {

@@ -1,1 +1,4 @@
+pub mod Files
+pub mod Rims
+pub mod Jobs
 pub mod Promises
