@@ -1,4 +1,5 @@
--- What is promised of rim files: the reader's call, editions and the converter's call, the half step, limits. A part of the page (Promises.antt). Definitions only.
+-- What is promised of rim files: the reader's call, editions and the converter's call, the half step, limits. A part of the page (Promises.antt).
+-- Definitions only.
 use mathlib.Core.Path.{_≡_}
 use mathlib.Core.Bool.{not, true, false}
 use mathlib.Core.List.{List}
