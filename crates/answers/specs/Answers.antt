@@ -9,6 +9,8 @@ use Rattle.finder.specs.Sizes.{placesIn}
 use Rattle.finder.specs.Sizes as sizes
 use Rattle.triangulator.specs.declared.Outcome.{Outcome}
 use Rattle.triangulator.specs.Call.{numberOf, trianglesOf, totalOf}
+use Rattle.pricing.specs.declared.Quote.{Quote}
+use Rattle.pricing.specs.Quote as quote
 use Rattle.judge.specs.declared.Judgement.{Judgement}
 use Rattle.judge.specs.Call.{excessOf}
 use Rattle.judge.specs.Call as judge
@@ -16,6 +18,7 @@ use Rattle.converter.specs.declared.Conversion.{Conversion}
 use Rattle.converter.specs.Call.{editionOf, convertedLength}
 use Rattle.converter.specs.Call as converter
 use Rattle.answers.specs.declared.PatchAnswer.{PatchAnswer}
+use Rattle.answers.specs.declared.PriceAnswer.{PriceAnswer}
 use Rattle.answers.specs.declared.JudgeAnswer.{JudgeAnswer}
 use Rattle.answers.specs.declared.ReadAnswer.{ReadAnswer}
 use Rattle.answers.specs.declared.FindAnswer.{FindAnswer}
@@ -25,6 +28,10 @@ use Rattle.answers.specs.declared.ConvertAnswer.{ConvertAnswer}
 -- the number, the triangle count and the total of an outcome (rule 5.2)
 abbrev pub patchAnswerOf : Outcome → PatchAnswer
 patchAnswerOf o = record { number = numberOf o; triangles = trianglesOf o; total = totalOf o }
+
+-- the number, the triangle count and the total of a quote (rule 5.11)
+abbrev pub priceAnswerOf : Quote → PriceAnswer
+priceAnswerOf q = record { number = quote.numberOf q; triangles = quote.trianglesOf q; total = quote.totalOf q }
 
 -- the number and the excess of a judgement (rule 5.10)
 abbrev pub judgeAnswerOf : Judgement → JudgeAnswer

@@ -4,14 +4,23 @@ use converter::Conversion;
 use finder::Found;
 use finder::Sizes;
 use judge::Judgement;
+use pricing::Quote;
 use reader::Reading;
 use triangulator::Outcome;
 ghost use mathlib.Core.Path.{_≡_};
-ghost use Rattle.answers.specs.Answers.{patchAnswerOf, judgeAnswerOf, readAnswerOf, findAnswerOf, sizesAnswerOf, convertAnswerOf};
+ghost use Rattle.answers.specs.Answers.{patchAnswerOf, priceAnswerOf, judgeAnswerOf, readAnswerOf, findAnswerOf, sizesAnswerOf, convertAnswerOf};
 
 // A patch where the number is 0 and there are triangles, 'none' where both are 0.
 #[repr(C)]
 pub struct PatchAnswer {
+    pub number: u32,
+    pub triangles: usize,
+    pub total: u64,
+}
+
+// The least total where the number is 0 and its patch has triangles, 'none' where both are 0.
+#[repr(C)]
+pub struct PriceAnswer {
     pub number: u32,
     pub triangles: usize,
     pub total: u64,
@@ -66,6 +75,19 @@ pub fn patch_answer(outcome: Outcome) -> PatchAnswer
         number,
         triangles,
         total,
+    }
+}
+
+pub fn price_answer(quote: Quote) -> PriceAnswer
+    ensures { λ r. ⌜ r ≡ priceAnswerOf quote ⌝ }
+{
+    let number = quote.number();
+    let triangles = quote.triangles();
+    let least = quote.total();
+    PriceAnswer {
+        number,
+        triangles,
+        total: least,
     }
 }
 

@@ -1,4 +1,4 @@
-// Refusals: what a call answers where a number is due, and the numbers of rules 4.1 to 4.22, by who causes them,
+// Refusals: what a call answers where a number is due, and the numbers of rules 4.1 to 4.23, by who causes them,
 // each with the text that hosts are given.
 ghost use mathlib.Core.Path.{_≡_};
 ghost use Rattle.codes.specs.Refusals.{refusal};
@@ -66,3 +66,6 @@ pub const NORMAL_LOST: u32 = 19; // a normal would be lost: a record of the file
 pub const NOT_A_TRIANGULATION: u32 = 21; // the list to judge is not a triangulation, or names a candidate twice
 
 pub const WRONG_TOTAL: u32 = 22; // the total stated for the list to judge is not its own
+
+// A caller who agreed on a total.
+pub const NOT_LEAST: u32 = 23; // the agreed total is not the least total of the direct job

@@ -6,6 +6,8 @@ use Rattle.finder.specs.declared.Found.{Found}
 use Rattle.finder.specs.Finding.{Finding, finding}
 use Rattle.triangulator.specs.declared.Outcome.{Outcome}
 use Rattle.triangulator.specs.Call.{Result, result}
+use Rattle.pricing.specs.declared.Quote.{Quote}
+use Rattle.pricing.specs.Quote as quote
 use Rattle.judge.specs.declared.Judgement.{Judgement}
 use Rattle.judge.specs.Call as judge
 use Rattle.pipeline.specs.Patching.{Tables, Patching, patching}
@@ -15,8 +17,9 @@ use Rattle.answers.specs.declared.ConvertAnswer.{ConvertAnswer}
 use Rattle.answers.specs.declared.FindAnswer.{FindAnswer}
 use Rattle.answers.specs.declared.JudgeAnswer.{JudgeAnswer}
 use Rattle.answers.specs.declared.PatchAnswer.{PatchAnswer}
-use Rattle.answers.specs.Answers.{patchAnswerOf, judgeAnswerOf, findAnswerOf, convertAnswerOf}
-use Rattle.exports.specs.Calls.{rimPatch, rimPatchOf, jobPatch, jobPatchOf, jobJudgement, jobJudgementOf}
+use Rattle.answers.specs.declared.PriceAnswer.{PriceAnswer}
+use Rattle.answers.specs.Answers.{patchAnswerOf, priceAnswerOf, judgeAnswerOf, findAnswerOf, convertAnswerOf}
+use Rattle.exports.specs.Calls.{rimPatch, rimPatchOf, jobPrice, jobPriceOf, jobPatch, jobPatchOf, jobJudgement, jobJudgementOf}
 use Rattle.exports.specs.Calls.{rimLists, rimListsOf, fileConversion, fileConversionOf}
 
 module _ {o : Outcome} {a : PatchAnswer} (e : a ≡ patchAnswerOf o) where
@@ -41,3 +44,8 @@ pub job-judged :
     {j : Judgement} {a : JudgeAnswer} {work : List ℕ} {r : judge.Result} →
     a ≡ judgeAnswerOf j → judge.result j work ≡ r → jobJudgement a work ≡ jobJudgementOf r
 job-judged {work = work} e h = ap (λ (x : JudgeAnswer). jobJudgement x work) e ∙ ap jobJudgementOf h
+
+pub job-priced :
+    {q : Quote} {a : PriceAnswer} {work : List ℕ} {r : quote.Result} →
+    a ≡ priceAnswerOf q → quote.result q work ≡ r → jobPrice a work ≡ jobPriceOf r
+job-priced {work = work} e h = ap (λ (x : PriceAnswer). jobPrice x work) e ∙ ap jobPriceOf h

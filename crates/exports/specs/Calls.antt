@@ -3,14 +3,16 @@ use Prim.Native.Nat.{ℕ}
 use mathlib.Core.List.{List}
 use Rattle.finder.specs.Finding.{Finding}
 use Rattle.triangulator.specs.Call.{Result}
+use Rattle.pricing.specs.Quote as quote
 use Rattle.judge.specs.Call as judge
 use Rattle.pipeline.specs.Patching.{Tables, Patching}
 use Rattle.converter.specs.Call.{Converting}
 use Rattle.answers.specs.declared.PatchAnswer.{PatchAnswer}
+use Rattle.answers.specs.declared.PriceAnswer.{PriceAnswer}
 use Rattle.answers.specs.declared.JudgeAnswer.{JudgeAnswer}
 use Rattle.answers.specs.declared.FindAnswer.{FindAnswer}
 use Rattle.answers.specs.declared.ConvertAnswer.{ConvertAnswer}
-use Rattle.answers.specs.Answers.{patchAnswerOf, judgeAnswerOf, findAnswerOf, convertAnswerOf}
+use Rattle.answers.specs.Answers.{patchAnswerOf, priceAnswerOf, judgeAnswerOf, findAnswerOf, convertAnswerOf}
 
 -- the one call's answer, with the five tables after it (rules 3.8, 3.9)
 pub record RimPatch : Type 0 where
@@ -23,7 +25,18 @@ rimPatch answer left = record { answer = answer; left = left }
 abbrev pub rimPatchOf : Patching → RimPatch
 rimPatchOf p = rimPatch (patchAnswerOf (p .outcome)) (p .left)
 
--- a direct job's answer, with the triangle and work tables after it (rules 3.8, 3.9)
+-- a direct job's price, with the work table after it (rule 5.11)
+pub record JobPrice : Type 0 where
+  pub answer : PriceAnswer
+  pub work : List ℕ
+
+abbrev pub jobPrice : PriceAnswer → List ℕ → JobPrice
+jobPrice answer work = record { answer = answer; work = work }
+
+abbrev pub jobPriceOf : quote.Result → JobPrice
+jobPriceOf r = jobPrice (priceAnswerOf (r .quote)) (r .work)
+
+-- a direct job's patch, with the triangle and work tables after it (rules 3.8, 3.9)
 pub record JobPatch : Type 0 where
   pub answer : PatchAnswer
   pub triangles : List ℕ

@@ -4,6 +4,7 @@ use answers::ConvertAnswer;
 use answers::FindAnswer;
 use answers::JudgeAnswer;
 use answers::PatchAnswer;
+use answers::PriceAnswer;
 use answers::ReadAnswer;
 use answers::SizesAnswer;
 ghost use mathlib.Core.Path.{_≡_};
@@ -11,13 +12,14 @@ ghost use Rattle.jobs.specs.Job.{jobOf};
 ghost use Rattle.terms.specs.Limits.{maxVertices};
 ghost use Rattle.reader.specs.Reading.{readingOf};
 ghost use Rattle.converter.specs.Call.{convertCall};
-ghost use Rattle.triangulator.specs.Call.{triangulated};
+ghost use Rattle.pricing.specs.Quote.{priced};
+ghost use Rattle.pricing.specs.Patch.{patchedAt};
 ghost use Rattle.judge.specs.Call.{judged};
 ghost use Rattle.pipeline.specs.Finding.{findFile};
 ghost use Rattle.pipeline.specs.Patching.{tables, patchFile};
 ghost use Rattle.pipeline.specs.Sizes.{sizesFile};
 ghost use Rattle.answers.specs.Answers.{readAnswerOf, sizesAnswerOf};
-ghost use Rattle.exports.specs.Calls.{rimPatch, rimPatchOf, jobPatch, jobPatchOf, jobJudgement, jobJudgementOf};
+ghost use Rattle.exports.specs.Calls.{rimPatch, rimPatchOf, jobPrice, jobPriceOf, jobPatch, jobPatchOf, jobJudgement, jobJudgementOf};
 ghost use Rattle.exports.specs.Calls.{rimLists, rimListsOf, fileConversion, fileConversionOf};
 
 // The one call over the three stages.
@@ -63,21 +65,38 @@ pub extern "C" fn patch_box_rim(
     )
 }
 
-// The tiler alone, for a direct job.
+// The tiler alone, for a direct job: the least total.
 #[no_mangle]
-pub extern "C" fn patch_box_job(
+pub extern "C" fn patch_box_price(
     n: usize,
     candidates: &[[u8; 3]],
     weights: &[u32],
     rows: &[[u32; 3]],
+    work: &mut [u64],
+) -> PriceAnswer
+    ensures { λ r. ⌜ jobPrice r (now (work .exit))
+        ≡ jobPriceOf (priced (jobOf n (now (candidates .entry)) (now (weights .entry)) (now (rows .entry))) (now (work .entry))) ⌝ }
+{
+    let quote = pricing::price(n, candidates, weights, rows, work);
+    answers::price_answer(quote)
+}
+
+// And the patch, where the agreed total is the least.
+#[no_mangle]
+pub extern "C" fn patch_box_patch(
+    n: usize,
+    candidates: &[[u8; 3]],
+    weights: &[u32],
+    rows: &[[u32; 3]],
+    agreed: u64,
     triangles: &mut [u16],
     work: &mut [u64],
 ) -> PatchAnswer
     ensures { λ r. ⌜ jobPatch r (now (triangles .exit)) (now (work .exit))
-        ≡ jobPatchOf (triangulated (jobOf n (now (candidates .entry)) (now (weights .entry)) (now (rows .entry))) (now (triangles .entry))
+        ≡ jobPatchOf (patchedAt (jobOf n (now (candidates .entry)) (now (weights .entry)) (now (rows .entry))) agreed (now (triangles .entry))
         (now (work .entry))) ⌝ }
 {
-    let outcome = triangulator::triangulate(n, candidates, weights, rows, triangles, work);
+    let outcome = pricing::patch(n, candidates, weights, rows, agreed, triangles, work);
     answers::patch_answer(outcome)
 }
 

@@ -4,5 +4,6 @@ pub mod Lists
 pub mod Failing
 pub mod FirstNumber
 pub mod Acceptance
+pub mod Calls
 pub mod Count
 pub mod Cases

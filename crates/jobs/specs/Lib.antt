@@ -1,2 +1,3 @@
 pub mod Job
 pub mod Due
+pub mod Cases

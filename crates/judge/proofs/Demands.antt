@@ -1,5 +1,5 @@
 -- What the users asked of the judge, of the call's judgement and work table. Assumes nothing.
-use Prim.Native.Nat.{ℕ, zero, suc, _-_, _≤_}
+use Prim.Native.Nat.{ℕ, zero, suc, _-_}
 use mathlib.Core.Path.{_≡_, refl, sym, ap, _∙_, subst}
 use mathlib.Core.List.{List}
 use native.Mathlib.Omega.{arith}
@@ -12,16 +12,12 @@ use Rattle.triangulation.specs.Triangulations.{Problem, ValidProblem, best}
 use Rattle.triangulation.specs.Problems.{problemOf}
 use Rattle.triangulation.specs.Demand3.{HandedBack}
 use Rattle.jobs.specs.Job.{Job, codeWithoutTriangles}
-use Rattle.jobs.proofs.Acceptance.{accepted-zero, accepted-beside}
-use Rattle.triangulator.specs.declared.Outcome.{Outcome}
-use Rattle.triangulator.specs.declared.Outcome.the-variants as outcome
-use Rattle.triangulator.specs.Call.{triangulated, partOf}
-use Rattle.triangulator.specs.Demands.{Taken, a-patch, Handed}
+use Rattle.jobs.specs.Due.{JobAccepted}
+use Rattle.jobs.proofs.Acceptance.{accepted-zero}
 use Rattle.triangulator.proofs.Accepting.{accepted-well-formed}
-use Rattle.triangulator.proofs.Demands.{patch-handed, job-taken-only, job-handed}
 use Rattle.judge.specs.declared.Judgement.the-variants as judgement
 use Rattle.judge.specs.Call.{numberOf, excessOf, excessOver, judgeCode, Result, result, settled, judged}
-use Rattle.judge.specs.Demands.{JobAccepted, Acceptable, SameNumbers, Excess}
+use Rattle.judge.specs.Demands.{Acceptable, SameNumbers, Excess}
 use Rattle.judge.specs.Due.{FirstDue}
 use Rattle.judge.proofs.Tilings.{same-code}
 use Rattle.judge.proofs.Numbers.{code-due, due-code, zero-accepts, accepts-zero}
@@ -114,13 +110,3 @@ module _ (job : Job) where
       let z = accepts-zero job part total (length work) a l in
       let x = excess-is problem (valid a) (o .set) (o .tiles) total (o .weight) .cheapest-zero (o .lowest) in
       by-code part total work z ∙ ap (λ (e : ℕ). result (judgement.Accepted e) (filled (replicate (length (job .candidates)) 0) work)) x
-
-  -- so is the tiler's own answer, over any work table that is long enough
-  pub tiler-accepted : (triangles work work′ : List ℕ) (count total : ℕ) → length (job .candidates) ≤ length work′
-      → triangulated job triangles work .outcome ≡ outcome.Patch count total
-      → judged job (partOf (outcome.Patch count total) (triangulated job triangles work .triangles)) total work′
-      ≡ result (judgement.Accepted 0) (filled (replicate (length (job .candidates)) 0) work′)
-  tiler-accepted triangles work work′ count total room e =
-      let a = accepted-beside job (length triangles) (length work) (length work′) (job-taken-only job triangles work (subst Taken (sym e) a-patch)) room in
-      handed-accepted total (partOf (outcome.Patch count total) (triangulated job triangles work .triangles)) work′ a
-      (patch-handed (subst (λ (o : Outcome). Handed problem (partOf o (triangulated job triangles work .triangles)) o) e (job-handed job triangles work)))

@@ -10,13 +10,15 @@ use Rattle.terms.proofs.Order.{verdict-first, verdict-given}
 use Rattle.triangulation.specs.Triangulations.{Problem, totalWeight}
 use Rattle.triangulation.specs.Problems.{problemOf}
 use Rattle.jobs.specs.Job.{Job, jobCode}
+use Rattle.jobs.specs.Due.{JobAccepted}
 use Rattle.jobs.proofs.Acceptance.{accepted-zero, zero-accepted}
+use Rattle.jobs.proofs.Calls.{ordered}
 use Rattle.validation.specs.Validation.{named, listTotal, listCode}
 use Rattle.judge.specs.Call.{judgeCode}
-use Rattle.judge.specs.Demands.{JobAccepted, IsTiling, Acceptable}
+use Rattle.judge.specs.Demands.{IsTiling, Acceptable}
 use Rattle.judge.specs.Due.{FirstDue}
 use Rattle.judge.proofs.Tilings.{tiling-is, is-tiling, total-of, zero-acceptable, acceptable-zero}
-use Rattle.judge.proofs.FirstNumber.{verdict, ordered}
+use Rattle.judge.proofs.FirstNumber.{verdict}
 
 module _ (job : Job) (list : List ℕ) (stated workPlaces : ℕ) where
   abbrev problem : Problem

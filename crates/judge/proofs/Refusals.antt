@@ -11,15 +11,18 @@ use Rattle.lists.proofs.Choice.{Truth, truth, holds, fails, true-not-false}
 use Rattle.triangulation.specs.Triangulations.{Problem, totalWeight}
 use Rattle.triangulation.specs.Problems.{problemOf}
 use Rattle.triangulation.specs.Demand3.{Triangulates}
-use Rattle.terms.specs.Order.{Precedes, by-place, by-number}
+use Rattle.terms.specs.Order.{Precedes, by-number}
+use Rattle.jobs.specs.Due.{JobAccepted, CallPlace, after-job, CallBefore}
 use Rattle.jobs.proofs.Acceptance.{at-most-17}
+use Rattle.jobs.proofs.Calls.{none-on-job}
 use Rattle.validation.specs.Validation.{named, isTiling, listTotal}
 use Rattle.validation.proofs.Tilings.{tiling-length}
 use Rattle.judge.specs.declared.Judgement.the-variants.{Refused}
 use Rattle.judge.specs.Call.{result, judged}
-use Rattle.judge.specs.Demands.{JobAccepted, IsTiling}
-use Rattle.judge.specs.Due.{JudgementPlace, job-at, judged-list, JudgementBefore, job-list, JudgeDue, of-job, no-tiling, other-total, FirstDue}
+use Rattle.judge.specs.Demands.{IsTiling}
+use Rattle.judge.specs.Due.{JudgeDue, of-job, no-tiling, other-total, FirstDue}
 use Rattle.judge.proofs.Tilings.{names, tiling-is, is-tiling, total-of}
+use Rattle.judge.proofs.FirstNumber.{to-job}
 use Rattle.judge.proofs.Numbers.{no-tiling-code, other-total-code}
 use Rattle.judge.proofs.Demands.{valid, by-code, given-first}
 
@@ -28,24 +31,24 @@ module _ (job : Job) (list : List ℕ) (stated : ℕ) (work : List ℕ) where
   problem = problemOf job
 
   -- a number that is due on an accepted problem is one of the list's two
-  of-list : {p : JudgementPlace} {k : ℕ} → JudgeDue job list stated (length work) p k → JobAccepted job (length work)
+  of-list : {p : CallPlace} {k : ℕ} → JudgeDue job list stated (length work) p k → JobAccepted job (length work)
       → ((k ≡ 21) × ((set : List ℕ) → IsTiling problem list set → ⊥)) ⊎ ((k ≡ 22) × (stated ≢ listTotal problem list))
   of-list (of-job {p} {k} d) a = absurd (a .none p k d)
   of-list (no-tiling h) a = inl (refl, h)
   of-list (other-total h) a = inr (refl, h)
 
   -- a number of the list is due there, after every place of the job
-  at-list : {p : JudgementPlace} {k : ℕ} → 17 < k → JudgeDue job list stated (length work) p k → p ≡ judged-list
+  at-list : {p : CallPlace} {k : ℕ} → 17 < k → JudgeDue job list stated (length work) p k → p ≡ after-job
   at-list l (of-job d) = absurd (omega (arith, at-most-17 job (job .n - 2) (length work) d))
   at-list l (no-tiling h) = refl
   at-list l (other-total h) = refl
 
-  none-before-list : {k : ℕ} → 17 < k → FirstDue job list stated (length work) k → (q : JudgementPlace) (j : ℕ)
-      → Precedes JudgementBefore q j judged-list k → JudgeDue job list stated (length work) q j → ⊥
-  none-before-list {k} l f q j h = f .none-before q j (subst (λ (p : JudgementPlace). Precedes JudgementBefore q j p k) (sym (at-list l (f .is-due))) h)
+  none-before-list : {k : ℕ} → 17 < k → FirstDue job list stated (length work) k → (q : CallPlace) (j : ℕ)
+      → Precedes CallBefore q j after-job k → JudgeDue job list stated (length work) q j → ⊥
+  none-before-list {k} l f q j h = f .none-before q j (subst (λ (p : CallPlace). Precedes CallBefore q j p k) (sym (at-list l (f .is-due))) h)
 
   job-accepted : {k : ℕ} → 17 < k → FirstDue job list stated (length work) k → JobAccepted job (length work)
-  job-accepted l f = record { none = λ p j d. none-before-list l f (job-at p) j (by-place job-list) (of-job d) }
+  job-accepted l f = none-on-job (λ p k d. of-job d) (to-job job list stated (length work)) f (at-list l (f .is-due))
 
   -- ---- 21 is given exactly when the problem is accepted and the list is no tiling without repeats (rules 4.21, 4.36)
   pub gives-21 : JobAccepted job (length work) → ((set : List ℕ) → IsTiling problem list set → ⊥)
@@ -86,7 +89,7 @@ module _ (job : Job) (list : List ℕ) (stated : ℕ) (work : List ℕ) where
   given-22 e =
       let f : FirstDue job list stated (length work) 22 = given-first job list stated work 22 e in
       let a = job-accepted (omega arith) f in
-      let t = tiling (truth (isTiling problem list)) (λ h. none-before-list (omega arith) f judged-list 21 (by-number (omega arith)) (no-tiling h)) in (
+      let t = tiling (truth (isTiling problem list)) (λ h. none-before-list (omega arith) f after-job 21 (by-number (omega arith)) (no-tiling h)) in (
         a,
         (
           named problem list,

@@ -1,16 +1,11 @@
 -- What the users asked of a judgement, as facts about the list and the job. Definitions only.
-use Prim.Native.Nat.{ℕ, _+_, _-_, _≤_}
+use Prim.Native.Nat.{ℕ, _+_}
 use mathlib.Core.Path.{_≡_}
 use mathlib.Core.List.{List}
 use Rattle.triangulation.specs.Triangulations.{Problem, totalWeight}
 use Rattle.triangulation.specs.Demand3.{Triangulates, NamesOnce}
-use Rattle.jobs.specs.Job.{Job}
-use Rattle.jobs.specs.Due.{Accepted}
+use Rattle.triangulation.specs.Least.{Cheapest, Least}
 use Rattle.validation.specs.Validation.{times}
-
--- the job is accepted beside a work table of so many places, where no triangle table is lent (rule 4.36)
-abbrev pub JobAccepted : Job → ℕ → Type 0
-JobAccepted job workPlaces = Accepted job (job .n - 2) workPlaces
 
 -- the list is the tiling `set`, in whatever order and without repeats (rule 3.13)
 pub record IsTiling (job : Problem) (list set : List ℕ) : Type 0 where
@@ -26,17 +21,6 @@ pub record Acceptable (job : Problem) (list : List ℕ) (stated : ℕ) : Type 0 
 -- two lists have the same numbers, each as often, in whatever order (rule 3.13)
 abbrev pub SameNumbers : List ℕ → List ℕ → Type 0
 SameNumbers list list′ = (k : ℕ) → times k list ≡ times k list′
-
--- no tiling costs less (rule 3.14)
-abbrev pub Cheapest : Problem → ℕ → Type 0
-Cheapest job total = (s : List ℕ) → Triangulates job s → total ≤ totalWeight job s
-
--- this is the least total: that of a tiling, and no tiling costs less (rule 3.14)
-pub record Least (job : Problem) (total : ℕ) : Type 0 where
-  pub set : List ℕ
-  pub tiles : Triangulates job set
-  pub weight : total ≡ totalWeight job set
-  pub lowest : Cheapest job total
 
 -- the excess over the least total, which is 0 exactly when no tiling costs less (rule 3.14)
 pub record Excess (job : Problem) (stated excess : ℕ) : Type 0 where

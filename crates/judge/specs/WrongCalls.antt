@@ -4,7 +4,7 @@ use mathlib.Core.List.{List, [], _∷_}
 use Rattle.codes.specs.Refusals.{refusal}
 use Rattle.terms.specs.Entries.{triple}
 use Rattle.jobs.specs.Job.{Job, jobOf}
-use Rattle.triangulator.specs.Cases.{single, jobP}
+use Rattle.jobs.specs.Cases.{single, jobP}
 use Rattle.judge.specs.declared.Judgement.the-variants.{Accepted, Refused}
 use Rattle.judge.specs.Call.{Result, result}
 use Rattle.judge.specs.Cases.{accepted, refused}

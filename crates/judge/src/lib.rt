@@ -57,9 +57,7 @@ pub fn judge(
     if list_number != 0 {
         return Judgement::Refused(Refusal::new(list_number));
     }
-    let starts = blocks::block_starts(candidates);
-    let least = minimum_weight::least_total(n, &starts, candidates, weights, rows, work);
-    minimum_weight::clear(work, candidates.len());
+    let least = triangulator::solver::least(n, candidates, weights, rows, work);
     let excess = stated - least;
     Judgement::Accepted { excess }
 }

@@ -8,4 +8,5 @@ pub mod Least
 pub mod Recursion
 pub mod Bounds
 pub mod Demand3
+pub mod LeastTotal
 pub mod Tiling

@@ -1,4 +1,3 @@
 pub mod Accepting
 pub mod Settling
-pub mod WrongCalls
 pub mod Demands

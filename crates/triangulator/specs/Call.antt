@@ -1,14 +1,9 @@
 -- What a call of the tiler answers, and what it leaves in every place of its tables. Definitions only.
 use Prim.Native.Nat.{ℕ, zero, suc, _-_}
-use mathlib.Core.Bool.{cond}
 use mathlib.Core.List.{List}
 use lib.ListN.{length, replicate}
-use lib.Dec.{eqb}
-use Rattle.codes.specs.Refusals.{refusal}
 use Rattle.lists.specs.Lists.{filled, firstPlaces}
-use Rattle.triangulation.specs.Triangulations.{Answer, none, patch, best}
-use Rattle.triangulation.specs.Problems.{problemOf}
-use Rattle.jobs.specs.Job.{Job, jobCode}
+use Rattle.triangulation.specs.Triangulations.{Answer, none, patch}
 use Rattle.triangulator.specs.declared.Outcome.{Outcome}
 use Rattle.triangulator.specs.declared.Outcome.the-variants.{Patch, None, Refused}
 
@@ -49,10 +44,6 @@ abbrev pub dueValues : ℕ → ℕ → Answer → Values
 dueValues zero n answer = answerValues n answer
 dueValues (suc k) n answer = values (suc k) 0 0
 
--- the values of the call for a direct job, by the first number due on it and the places lent with it (rules 4.32, 5.2)
-abbrev pub triangulatedValues : Job → ℕ → ℕ → Values
-triangulatedValues job trianglePlaces workPlaces = dueValues (jobCode job trianglePlaces workPlaces) (job .n) (best (problemOf job))
-
 -- the part handed back: as many first places as the outcome says, none where the table is shorter (rule 3.8)
 abbrev pub partOf : Outcome → List ℕ → List ℕ
 partOf outcome table = firstPlaces (trianglesOf outcome) table
@@ -71,13 +62,3 @@ result o t w = record { outcome = o; triangles = t; work = w }
 abbrev pub settled : Answer → ℕ → List ℕ → List ℕ → Result
 settled none count triangles work = result None triangles (filled (replicate count 0) work)
 settled (patch total l) count triangles work = result (Patch (length l) total) (filled l triangles) (filled (replicate count 0) work)
-
--- a refusal changes no table (rule 4.30), and comes before a patch and 'none' (rule 4.33)
-abbrev pub refusedOr : ℕ → List ℕ → List ℕ → Result → Result
-refusedOr number triangles work otherwise = cond (eqb number 0) otherwise (result (Refused (refusal number)) triangles work)
-
--- the call for a direct job, by the first number due on it (rule 4.32)
-unfoldable pub triangulated : Job → List ℕ → List ℕ → Result
-triangulated job triangles work =
-    refusedOr (jobCode job (length triangles) (length work)) triangles work
-    (settled (best (problemOf job)) (length (job .candidates)) triangles work)

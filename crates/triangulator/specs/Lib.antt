@@ -1,4 +1,2 @@
 pub mod Call
 pub mod Demands
-pub mod Cases
-pub mod WrongCalls

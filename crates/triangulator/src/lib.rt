@@ -1,5 +1,5 @@
-// The tiler: the best triangulation of a direct job, or the first number that is due.
-mod solver;
+// The best triangulation of a job on which no number is due, and what a call that patches answers.
+pub mod solver;
 
 use codes::Refusal;
 ghost use mathlib.Core.Path.{_≡_};
@@ -8,9 +8,7 @@ ghost use lib.ListN.{length};
 ghost use Rattle.triangulation.specs.Triangulations.{best};
 ghost use Rattle.triangulation.specs.Problems.{problemFrom};
 ghost use Rattle.minimum_weight.specs.Tables.{WellFormed};
-ghost use Rattle.jobs.specs.Job.{jobOf};
-ghost use Rattle.triangulator.specs.Call.{numberOf, trianglesOf, totalOf, valuesOf, answerValues};
-ghost use Rattle.triangulator.specs.Call.{triangulatedValues, partOf, result, settled, triangulated};
+ghost use Rattle.triangulator.specs.Call.{numberOf, trianglesOf, totalOf, valuesOf, answerValues, partOf, result, settled};
 
 // A patch with the number of its triangles and its total, 'none', or a refusal.
 pub enum Outcome {
@@ -86,28 +84,6 @@ pub fn best_triangulation(
         triangles: n - 2,
         total: least,
     }
-}
-
-// The tiler's call for a direct job: 14, 13, 15, 16 and 17, then the best triangulation.
-pub fn triangulate(
-    n: usize,
-    candidates: &[[u8; 3]],
-    weights: &[u32],
-    rows: &[[u32; 3]],
-    triangles: &mut [u16],
-    work: &mut [u64],
-) -> Outcome
-    ensures { λ r. ⌜ result r (now (triangles .exit)) (now (work .exit))
-        ≡ triangulated (jobOf n (now (candidates .entry)) (now (weights .entry)) (now (rows .entry))) (now (triangles .entry)) (now (work .entry)) ⌝ }
-    ensures { λ r. ⌜ valuesOf r
-        ≡ triangulatedValues (jobOf n (now (candidates .entry)) (now (weights .entry)) (now (rows .entry)))
-        (length (now (triangles .entry))) (length (now (work .entry))) ⌝ }
-{
-    let number = jobs::job_code(n, candidates, weights, rows, triangles.len(), work.len());
-    if number != 0 {
-        return Outcome::Refused(Refusal::new(number));
-    }
-    best_triangulation(n, candidates, weights, rows, triangles, work)
 }
 
 // The filled part of the triangle table after a call with this outcome.

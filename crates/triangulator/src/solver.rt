@@ -38,3 +38,21 @@ pub fn solve(
     clear(work, count);
     least
 }
+
+// The least total, or NONE, and no triangle; the work table is left as by `solve`.
+pub fn least(
+    n: usize,
+    candidates: &[[u8; 3]],
+    weights: &[u32],
+    rows: &[[u32; 3]],
+    work: &mut [u64],
+) -> u64
+    requires { ⌜ WellFormed n (now candidates) (now weights) (now rows) × (length (now candidates) ≤ length (now work)) ⌝ }
+    ensures total { λ r. ⌜ r ≡ costOf (bestKey (problemFrom n (now (candidates .entry)) (now (weights .entry)) (now (rows .entry)))) ⌝ }
+    ensures work { λ _. ⌜ now (work .exit) ≡ filled (replicate (length (now (candidates .entry))) 0) (now (work .entry)) ⌝ }
+{
+    let starts = blocks::block_starts(candidates);
+    let least = least_total(n, &starts, candidates, weights, rows, work);
+    clear(work, candidates.len());
+    least
+}

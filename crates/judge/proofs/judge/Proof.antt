@@ -8,8 +8,6 @@ use Rattle.terms.proofs.Numbers.{due-here, due-on}
 use Rattle.triangulation.specs.Triangulations.{Problem}
 use Rattle.triangulation.specs.Problems.{problemFrom}
 use Rattle.minimum_weight.specs.Tables.{WellFormed}
-use Rattle.minimum_weight.proofs.Filling.{filled-long, cleared}
-use Rattle.blocks.proofs.Starts.{starts-of}
 use Rattle.triangulator.proofs.Accepting.{accepted-well-formed}
 use Rattle.validation.specs.Validation.{listCode}
 use Rattle.judge.specs.Call.{judgeCode, judged}
@@ -72,27 +70,17 @@ returns-2 c =
     settle-refused _ _ _ _ _ (c .new2 .ensures)
     (h .before .list-code .ensures ∙ sym (due-on _ (sym (g .before .code-without-triangles .ensures) ∙ g .if1 .left))) (h .if2 .taken)
 
-block-starts-requires : tie.Need-block-starts-requires
-block-starts-requires c κs = formed (of-job c) .0 .ascending .by-first
-
-least-total-requires : tie.Need-least-total-requires
-least-total-requires c κs =
-    let f = formed (of-job (c .before .before .before)) in
-    (f .0, starts-of _ (f .0 .ascending .by-first) (c .before .before .block-starts .ensures), f .1)
-
-clear-requires : tie.Need-clear-requires
-clear-requires c κs =
-    let f = formed (of-job (c .before .before .before .before .before .before .before)) in
-    omega (arith, f .1, filled-long _ _ (f .1) (c .before .before .before .least-total .ensures .1))
+least-requires : tie.Need-least-requires
+least-requires c κs = let f = formed (of-job (c .before)) in (f .0, f .1)
 
 sub-excess : tie.Need-sub-excess
 sub-excess c =
-    let g = c .before .before .before .before .before .before .before .before .before .before in
+    let g = c .before .before .before .before in
     let s = call (of-job g) in
     let a = acceptable g in
     omega (
       arith,
-      c .before .before .before .before .before .before .least-total .ensures .0,
+      c .before .before .least .ensures .0,
       excess-by-cost (job s) (formed (of-job g) .0 .valid) (a .set) (a .tiling .tiles) (s .args .stated) (a .total) .0,
     )
 
@@ -102,15 +90,15 @@ same-length c = search needs
 returns-3 : tie.Need-returns-3
 unfolding judged judgeCode
 returns-3 c =
-    let g = c .before .before .before .before .before .before .before .before .before .before in
+    let g = c .before .before .before .before in
     let s = call (of-job g) in
     let a = acceptable g in
-    let t = c .before .before .before .before .before .before .least-total .ensures in
+    let t = c .before .before .least .ensures in
     let x = excess-by-cost (job s) (formed (of-job g) .0 .valid) (a .set) (a .tiling .tiles) (s .args .stated) (a .total) in
     settle-accepted _ _ _ _
     (due-on _ (sym (of-job g .before .code-without-triangles .ensures) ∙ of-job g .if1 .left) ∙ listed g)
     (omega (arith, t .0, x .1))
-    (cleared (job s) (s .args .work .now) (t .1) (c .before .before .clear .ensures))
+    (t .1)
 
 pub judge-spec : {M : Type 1} → statement M
 judge-spec =
@@ -122,9 +110,7 @@ judge-spec =
     list-code-requires
     new-requires-2
     returns-2
-    block-starts-requires
-    least-total-requires
-    clear-requires
+    least-requires
     sub-excess
     same-length
     returns-3)

@@ -1,14 +1,8 @@
--- Direct jobs as calls on tables with one place more than needed, each holding 9, for the worked cases of rules 6.2 to 6.4 and 6.9. Definitions only.
-use Prim.Native.Nat.{ℕ, _+_, _-_}
+-- The direct jobs of the worked cases (rules 6.1 to 6.3, 6.9, 6.10). Definitions only.
+use Prim.Native.Nat.{ℕ}
 use mathlib.Core.List.{List, [], _∷_}
-use lib.ListN.{length, replicate}
 use Rattle.terms.specs.Entries.{triple}
 use Rattle.jobs.specs.Job.{Job, jobOf}
-use Rattle.triangulator.specs.Call.{Result, triangulated}
-
--- the call on such tables
-abbrev pub answered : Job → Result
-answered l = triangulated l (replicate (l .n - 1) 9) (replicate (length (l .candidates) + 1) 9)
 
 -- one candidate, of weight 5 (rule 6.2)
 abbrev pub single : Job
