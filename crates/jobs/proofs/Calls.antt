@@ -24,7 +24,7 @@ ordered after-job after-job = one-place refl
 module _ {J : JobPlace → ℕ → Type 0} {D : CallPlace → ℕ → Type 0}
     (to-call : (p : JobPlace) (k : ℕ) → J p k → D (job-at p) k) (to-job : (p : JobPlace) (k : ℕ) → D (job-at p) k → J p k) where
   -- the first number due on the job is the first due on the call
-  job-first : {k : ℕ} → First JobBefore J k → First CallBefore D k
+  pub job-first : {k : ℕ} → First JobBefore J k → First CallBefore D k
   job-first {k} f = record { place = job-at (f .place); is-due = to-call (f .place) k (f .is-due); none-before = none }
     where
       none : (q : CallPlace) (j : ℕ) → Precedes CallBefore q j (job-at (f .place)) k → D q j → ⊥

@@ -1,1 +1,5 @@
 pub mod Settling
+pub mod Pricing
+pub mod Patching
+pub mod Demands
+pub mod InTurn

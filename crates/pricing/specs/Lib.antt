@@ -1,2 +1,4 @@
 pub mod Quote
 pub mod Patch
+pub mod Due
+pub mod Demands
