@@ -3,3 +3,4 @@ pub mod Pricing
 pub mod Patching
 pub mod Demands
 pub mod InTurn
+pub mod WrongCalls
