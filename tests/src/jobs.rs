@@ -1,6 +1,6 @@
 //! Direct jobs.
 
-use crate::calls::{Calls, Job, Row, Tables, Triangle};
+use crate::calls::{Calls, Job, PatchAnswer, Row, Tables, Triangle};
 use crate::law::finder::hangs_on;
 use crate::random::Random;
 use std::collections::HashMap;
@@ -28,6 +28,12 @@ pub fn job_of(calls: &dyn Calls, file: &[u8], tables: &mut Tables) -> Job {
         weights: tables.weights.view()[..found.candidates].to_vec(),
         rows: tables.rows.view()[..found.rows].to_vec(),
     }
+}
+
+/// Price and patch in turn, over the same tables. Nothing is agreed on where there is no price.
+pub fn price_and_patch(calls: &dyn Calls, n: usize, tables: &mut Tables) -> PatchAnswer {
+    let price = calls.price(n, tables);
+    calls.patch(n, price.total, tables)
 }
 
 /// Every hanging pair (outer, inner) in order, with weight 0.

@@ -19,23 +19,20 @@ fn job(n: usize, candidates: &[Triangle], weights: &[u32], rows: &[Row]) -> Job 
     Job { n, candidates: candidates.to_vec(), weights: weights.to_vec(), rows: rows.to_vec() }
 }
 
-/// The answer, the triangles and the work table of a job, by each.
+/// The price, the patch, the triangles and the work table of a job, by each.
 fn expect(job: &Job, number: u32, walk: &[u16], total: u64) {
     for calls in all() {
         let before = Tables::of_job(job, job.n, job.candidates.len() + 1);
         let mut left = before.clone();
-        let answer = calls.patch_job(job.n, &mut left);
-        assert_eq!(
-            answer,
-            PatchAnswer { number, triangles: walk.len(), total },
-            "{}",
-            calls.name()
-        );
+        let answer = PatchAnswer { number, triangles: walk.len(), total };
         let mut expected = before;
-        expected.triangles.table()[..walk.len()].copy_from_slice(walk);
         if number == 0 {
-            expected.work.table()[..job.candidates.len()].fill(0);
+            expected.clear_work();
         }
+        assert_eq!(calls.price(job.n, &mut left), answer, "{}", calls.name());
+        assert_eq!(left.difference(&expected), None, "{}", calls.name());
+        assert_eq!(calls.patch(job.n, total, &mut left), answer, "{}", calls.name());
+        expected.triangles.fill(walk);
         assert_eq!(left.difference(&expected), None, "{}", calls.name());
     }
 }

@@ -3,9 +3,10 @@
 use outside_tests::calls::{Calls, Job, JudgeAnswer, Patch, Tables};
 use outside_tests::damaged_jobs::{damaged, OF_JOBS};
 use outside_tests::jobs::random_job;
-use outside_tests::law::judge::{is_tiling, named, number_of_job, total};
+use outside_tests::law::judge::{is_tiling, named, total};
+use outside_tests::law::tests_of_jobs::{self, number_without_triangles};
 use outside_tests::law::tilings::{best, walk};
-use outside_tests::law::{tests_of_jobs, BY_SETS};
+use outside_tests::law::BY_SETS;
 use outside_tests::patches::{all_of, least_total, worked};
 use outside_tests::random::Random;
 
@@ -32,7 +33,7 @@ struct Steps {
 }
 
 const RIGHT: Steps = Steps {
-    number_of_job: |job, _, work| number_of_job(job, work),
+    number_of_job: |job, _, work| number_without_triangles(job, work),
     is_tiling,
     total,
     number_of_patch,
@@ -132,7 +133,7 @@ fn wrong_total_first(known: Known) -> Option<u32> {
 
 fn length_first(job: &Job, list: &[u16], work: usize) -> Option<u32> {
     match list.len() + 2 == job.n {
-        true => number_of_job(job, work),
+        true => number_without_triangles(job, work),
         false => Some(21),
     }
 }
@@ -193,7 +194,7 @@ impl Told {
 
     /// One case more for each patch of a job. The steps by themselves are right.
     fn by(&mut self, job: &Job, patches: &[Patch], work: usize) {
-        let least = number_of_job(job, work).map_or_else(|| least_total(job), |_| 0);
+        let least = number_without_triangles(job, work).map_or_else(|| least_total(job), |_| 0);
         for patch in patches {
             let mut tables = Tables::of_patch(job, &patch.list, work);
             let right = (BY_SETS.judge(job.n, patch.stated, &mut tables), tables);
