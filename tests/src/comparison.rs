@@ -162,7 +162,7 @@ pub fn compare_job(
     let before = Tables::of_job(job, places[0], places[1]);
     let (price, priced) = compare_price(expected, tested, job.n, &before);
     let (answer, patched) = compare_patch(expected, tested, job.n, price.total, &priced);
-    let short = price.number == 0 && places[0] < job.n - 2;
+    let short = price.number != 14 && places[0] < job.n - 2;
     assert_eq!(answer, if short { PatchAnswer::refused(13) } else { price }, "{}", case());
     let mut alone = before.clone();
     assert_eq!(tested.patch(job.n, price.total, &mut alone), answer, "{}", case());

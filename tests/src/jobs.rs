@@ -5,6 +5,15 @@ use crate::law::finder::hangs_on;
 use crate::random::Random;
 use std::collections::HashMap;
 
+pub fn job(n: usize, candidates: &[Triangle], weights: &[u32], rows: &[Row]) -> Job {
+    Job { n, candidates: candidates.to_vec(), weights: weights.to_vec(), rows: rows.to_vec() }
+}
+
+/// The job of rim file P (rule 6.1), whose tilings 1, 3 and 2, 0 cost 943 and 1000.
+pub fn p() -> Job {
+    job(4, &all_triples(4), &[320, 256, 320, 373], &[[1, 3, 314], [2, 0, 360]])
+}
+
 /// Every triple of n vertices.
 pub fn all_triples(n: usize) -> Vec<Triangle> {
     let n = n as u8;

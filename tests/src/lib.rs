@@ -18,6 +18,7 @@ pub mod library;
 pub mod normals;
 pub mod patches;
 pub mod planes;
+pub mod prices;
 pub mod programs;
 pub mod random;
 pub mod rims;

@@ -1,7 +1,8 @@
 //! The worked cases (rules 6.1 to 6.5 and 6.8) and others worked by hand, by the reference and by what
 //! is under test.
 
-use outside_tests::calls::{Calls, Job, PatchAnswer, Places, Row, Tables, Triangle};
+use outside_tests::calls::{Calls, Job, PatchAnswer, Places, Tables, Triangle};
+use outside_tests::jobs::{job, p};
 use outside_tests::law::finder::{bend, bend_of};
 use outside_tests::law::grid::{grid_number, GridNumber};
 use outside_tests::law::{reader, tilings, BY_INTERVALS, BY_SETS};
@@ -13,10 +14,6 @@ const P_TRIPLES: [Triangle; 4] = [[0, 1, 2], [0, 1, 3], [0, 2, 3], [1, 2, 3]];
 
 fn all() -> [&'static dyn Calls; 3] {
     [&BY_SETS, &BY_INTERVALS, under_test()]
-}
-
-fn job(n: usize, candidates: &[Triangle], weights: &[u32], rows: &[Row]) -> Job {
-    Job { n, candidates: candidates.to_vec(), weights: weights.to_vec(), rows: rows.to_vec() }
 }
 
 /// The price, the patch, the triangles and the work table of a job, by each.
@@ -70,8 +67,7 @@ fn expect_refusal(points: &[Point], number: u32) {
 
 #[test]
 fn rim_file_p() {
-    let lists = job(4, &P_TRIPLES, &[320, 256, 320, 373], &[[1, 3, 314], [2, 0, 360]]);
-    expect_rim(&P, [1, 1], &lists, &[1, 3], 943);
+    expect_rim(&P, [1, 1], &p(), &[1, 3], 943);
 }
 
 #[test]

@@ -5,7 +5,7 @@ use super::finder::hangs_on;
 use super::tilings::Tiling;
 use crate::calls::Job;
 
-const HIGHEST_WEIGHT: u32 = 2_000_000_000;
+pub const HIGHEST_WEIGHT: u32 = 2_000_000_000;
 
 fn candidates_good(job: &Job) -> bool {
     let vertices = job.candidates.iter().all(|&[a, b, c]| a < b && b < c && (c as usize) < job.n);
