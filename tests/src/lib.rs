@@ -22,3 +22,4 @@ pub mod prices;
 pub mod programs;
 pub mod random;
 pub mod rims;
+pub mod told;

@@ -169,19 +169,21 @@ const OF_FIVE: [AtTotal; 5] = [
 pub fn worked() -> Vec<Case> {
     let five = job(5, &all_triples(5), &[HIGHEST; 10], &[[3, 0, HIGHEST], [4, 0, HIGHEST]]);
     let free = job(4, &all_triples(4), &[0; 4], &[[1, 3, 0]]);
+    let bent = job(4, &all_triples(4), &[1; 4], &[[1, 3, 1]]);
     let open = job(5, &[[0, 1, 2], [0, 2, 4]], &[1, 1], &[]);
     let none = job(3, &[], &[], &[]);
     let wrong_row = job(4, &all_triples(4), &[1; 4], &[[1, 0, 1]]);
     let too_many = job(65, &[], &[], &[]);
     let nothing: [AtTotal; 4] = [(0, 0, &[]), (1, 0, &[]), (2, 0, &[]), (u64::MAX, 0, &[])];
-    let unedited: [(Job, &[AtTotal]); 7] = [
+    let unedited: [(Job, &[AtTotal]); 8] = [
         (p(), &OF_P),
         (five, &OF_FIVE),
         (free, &[(0, 0, &[1, 3]), (1, 23, &[]), (u64::MAX, 23, &[]), (1 << 32, 23, &[])]),
+        (bent, &[(2, 0, &[2, 0]), (3, 23, &[]), (1, 23, &[])]),
         (open, &nothing),
         (none, &nothing),
-        (wrong_row, &[(2, 16, &[]), (0, 16, &[])]),
-        (too_many, &[(0, 14, &[])]),
+        (wrong_row, &[(2, 16, &[]), (0, 16, &[]), (u64::MAX, 16, &[])]),
+        (too_many, &[(0, 14, &[]), (u64::MAX, 14, &[])]),
     ];
     let edited = OF_EDITED_P.map(|(weights, totals)| (p(), p_with(weights), totals));
     let unedited = unedited.map(|(job, totals)| (job.clone(), job, totals));
