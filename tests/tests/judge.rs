@@ -204,7 +204,7 @@ fn largest_totals() {
     }
 }
 
-/// The patch that the tiler or the one call found for a job, over its lists; whether there is one.
+/// The patch that was found for a job, alone or by the one call, over its lists; whether there is one.
 fn judge_found(job: &Job, list: &[u16], total: u64, random: &mut Random) -> bool {
     if list.is_empty() {
         let all: Vec<u16> = (0..job.candidates.len() as u16).collect();
