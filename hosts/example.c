@@ -1,5 +1,6 @@
 /* A host in C: closes the rim of a rim file of either edition and prints what the bench program prints. Its tables are as long as the rim needs. Then it
- * judges the patch as if another program had made it, with its own total and with a wrong one.
+ * takes the rim's lists for a direct job: prices it, patches it at that total and at a wrong one, and judges the patch as if another program had made it,
+ * with its own total and with a wrong one.
  * With --limit N it takes rims of at most N vertices. With --convert it writes the file in the other edition instead.
  * Status 0 where the file is accepted, 1 where it is refused, 2 with one line on standard error where it could not run. */
 #include "patch_box.h"
@@ -82,15 +83,35 @@ static void print_patch(const struct tables *t, patch_box_patch_answer answer)
     }
 }
 
+/* The rim's lists, as the calls that take a direct job of n vertices take them. */
+#define LISTS(n, t) (n), (t)->candidates, (t)->sizes.candidates, (t)->weights, (t)->sizes.weights, (t)->rows, (t)->sizes.rows
+
+/* Prices the rim's lists as a direct job of n vertices, which has a patch; gives the total. */
+static uint64_t print_price(struct tables *t, size_t n)
+{
+    patch_box_price_answer answer = patch_box_price(LISTS(n, t), t->work, t->sizes.work);
+    printf("priced: total %llu\n", (unsigned long long)answer.total);
+    return answer.total;
+}
+
+/* Patches the job at a total that was agreed on. */
+static void print_patched(struct tables *t, size_t n, uint64_t agreed)
+{
+    patch_box_patch_answer answer = patch_box_patch(LISTS(n, t), agreed, t->triangles, t->sizes.triangles, t->work, t->sizes.work);
+    printf("patched at %llu: ", (unsigned long long)agreed);
+    if (answer.number == PATCH_BOX_ACCEPTED)
+        printf("patch %zu %zu %llu\n", n, answer.triangles, (unsigned long long)answer.total);
+    else
+        printf("refused %lu\n", (unsigned long)answer.number);
+}
+
 /* Judges the patch as one from elsewhere, which may have its triangles in any order, here in the reverse one, and with this total. */
 static void print_judgement(struct tables *t, size_t triangles, uint64_t stated)
 {
     uint16_t list[PATCH_BOX_MAX_TRIANGLES];
     for (size_t i = 0; i < triangles; i++)
         list[i] = t->triangles[triangles - 1 - i];
-    patch_box_judge_answer answer =
-        patch_box_judge(triangles + 2, t->candidates, t->sizes.candidates, t->weights, t->sizes.weights, t->rows, t->sizes.rows, list, triangles, stated,
-                        t->work, t->sizes.work);
+    patch_box_judge_answer answer = patch_box_judge(LISTS(triangles + 2, t), list, triangles, stated, t->work, t->sizes.work);
     printf("judged with total %llu: ", (unsigned long long)stated);
     if (answer.number == PATCH_BOX_ACCEPTED)
         printf("accepted %llu\n", (unsigned long long)answer.excess);
@@ -98,12 +119,22 @@ static void print_judgement(struct tables *t, size_t triangles, uint64_t stated)
         printf("refused %lu\n", (unsigned long)answer.number);
 }
 
+/* The calls on a direct job: its price, and its patch at that total and at one more, and judged with both. */
+static void print_job(struct tables *t, size_t triangles)
+{
+    uint64_t total = print_price(t, triangles + 2);
+    print_patched(t, triangles + 2, total);
+    print_patched(t, triangles + 2, total + 1);
+    print_judgement(t, triangles, total);
+    print_judgement(t, triangles, total + 1);
+}
+
 /* The file and the tables, as the calls that close a rim take them. */
 #define LENT(file, t) \
     (file)->bytes, (file)->length, (t)->triangles, (t)->sizes.triangles, (t)->candidates, (t)->sizes.candidates, (t)->weights, (t)->sizes.weights, \
         (t)->rows, (t)->sizes.rows, (t)->work, (t)->sizes.work
 
-/* Closes the rim and prints the answer, and for a patch how it is judged; gives the answer's number. */
+/* Closes the rim and prints the answer, and for a patch the calls on the rim's lists; gives the answer's number. */
 static uint32_t close_with(struct tables *t, const struct rim_file *file, const struct request *asked)
 {
     patch_box_patch_answer answer = asked->limited ? patch_box_rim_within(asked->limit, LENT(file, t)) : patch_box_rim(LENT(file, t));
@@ -111,8 +142,7 @@ static uint32_t close_with(struct tables *t, const struct rim_file *file, const 
         printf("none\n");
     } else if (answer.number == PATCH_BOX_ACCEPTED) {
         print_patch(t, answer);
-        print_judgement(t, answer.triangles, answer.total);
-        print_judgement(t, answer.triangles, answer.total + 1);
+        print_job(t, answer.triangles);
     }
     return answer.number;
 }

@@ -1,12 +1,13 @@
 //! A host in Rust: closes the rim of a rim file of either edition and prints what the bench program
-//! prints. Its tables are as long as the rim needs. Then it judges the patch as if another program had
-//! made it, with its own total and with a wrong one. With --limit N it takes rims of at most N
+//! prints. Its tables are as long as the rim needs. Then it takes the rim's lists for a direct job:
+//! prices it, patches it at that total and at a wrong one, and judges the patch as if another program
+//! had made it, with its own total and with a wrong one. With --limit N it takes rims of at most N
 //! vertices. With --convert it writes the file in the other edition instead. Status 0 where the file
 //! is accepted, 1 where it is refused, 2 with one line on standard error where it could not run.
 
 #![forbid(unsafe_code)]
 
-use patch_box::{Number, Outcome, OwnedTables};
+use patch_box::{Number, Outcome, OwnedTables, Price};
 use std::ffi::{OsStr, OsString};
 use std::fmt::Write as _;
 use std::io::{Read, Write as _};
@@ -31,7 +32,7 @@ fn bend_weight(tables: &OwnedTables, i: usize) -> u32 {
 }
 
 fn shown(tables: &OwnedTables, triangles: usize, total: u64) -> String {
-    let mut text = format!("patch {} {triangles} {total}\n", triangles + 2);
+    let mut text = patch_line(triangles, total);
     for (i, &number) in tables.triangles[..triangles].iter().enumerate() {
         let [a, b, c] = tables.candidates[number as usize];
         let weight = tables.weights[number as usize];
@@ -41,6 +42,34 @@ fn shown(tables: &OwnedTables, triangles: usize, total: u64) -> String {
     text
 }
 
+fn refused(number: Number) -> String {
+    format!("refused {}\n", number.code())
+}
+
+fn patch_line(triangles: usize, total: u64) -> String {
+    format!("patch {} {triangles} {total}\n", triangles + 2)
+}
+
+/// The price of the rim's lists as a direct job, which is that of its patch.
+fn priced(tables: &mut OwnedTables, n: usize) -> Result<u64, Number> {
+    let OwnedTables { candidates, weights, rows, work, .. } = tables;
+    Ok(match patch_box::price(n, candidates, weights, rows, work)? {
+        Price::None => 0,
+        Price::Total { total, .. } => total,
+    })
+}
+
+/// How the job is patched at a total that was agreed on.
+fn patched(tables: &mut OwnedTables, n: usize, agreed: u64) -> String {
+    let OwnedTables { triangles, candidates, weights, rows, work } = tables;
+    let answer = match patch_box::patch(n, candidates, weights, rows, agreed, triangles, work) {
+        Ok(Outcome::Patch { triangles, total }) => patch_line(triangles, total),
+        Ok(Outcome::None) => String::from("none\n"),
+        Err(number) => refused(number),
+    };
+    format!("patched at {agreed}: {answer}")
+}
+
 /// How the patch is judged as one from elsewhere, which may have its triangles in any order, here in
 /// the reverse one, and with this total.
 fn judged(tables: &mut OwnedTables, triangles: usize, stated: u64) -> String {
@@ -48,13 +77,25 @@ fn judged(tables: &mut OwnedTables, triangles: usize, stated: u64) -> String {
     let OwnedTables { candidates, weights, rows, work, .. } = tables;
     let judgement =
         match patch_box::judge(triangles + 2, candidates, weights, rows, &list, stated, work) {
-            Ok(excess) => format!("accepted {excess}"),
-            Err(number) => format!("refused {}", number.code()),
+            Ok(excess) => format!("accepted {excess}\n"),
+            Err(number) => refused(number),
         };
-    format!("judged with total {stated}: {judgement}\n")
+    format!("judged with total {stated}: {judgement}")
 }
 
-/// What the bench program prints for a patch or 'none', and how a patch is judged.
+/// The calls on a direct job: its price, and its patch at that total and at one more, and judged with
+/// both.
+fn as_job(tables: &mut OwnedTables, triangles: usize) -> Result<String, Number> {
+    let n = triangles + 2;
+    let total = priced(tables, n)?;
+    Ok(format!("priced: total {total}\n")
+        + &patched(tables, n, total)
+        + &patched(tables, n, total + 1)
+        + &judged(tables, triangles, total)
+        + &judged(tables, triangles, total + 1))
+}
+
+/// What the bench program prints for a patch or 'none', and for a patch the calls on the rim's lists.
 fn close(file: &[u8], limit: Option<usize>) -> Result<Vec<u8>, Number> {
     let sizes = match limit {
         None => patch_box::sizes(file),
@@ -68,9 +109,7 @@ fn close(file: &[u8], limit: Option<usize>) -> Result<Vec<u8>, Number> {
     let text = match outcome? {
         Outcome::None => String::from("none\n"),
         Outcome::Patch { triangles, total } => {
-            shown(&tables, triangles, total)
-                + &judged(&mut tables, triangles, total)
-                + &judged(&mut tables, triangles, total + 1)
+            shown(&tables, triangles, total) + &as_job(&mut tables, triangles)?
         }
     };
     Ok(text.into_bytes())
@@ -131,7 +170,7 @@ fn run() -> Result<ExitCode, String> {
     };
     let (bytes, status) = match answer {
         Ok(bytes) => (bytes, ExitCode::SUCCESS),
-        Err(number) => (format!("refused {}\n", number.code()).into_bytes(), ExitCode::FAILURE),
+        Err(number) => (refused(number).into_bytes(), ExitCode::FAILURE),
     };
     write_out(&bytes).map_err(|error| format!("the answer cannot be written: {error}"))?;
     Ok(status)

@@ -5,12 +5,13 @@
  *   - the pointer is not null and is aligned for the table's type, also where the table has no places; such a table is not accessed, so the address of
  *     any object of the type will do;
  *   - the places lie in one object, and no two tables of a call overlap, nor does the file overlap a table;
- *   - places that a call does not fill keep what they held, and a refusal changes none.
+ *   - places that a call does not fill keep what they held, and a refusal changes none, but for the work table after 23, which patch_box_patch gives.
  *
  * Calls may run at once in several threads, over tables of their own. Each uses less than 64 KiB of stack.
  *
- * Outcomes. The field `number` of an answer is 0, or says why the call refused; then every other field is 0. Of a patch_box_patch_answer:
- *   number 0 and triangles above 0   a patch
+ * Outcomes. The field `number` of an answer is 0, or says why the call refused; then every other field is 0. Of a patch_box_patch_answer, and of a
+ * patch_box_price_answer:
+ *   number 0 and triangles above 0   a patch, or the price of one; a total may be 0
  *   number 0 and triangles 0         'none': the candidates hold no triangulation of the rim
  *
  * Editions. A call that takes a rim file takes both editions; a file whose first two bytes are both 255 is of edition 2.
@@ -72,7 +73,8 @@ enum {
     PATCH_BOX_NORMAL_LOST = 19,         /* a normal would be lost: a record of the file to convert has one that is not zero */
     PATCH_BOX_OVER_LIMIT = 20,          /* the limit is below 64, and the chain has more records */
     PATCH_BOX_NOT_A_TRIANGULATION = 21, /* the list to judge is not a triangulation, or names a candidate twice */
-    PATCH_BOX_WRONG_TOTAL = 22          /* the total stated for the list to judge is not its own */
+    PATCH_BOX_WRONG_TOTAL = 22,         /* the total stated for the list to judge is not its own */
+    PATCH_BOX_NOT_LEAST = 23            /* the agreed total is not the least total of the direct job */
 };
 
 /* Vertices a < b < c. Candidates stand in rising order, and a candidate's number is its place, from 0. */
@@ -90,6 +92,12 @@ typedef struct {
     size_t triangles; /* how many first places of the triangle table are filled: n - 2, or 0 */
     uint64_t total;   /* the total of the patch, or 0 */
 } patch_box_patch_answer;
+
+typedef struct {
+    uint32_t number;
+    size_t triangles; /* of a patch of that total: n - 2, the places that patch_box_patch needs in the triangle table; 0 for 'none' */
+    uint64_t total;   /* the least total, or 0 */
+} patch_box_price_answer;
 
 typedef struct {
     uint32_t number;
@@ -149,18 +157,31 @@ patch_box_patch_answer patch_box_rim_within(size_t limit, const uint8_t *file, s
                                             patch_box_row *rows, size_t rows_len,
                                             uint64_t *work, size_t work_len);
 
-/* The tiler alone, for a direct job of n vertices, whose lists are the whole tables of candidates and rows. A number of 13 to 17, or a patch, or 'none'.
- * It needs n - 2 places for triangles, and for weights and work as many as there are candidates; triangles and work are left as by patch_box_rim. */
-patch_box_patch_answer patch_box_job(size_t n,
-                                     const patch_box_candidate *candidates, size_t candidates_len,
-                                     const uint32_t *weights, size_t weights_len,
-                                     const patch_box_row *rows, size_t rows_len,
-                                     uint16_t *triangles, size_t triangles_len,
-                                     uint64_t *work, size_t work_len);
+/* The price of a direct job of n vertices, whose lists are the whole tables of candidates and rows: the least total of its triangulations, without a patch.
+ * A number of 13 to 17, or the total, or 'none'. It needs as many places for weights and work as there are candidates, and none for triangles. Unless it
+ * refuses, it leaves zeros in the work table, as many as there are candidates. */
+patch_box_price_answer patch_box_price(size_t n,
+                                       const patch_box_candidate *candidates, size_t candidates_len,
+                                       const uint32_t *weights, size_t weights_len,
+                                       const patch_box_row *rows, size_t rows_len,
+                                       uint64_t *work, size_t work_len);
+
+/* The patch of a direct job at an agreed total, that of patch_box_price as a rule. A number of 13 to 17, or 'none', whatever was agreed, or 23 where the
+ * agreed total is not the least, or the patch. It speaks of the job as it is handed over: where the host has changed a weight since the price, a total
+ * that is no longer the least is refused, and one that still is gives the best patch of the changed job. It needs n - 2 places for triangles, and for
+ * weights and work as many as there are candidates; triangles and work are left as by patch_box_rim. With 23 no triangle is written, but the work table
+ * is left as after 'none'. */
+patch_box_patch_answer patch_box_patch(size_t n,
+                                       const patch_box_candidate *candidates, size_t candidates_len,
+                                       const uint32_t *weights, size_t weights_len,
+                                       const patch_box_row *rows, size_t rows_len,
+                                       uint64_t agreed,
+                                       uint16_t *triangles, size_t triangles_len,
+                                       uint64_t *work, size_t work_len);
 
 /* The judge of a patch that another program made for a direct job: `list` has the numbers of its candidates, in any order, and `stated` is the total that
  * it is said to have. A number of 13 to 17, 21 or 22, or the excess of that total over the least one, 0 where no patch of the job costs less. A job whose
- * candidates hold no triangulation has no list but those refused with 21. Places for weights and work are as in patch_box_job, and so is what is left in
+ * candidates hold no triangulation has no list but those refused with 21. Places for weights and work are as in patch_box_price, and so is what is left in
  * the work table. The list may have any length, and is lent as a table is: its pointer is not null, and it overlaps no table. */
 patch_box_judge_answer patch_box_judge(size_t n,
                                        const patch_box_candidate *candidates, size_t candidates_len,
@@ -199,6 +220,7 @@ patch_box_convert_answer patch_box_convert(const uint8_t *file, size_t file_len,
 typedef char patch_box_assert_candidate[sizeof(patch_box_candidate) == 3 ? 1 : -1];
 typedef char patch_box_assert_row[sizeof(patch_box_row) == 12 ? 1 : -1];
 typedef char patch_box_assert_patch_answer[sizeof(patch_box_patch_answer) == 24 && offsetof(patch_box_patch_answer, total) == 16 ? 1 : -1];
+typedef char patch_box_assert_price_answer[sizeof(patch_box_price_answer) == 24 && offsetof(patch_box_price_answer, total) == 16 ? 1 : -1];
 typedef char patch_box_assert_judge_answer[sizeof(patch_box_judge_answer) == 16 && offsetof(patch_box_judge_answer, excess) == 8 ? 1 : -1];
 typedef char patch_box_assert_read_answer[sizeof(patch_box_read_answer) == 16 ? 1 : -1];
 typedef char patch_box_assert_find_answer[sizeof(patch_box_find_answer) == 24 ? 1 : -1];

@@ -85,6 +85,16 @@ pub struct Sizes {
     pub work: usize,
 }
 
+/// The price of an accepted job.
+#[derive(Clone, Copy, Debug, PartialEq, Eq)]
+pub enum Price {
+    /// The least total, and the triangles of a patch that has it: the places that [`patch`] needs for
+    /// them.
+    Total { triangles: usize, total: u64 },
+    /// The candidates hold no triangulation.
+    None,
+}
+
 /// What an accepted rim or job ends in.
 #[derive(Clone, Copy, Debug, PartialEq, Eq)]
 pub enum Outcome {
@@ -111,7 +121,7 @@ pub struct Converted {
 /// Defines the enum of the numbers, from the number and its line.
 macro_rules! numbers {
     ($($name:ident = $number:literal, $line:literal;)*) => {
-        /// Why a call refused. A refusal changes no table.
+        /// Why a call refused. A refusal changes no table, but for the work table after 23.
         #[derive(Clone, Copy, Debug, PartialEq, Eq, PartialOrd, Ord, Hash)]
         #[repr(u32)]
         pub enum Number {
@@ -158,10 +168,11 @@ numbers! {
     OverLimit = 20, "the limit is below 64, and the chain has more records";
     NotATriangulation = 21, "the list to judge is not a triangulation, or names a candidate twice";
     WrongTotal = 22, "the total stated for the list to judge is not its own";
+    NotLeast = 23, "the agreed total is not the least total of the direct job";
 }
 
 impl Number {
-    /// The number itself, 1 to 22.
+    /// The number itself, 1 to 23.
     pub fn code(self) -> u32 {
         self as u32
     }
@@ -222,16 +233,31 @@ pub fn rim_within(limit: usize, file: &[u8], tables: Tables) -> Result<Outcome, 
     call!(patch_box_rim_within(limit; file; triangles, candidates, weights, rows, work)).outcome()
 }
 
-/// The tiler alone, for a direct job. A number of 13 to 17 where it is refused.
-pub fn job(
+/// The price of a direct job: its least total, without a patch. A number of 13 to 17 where it is
+/// refused.
+pub fn price(
     n: usize,
     candidates: &[Candidate],
     weights: &[u32],
     rows: &[Row],
+    work: &mut [u64],
+) -> Result<Price, Number> {
+    call!(patch_box_price(n; candidates, weights, rows; work)).price()
+}
+
+/// The patch of a direct job at an agreed total, that of [`price`] as a rule. A number of 13 to 17
+/// where the job is refused, and 23 where it has a patch and another least total; then no triangle is
+/// written, and the work table is left as after 'none'.
+pub fn patch(
+    n: usize,
+    candidates: &[Candidate],
+    weights: &[u32],
+    rows: &[Row],
+    agreed: u64,
     triangles: &mut [u16],
     work: &mut [u64],
 ) -> Result<Outcome, Number> {
-    call!(patch_box_job(n; candidates, weights, rows; triangles, work)).outcome()
+    call!(patch_box_patch(n; candidates, weights, rows with agreed; triangles, work)).outcome()
 }
 
 /// The judge of a patch that another program made for a direct job: by how much its stated total
@@ -327,15 +353,27 @@ impl archive::Find {
     }
 }
 
+/// The triangle count and the total of an answer, or nothing for 'none'.
+fn settled(number: u32, triangles: usize, total: u64) -> Result<Option<(usize, u64)>, Number> {
+    accepted(number, [triangles, total as usize])?;
+    match (triangles, total) {
+        (0, 0) => Ok(None),
+        (0, _) => panic!("the archive and patch_box.rs differ: none with total {total}"),
+        counts => Ok(Some(counts)),
+    }
+}
+
 impl archive::Patch {
     fn outcome(self) -> Result<Outcome, Number> {
-        let archive::Patch { number, triangles, total } = self;
-        accepted(number, [triangles, total as usize])?;
-        match (triangles, total) {
-            (0, 0) => Ok(Outcome::None),
-            (0, _) => panic!("the archive and patch_box.rs differ: none with total {total}"),
-            _ => Ok(Outcome::Patch { triangles, total }),
-        }
+        let settled = settled(self.number, self.triangles, self.total)?;
+        Ok(settled.map_or(Outcome::None, |(triangles, total)| Outcome::Patch { triangles, total }))
+    }
+}
+
+impl archive::Price {
+    fn price(self) -> Result<Price, Number> {
+        let settled = settled(self.number, self.triangles, self.total)?;
+        Ok(settled.map_or(Price::None, |(triangles, total)| Price::Total { triangles, total }))
     }
 }
 
@@ -383,6 +421,13 @@ mod archive {
 
     #[repr(C)]
     pub struct Patch {
+        pub number: u32,
+        pub triangles: usize,
+        pub total: u64,
+    }
+
+    #[repr(C)]
+    pub struct Price {
         pub number: u32,
         pub triangles: usize,
         pub total: u64,
@@ -460,7 +505,7 @@ mod archive {
             work_len: usize,
         ) -> Patch;
 
-        pub fn patch_box_job(
+        pub fn patch_box_price(
             n: usize,
             candidates: *const Candidate,
             candidates_len: usize,
@@ -468,6 +513,19 @@ mod archive {
             weights_len: usize,
             rows: *const Row,
             rows_len: usize,
+            work: *mut u64,
+            work_len: usize,
+        ) -> Price;
+
+        pub fn patch_box_patch(
+            n: usize,
+            candidates: *const Candidate,
+            candidates_len: usize,
+            weights: *const u32,
+            weights_len: usize,
+            rows: *const Row,
+            rows_len: usize,
+            agreed: u64,
             triangles: *mut u16,
             triangles_len: usize,
             work: *mut u64,

@@ -2,7 +2,7 @@
 
 #![forbid(unsafe_code)]
 
-use patch_box::{Number, MAX_CANDIDATES, MAX_FILE, MAX_ROWS, MAX_TRIANGLES};
+use patch_box::{Number, Outcome, Price, MAX_CANDIDATES, MAX_FILE, MAX_ROWS, MAX_TRIANGLES};
 use patch_box::{MAX_VERTICES, MIN_VERTICES, TRIM_VERTICES};
 
 const HEADER: &str = include_str!("../patch_box.h");
@@ -32,7 +32,7 @@ fn shouted(name: &str) -> String {
 #[test]
 fn numbers() {
     let codes: Vec<u32> = Number::ALL.iter().map(|number| number.code()).collect();
-    assert_eq!(codes, (1..=22).collect::<Vec<u32>>());
+    assert_eq!(codes, (1..=23).collect::<Vec<u32>>());
     for number in Number::ALL {
         let name = shouted(&format!("{number:?}"));
         assert_eq!(constant(&name), (number.code() as usize, number.reason()));
@@ -40,7 +40,7 @@ fn numbers() {
         assert_eq!(Number::of_code(number.code()), Some(*number));
         assert_eq!(number.to_string(), format!("refused {}: {}", number.code(), number.reason()));
     }
-    assert_eq!([0, 23, u32::MAX].map(Number::of_code), [None; 3]);
+    assert_eq!([0, 24, u32::MAX].map(Number::of_code), [None; 3]);
 }
 
 #[test]
@@ -69,7 +69,7 @@ fn calls(text: &'static str) -> Vec<&'static str> {
 fn same_calls() {
     let declared = calls(include_str!("../patch_box.rs"));
     assert_eq!(calls(HEADER), declared);
-    assert_eq!(declared.len(), 11);
+    assert_eq!(declared.len(), 12);
 }
 
 /// The bound on rows, counted: every pair of triples of 64 in which one hangs on the other.
@@ -99,8 +99,10 @@ fn empty_tables_are_lent() {
     assert_eq!(patch_box::find(&[], &mut [], &mut [], &mut []), Err(Number::Length));
     assert_eq!(patch_box::find_within(3, &[], &mut [], &mut [], &mut []), Err(Number::Length));
     assert_eq!(patch_box::convert(&[], &mut []), Err(Number::Length));
-    assert_eq!(patch_box::job(3, &[], &[], &[], &mut [], &mut []), Err(Number::TableTooShort));
-    assert_eq!(patch_box::job(3, &[], &[], &[], &mut [0], &mut []), Ok(patch_box::Outcome::None));
+    assert_eq!(patch_box::price(3, &[], &[], &[], &mut []), Ok(Price::None));
+    let patched = |places: &mut [u16]| patch_box::patch(3, &[], &[], &[], 0, places, &mut []);
+    assert_eq!(patched(&mut []), Err(Number::TableTooShort));
+    assert_eq!(patched(&mut [0]), Ok(Outcome::None));
     let judged = patch_box::judge(3, &[], &[], &[], &[], 0, &mut []);
     assert_eq!(judged, Err(Number::NotATriangulation));
 }

@@ -4,48 +4,17 @@
 
 mod common;
 
-use common::{rim_file, wavy_edge};
-use patch_box::{Candidate, Number, Outcome, OwnedTables, Row};
-
-/// A direct job, and how many places are lent for work.
-#[derive(Clone)]
-struct Job {
-    n: usize,
-    candidates: Vec<Candidate>,
-    weights: Vec<u32>,
-    rows: Vec<Row>,
-    places: usize,
-}
-
-/// The job of rim file P (rule 6.1): its two triangulations cost 943 and 1000.
-fn p() -> Job {
-    Job {
-        n: 4,
-        candidates: vec![[0, 1, 2], [0, 1, 3], [0, 2, 3], [1, 2, 3]],
-        weights: vec![320, 256, 320, 373],
-        rows: vec![[1, 3, 314], [2, 0, 360]],
-        places: 6,
-    }
-}
-
-/// No call writes it.
-const GUARD: u64 = u64::MAX;
+use common::{damaged_p, p, rim_file, wavy_edge, Job};
+use patch_box::{Number, Outcome, OwnedTables};
 
 impl Job {
-    fn with(mut self, change: impl FnOnce(&mut Job)) -> Job {
-        change(&mut self);
-        self
-    }
-
     /// The judge's answer. An acceptance leaves zeros in a work place for each candidate and nothing
     /// else, a refusal nothing at all.
     fn judge(&self, list: &[u16], stated: u64) -> Result<u64, Number> {
-        let Job { n, candidates, weights, rows, places } = self;
-        let mut work = vec![GUARD; *places];
+        let Job { n, candidates, weights, rows, .. } = self;
+        let mut work = self.guarded_work();
         let judged = patch_box::judge(*n, candidates, weights, rows, list, stated, &mut work);
-        let cleared = judged.map_or(0, |_| candidates.len());
-        assert!(work[..cleared].iter().all(|&place| place == 0), "{list:?}: {work:?}");
-        assert!(work[cleared..].iter().all(|&place| place == GUARD), "{list:?}: {work:?}");
+        self.expect_work(&work, judged.is_ok());
         judged
     }
 }
@@ -122,25 +91,10 @@ fn totals_that_are_not_the_lists() {
     }
 }
 
-/// 14, 13, 15, 16 and 17 in this order, and each before 21 and 22: a job has the faults of those above
-/// it too. No length of the list gives 13.
+/// 14, 13, 15, 16 and 17 come before 21 and 22. No length of the list gives 13.
 #[test]
 fn numbers_of_the_job_come_first() {
-    let heavy = p().with(|job| job.weights[2] = 2_000_000_001);
-    let row = heavy.clone().with(|job| job.rows.swap(0, 1));
-    let candidate = row.clone().with(|job| job.candidates.swap(0, 1));
-    let short_weights = candidate.clone().with(|job| job.weights.truncate(3));
-    let short_work = candidate.clone().with(|job| job.places = 3);
-    let count = short_work.clone().with(|job| job.n = 65);
-    for (job, number) in [
-        (heavy, Number::Weight),
-        (row, Number::Row),
-        (candidate, Number::Candidate),
-        (short_weights, Number::TableTooShort),
-        (short_work, Number::TableTooShort),
-        (count.clone(), Number::VertexCount),
-        (count.with(|job| job.n = 2), Number::VertexCount),
-    ] {
+    for (job, number) in damaged_p() {
         for list in [&[][..], &[1, 3], &[3, 1, 1], &[1; 70]] {
             for stated in [943, 944] {
                 assert_eq!(job.judge(list, stated), Err(number), "{list:?}");

@@ -9,7 +9,8 @@ pub type Row = [u32; 3];
 /// Bytes of the longest rim file (rule 1.4), and so places for every converted one.
 pub const MOST_BYTES: usize = 10 + 22 * 256;
 
-/// Rule 5.2: number 0 with triangles is a patch, without triangles it is 'none'.
+/// Rule 5.2: number 0 with triangles is a patch, without triangles it is 'none'. The price of a patch
+/// has the same numbers (rule 5.11).
 #[derive(Clone, Copy, Debug, PartialEq, Eq)]
 pub struct PatchAnswer {
     pub number: u32,
@@ -211,6 +212,12 @@ impl Tables {
         Tables { triangles: Lent::holding(list), ..Tables::of_job(job, 0, work) }
     }
 
+    /// Zeros in a work place for each candidate: what a call on a direct job leaves there.
+    pub fn clear_work(&mut self) {
+        let candidates = self.candidates.view().len();
+        self.work.table()[..candidates].fill(0);
+    }
+
     /// The tables after a rim that has these lists and this patch (rules 3.8 and 3.9).
     pub fn after(mut self, lists: &Job, walk: &[u16]) -> Tables {
         self.triangles.fill(walk);
@@ -262,8 +269,12 @@ pub trait Calls {
     /// The one call over all three stages.
     fn patch_rim(&self, file: &[u8], tables: &mut Tables) -> PatchAnswer;
 
-    /// A direct job, which stands in the candidate, weight and row tables.
-    fn patch_job(&self, n: usize, tables: &mut Tables) -> PatchAnswer;
+    /// The price of a direct job, which stands in the candidate, weight and row tables; the triangle
+    /// table is not lent.
+    fn price(&self, n: usize, tables: &mut Tables) -> PatchAnswer;
+
+    /// The patch of a direct job at an agreed total.
+    fn patch(&self, n: usize, agreed: u64, tables: &mut Tables) -> PatchAnswer;
 
     /// The judge of a patch from elsewhere: a direct job, the list in the triangle table, which is
     /// only read, and the stated total.

@@ -97,7 +97,61 @@ pub fn compare_conversion(
     answers[0]
 }
 
-/// A direct job, with so many places in the triangle and work tables.
+/// What a call on a direct job leaves: zeros in a work place for each candidate, after 23 too, and the
+/// triangles that it filled in. After any other refusal all is as before.
+fn expect_left(
+    answer: PatchAnswer,
+    filled: usize,
+    [before, left]: [&Tables; 2],
+    case: &dyn Fn() -> String,
+) {
+    let mut expected = before.clone();
+    if answer.number != 0 {
+        assert_eq!(answer, PatchAnswer::refused(answer.number), "{}", case());
+    }
+    if [0, 23].contains(&answer.number) {
+        expected.clear_work();
+    }
+    expected.triangles.fill(&left.triangles.view()[..filled]);
+    assert_eq!(left.difference(&expected), None, "{}", case());
+}
+
+/// The price of the direct job in the tables, and what it leaves in them.
+pub fn compare_price(
+    expected: &dyn Calls,
+    tested: &dyn Calls,
+    n: usize,
+    tables: &Tables,
+) -> (PatchAnswer, Tables) {
+    let case = || format!("the price of {n} vertices in {tables:?}");
+    let mut left = [tables.clone(), tables.clone()];
+    let answers = [expected.price(n, &mut left[0]), tested.price(n, &mut left[1])];
+    same([expected, tested], answers, left[0].difference(&left[1]), &case);
+    let [left, _] = left;
+    expect_left(answers[0], 0, [tables, &left], &case);
+    (answers[0], left)
+}
+
+/// The patch of the direct job in the tables at an agreed total, and what it leaves in them.
+pub fn compare_patch(
+    expected: &dyn Calls,
+    tested: &dyn Calls,
+    n: usize,
+    agreed: u64,
+    tables: &Tables,
+) -> (PatchAnswer, Tables) {
+    let case = || format!("the patch at {agreed} of {n} vertices in {tables:?}");
+    let mut left = [tables.clone(), tables.clone()];
+    let answers = [expected.patch(n, agreed, &mut left[0]), tested.patch(n, agreed, &mut left[1])];
+    same([expected, tested], answers, left[0].difference(&left[1]), &case);
+    let [left, _] = left;
+    expect_left(answers[0], answers[0].triangles, [tables, &left], &case);
+    (answers[0], left)
+}
+
+/// A direct job, with so many places in the triangle and work tables: its price, and then its patch at
+/// that total over the same tables, which is the answer. What is tested gives the same patch without a
+/// price before, and none at one more.
 pub fn compare_job(
     expected: &dyn Calls,
     tested: &dyn Calls,
@@ -106,10 +160,20 @@ pub fn compare_job(
 ) -> PatchAnswer {
     let case = || format!("{places:?} places and {job:?}");
     let before = Tables::of_job(job, places[0], places[1]);
-    let mut left = [before.clone(), before];
-    let answers = [expected.patch_job(job.n, &mut left[0]), tested.patch_job(job.n, &mut left[1])];
-    same([expected, tested], answers, left[0].difference(&left[1]), &case);
-    answers[0]
+    let (price, priced) = compare_price(expected, tested, job.n, &before);
+    let (answer, patched) = compare_patch(expected, tested, job.n, price.total, &priced);
+    let short = price.number != 14 && places[0] < job.n - 2;
+    assert_eq!(answer, if short { PatchAnswer::refused(13) } else { price }, "{}", case());
+    let mut alone = before.clone();
+    assert_eq!(tested.patch(job.n, price.total, &mut alone), answer, "{}", case());
+    let left = if answer.number == 0 { &patched } else { &before };
+    assert_eq!(alone.difference(left), None, "{}", case());
+    let mut dearer = before.clone();
+    let other = tested.patch(job.n, price.total + 1, &mut dearer);
+    let of_other = if answer.triangles > 0 { PatchAnswer::refused(23) } else { answer };
+    assert_eq!(other, of_other, "{}", case());
+    expect_left(other, 0, [&before, &dearer], &case);
+    answer
 }
 
 /// The judge on a patch of a direct job, with so many places in the work table. An acceptance leaves

@@ -21,13 +21,13 @@ pub fn undamaged() -> Lending {
 /// What is wrong, by its number, and how it is done.
 pub type Damage = (u32, &'static str, fn(&mut Lending));
 
-/// Places for triangles that the tiler is lent and the judge is not.
+/// Places for triangles, which are lent for a patch, and not for a price or a judgement.
 const OF_TRIANGLES: [Damage; 2] = [
     (13, "no triangle place", |l| l.places[0] = 0),
     (13, "one triangle place short", |l| l.places[0] = 2),
 ];
 
-/// What is wrong for the tiler and for the judge.
+/// What is wrong for all three.
 pub const OF_JOBS: [Damage; 24] = [
     (14, "n 0", |l| l.job.n = 0),
     (14, "n 2", |l| l.job.n = 2),
@@ -58,7 +58,7 @@ pub const OF_JOBS: [Damage; 24] = [
     }),
 ];
 
-/// Each number of the tiler in several ways.
+/// Each number of the job to be patched, in several ways.
 pub fn all() -> Vec<Damage> {
     [&OF_JOBS[..], &OF_TRIANGLES[..]].concat()
 }

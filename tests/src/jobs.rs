@@ -1,9 +1,18 @@
 //! Direct jobs.
 
-use crate::calls::{Calls, Job, Row, Tables, Triangle};
+use crate::calls::{Calls, Job, PatchAnswer, Row, Tables, Triangle};
 use crate::law::finder::hangs_on;
 use crate::random::Random;
 use std::collections::HashMap;
+
+pub fn job(n: usize, candidates: &[Triangle], weights: &[u32], rows: &[Row]) -> Job {
+    Job { n, candidates: candidates.to_vec(), weights: weights.to_vec(), rows: rows.to_vec() }
+}
+
+/// The job of rim file P (rule 6.1), whose tilings 1, 3 and 2, 0 cost 943 and 1000.
+pub fn p() -> Job {
+    job(4, &all_triples(4), &[320, 256, 320, 373], &[[1, 3, 314], [2, 0, 360]])
+}
 
 /// Every triple of n vertices.
 pub fn all_triples(n: usize) -> Vec<Triangle> {
@@ -28,6 +37,12 @@ pub fn job_of(calls: &dyn Calls, file: &[u8], tables: &mut Tables) -> Job {
         weights: tables.weights.view()[..found.candidates].to_vec(),
         rows: tables.rows.view()[..found.rows].to_vec(),
     }
+}
+
+/// Price and patch in turn, over the same tables. Nothing is agreed on where there is no price.
+pub fn price_and_patch(calls: &dyn Calls, n: usize, tables: &mut Tables) -> PatchAnswer {
+    let price = calls.price(n, tables);
+    calls.patch(n, price.total, tables)
 }
 
 /// Every hanging pair (outer, inner) in order, with weight 0.

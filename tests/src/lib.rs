@@ -18,6 +18,8 @@ pub mod library;
 pub mod normals;
 pub mod patches;
 pub mod planes;
+pub mod prices;
 pub mod programs;
 pub mod random;
 pub mod rims;
+pub mod told;

@@ -10,7 +10,7 @@ mod linked {
         Calls, ConvertAnswer, FindAnswer, JudgeAnswer, Lent, PatchAnswer, Places, ReadAnswer,
         Tables,
     };
-    use patch_box::{Number, Outcome};
+    use patch_box::{Number, Outcome, Price};
 
     /// The calls with a limit, or those without one.
     pub struct Library {
@@ -48,12 +48,30 @@ mod linked {
             })
         }
 
-        fn patch_job(&self, n: usize, tables: &mut Tables) -> PatchAnswer {
-            patch_answer(patch_box::job(
+        fn price(&self, n: usize, tables: &mut Tables) -> PatchAnswer {
+            let price = patch_box::price(
                 n,
                 tables.candidates.view(),
                 tables.weights.view(),
                 tables.rows.view(),
+                tables.work.table(),
+            );
+            match price {
+                Err(number) => PatchAnswer::refused(number.code()),
+                Ok(Price::None) => PatchAnswer::NONE,
+                Ok(Price::Total { triangles, total }) => {
+                    PatchAnswer { number: 0, triangles, total }
+                }
+            }
+        }
+
+        fn patch(&self, n: usize, agreed: u64, tables: &mut Tables) -> PatchAnswer {
+            patch_answer(patch_box::patch(
+                n,
+                tables.candidates.view(),
+                tables.weights.view(),
+                tables.rows.view(),
+                agreed,
                 tables.triangles.table(),
                 tables.work.table(),
             ))

@@ -1,8 +1,8 @@
 //! Patches of direct jobs as other programs might make them, right ones and wrong ones.
 
-use crate::calls::{Job, JudgeAnswer, Patch, Row, Triangle};
+use crate::calls::{Job, JudgeAnswer, Patch, Triangle};
 use crate::interval;
-use crate::jobs::{all_triples, tiling};
+use crate::jobs::{all_triples, job, p, tiling};
 use crate::law::judge;
 use crate::random::Random;
 
@@ -67,7 +67,7 @@ fn replace_one(list: &mut [u16], number: u16, random: &mut Random) {
 }
 
 /// A candidate that the list does not name, or where it names them all a number past them.
-fn another(job: &Job, list: &[u16], random: &mut Random) -> u16 {
+pub fn another(job: &Job, list: &[u16], random: &mut Random) -> u16 {
     let mut others: Vec<u16> = (0..job.candidates.len() as u16).collect();
     others.retain(|k| !list.contains(k));
     match others.is_empty() {
@@ -105,10 +105,6 @@ pub fn all_of(job: &Job, random: &mut Random) -> Vec<Patch> {
         }
     }
     patches
-}
-
-fn job(n: usize, candidates: &[Triangle], weights: &[u32], rows: &[Row]) -> Job {
-    Job { n, candidates: candidates.to_vec(), weights: weights.to_vec(), rows: rows.to_vec() }
 }
 
 /// A list with a stated total, and the number and the excess of the answer.
@@ -157,7 +153,6 @@ const OF_FIVE: [Case; 6] = [
 /// Patches worked by hand, with their answers. In the last, a tiling and the four faces of a solid,
 /// each edge is in as many triangles as in a tiling, but those of the solid are on one side.
 pub fn worked() -> Vec<(Job, Patch, JudgeAnswer)> {
-    let p = job(4, &all_triples(4), &[320, 256, 320, 373], &[[1, 3, 314], [2, 0, 360]]);
     let one = job(3, &[[0, 1, 2]], &[5], &[]);
     let none = job(3, &[], &[], &[]);
     let heavy = 2_000_000_000;
@@ -169,7 +164,7 @@ pub fn worked() -> Vec<(Job, Patch, JudgeAnswer)> {
     let solid = numbers(&eight, &[[1, 3, 5], [1, 3, 7], [1, 5, 7], [3, 5, 7]]);
     let fan_and_solid = [&fan[..], &solid].concat();
     let cases: [(Job, &[Case]); 7] = [
-        (p, &OF_P),
+        (p(), &OF_P),
         (one, &OF_ONE),
         (none, &[(&[], 0, 21, 0)]),
         (five, &OF_FIVE),

@@ -4,7 +4,7 @@
 use outside_tests::calls::{PatchAnswer, Places, Tables, Triangle};
 use outside_tests::comparison::{compare_calls, compare_finder, compare_rim};
 use outside_tests::fast::FAST;
-use outside_tests::jobs::job_of;
+use outside_tests::jobs::{job_of, price_and_patch};
 use outside_tests::law::finder::{candidates, has_rim_edge, is_flat, length, normal};
 use outside_tests::law::{BY_INTERVALS, BY_SETS};
 use outside_tests::library::{each, under_test};
@@ -95,7 +95,7 @@ fn lists_as_a_direct_job() {
         let answer = under_test().patch_rim(&file, &mut of_rim);
         let job = job_of(under_test(), &file, &mut tables());
         let mut of_job = Tables::of_job(&job, n - 2, job.candidates.len());
-        assert_eq!(under_test().patch_job(n, &mut of_job), answer, "{points:?}");
+        assert_eq!(price_and_patch(under_test(), n, &mut of_job), answer, "{points:?}");
         let walks = [of_rim, of_job].map(|left| left.triangles.view()[..answer.triangles].to_vec());
         assert_eq!(walks[0], walks[1], "{points:?}");
     }

@@ -1,7 +1,8 @@
 //! The worked cases (rules 6.1 to 6.5 and 6.8) and others worked by hand, by the reference and by what
 //! is under test.
 
-use outside_tests::calls::{Calls, Job, PatchAnswer, Places, Row, Tables, Triangle};
+use outside_tests::calls::{Calls, Job, PatchAnswer, Places, Tables, Triangle};
+use outside_tests::jobs::{job, p};
 use outside_tests::law::finder::{bend, bend_of};
 use outside_tests::law::grid::{grid_number, GridNumber};
 use outside_tests::law::{reader, tilings, BY_INTERVALS, BY_SETS};
@@ -15,27 +16,20 @@ fn all() -> [&'static dyn Calls; 3] {
     [&BY_SETS, &BY_INTERVALS, under_test()]
 }
 
-fn job(n: usize, candidates: &[Triangle], weights: &[u32], rows: &[Row]) -> Job {
-    Job { n, candidates: candidates.to_vec(), weights: weights.to_vec(), rows: rows.to_vec() }
-}
-
-/// The answer, the triangles and the work table of a job, by each.
+/// The price, the patch, the triangles and the work table of a job, by each.
 fn expect(job: &Job, number: u32, walk: &[u16], total: u64) {
     for calls in all() {
         let before = Tables::of_job(job, job.n, job.candidates.len() + 1);
         let mut left = before.clone();
-        let answer = calls.patch_job(job.n, &mut left);
-        assert_eq!(
-            answer,
-            PatchAnswer { number, triangles: walk.len(), total },
-            "{}",
-            calls.name()
-        );
+        let answer = PatchAnswer { number, triangles: walk.len(), total };
         let mut expected = before;
-        expected.triangles.table()[..walk.len()].copy_from_slice(walk);
         if number == 0 {
-            expected.work.table()[..job.candidates.len()].fill(0);
+            expected.clear_work();
         }
+        assert_eq!(calls.price(job.n, &mut left), answer, "{}", calls.name());
+        assert_eq!(left.difference(&expected), None, "{}", calls.name());
+        assert_eq!(calls.patch(job.n, total, &mut left), answer, "{}", calls.name());
+        expected.triangles.fill(walk);
         assert_eq!(left.difference(&expected), None, "{}", calls.name());
     }
 }
@@ -73,8 +67,7 @@ fn expect_refusal(points: &[Point], number: u32) {
 
 #[test]
 fn rim_file_p() {
-    let lists = job(4, &P_TRIPLES, &[320, 256, 320, 373], &[[1, 3, 314], [2, 0, 360]]);
-    expect_rim(&P, [1, 1], &lists, &[1, 3], 943);
+    expect_rim(&P, [1, 1], &p(), &[1, 3], 943);
 }
 
 #[test]

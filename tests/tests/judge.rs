@@ -4,7 +4,9 @@
 use outside_tests::calls::{Calls, Job, JudgeAnswer, Patch, Tables, Triangle};
 use outside_tests::comparison::compare_judge;
 use outside_tests::damaged_jobs::{damaged, disturb, each_pair, undamaged, Lending, OF_JOBS};
-use outside_tests::jobs::{all_triples, job_of, job_over, random_job, random_tiling};
+use outside_tests::jobs::{
+    all_triples, job_of, job_over, price_and_patch, random_job, random_tiling,
+};
 use outside_tests::law::finder::has_rim_edge;
 use outside_tests::law::{judge, tilings, Law, BY_INTERVALS, BY_SETS};
 use outside_tests::library::under_test;
@@ -202,7 +204,7 @@ fn largest_totals() {
     }
 }
 
-/// The patch that the tiler or the one call found for a job, over its lists; whether there is one.
+/// The patch that was found for a job, alone or by the one call, over its lists; whether there is one.
 fn judge_found(job: &Job, list: &[u16], total: u64, random: &mut Random) -> bool {
     if list.is_empty() {
         let all: Vec<u16> = (0..job.candidates.len() as u16).collect();
@@ -228,7 +230,7 @@ fn answers_of_the_tiler() {
             let highest = random.one_of(&[0, 1, 3, 1000]);
             let job = random_job(n, keep, random.one_of(&[100, 50, 0]), highest, &mut random);
             let mut tables = Tables::of_job(&job, n - 2, job.candidates.len());
-            let answer = under_test().patch_job(n, &mut tables);
+            let answer = price_and_patch(under_test(), n, &mut tables);
             let list = &tables.triangles.view()[..answer.triangles];
             patches += judge_found(&job, list, answer.total, &mut random) as usize;
         }

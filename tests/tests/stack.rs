@@ -3,7 +3,7 @@
 #![cfg(feature = "library")]
 
 use outside_tests::calls::{Lent, Places, Tables, MOST_BYTES};
-use outside_tests::jobs::{random_job, random_tiling};
+use outside_tests::jobs::{price_and_patch, random_job, random_tiling};
 use outside_tests::law::judge;
 use outside_tests::library::under_test;
 use outside_tests::patches::numbers;
@@ -48,7 +48,8 @@ fn every_call() {
     let stated = judge::total(&job, &list);
     let mut to_judge = Tables::of_patch(&job, &list, job.candidates.len());
     on_a_small_stack(move || {
-        under_test().patch_job(64, &mut tables);
+        assert_eq!(price_and_patch(under_test(), 64, &mut tables).number, 0);
+        assert_eq!(under_test().patch(64, u64::MAX, &mut tables).number, 23);
         assert_eq!(under_test().judge(64, stated, &mut to_judge).number, 0);
     });
 }

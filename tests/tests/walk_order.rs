@@ -2,7 +2,7 @@
 
 use outside_tests::calls::{Job, Tables, Triangle};
 use outside_tests::comparison::compare_job;
-use outside_tests::jobs::{hanging_pairs, random_tiling, tiling};
+use outside_tests::jobs::{hanging_pairs, price_and_patch, random_tiling, tiling};
 use outside_tests::law::{Law, BY_INTERVALS, BY_SETS};
 use outside_tests::library::under_test;
 use outside_tests::random::{seeds, Random};
@@ -39,7 +39,7 @@ fn listed_whole(law: &Law, job: &Job, random: &mut Random) -> usize {
     let places = [count + random.below(3), count + random.below(3)];
     assert_eq!(compare_job(law, under_test(), job, places).triangles, count);
     let mut tables = Tables::of_job(job, places[0], places[1]);
-    under_test().patch_job(job.n, &mut tables);
+    price_and_patch(under_test(), job.n, &mut tables);
     most_waiting(job.n, &job.candidates, &tables.triangles.view()[..count])
 }
 

@@ -3,11 +3,13 @@
 use outside_tests::calls::{Calls, Job, JudgeAnswer, Patch, Tables};
 use outside_tests::damaged_jobs::{damaged, OF_JOBS};
 use outside_tests::jobs::random_job;
-use outside_tests::law::judge::{is_tiling, named, number_of_job, total};
+use outside_tests::law::judge::{is_tiling, named, total};
+use outside_tests::law::tests_of_jobs::{self, number_without_triangles};
 use outside_tests::law::tilings::{best, walk};
-use outside_tests::law::{tests_of_jobs, BY_SETS};
+use outside_tests::law::BY_SETS;
 use outside_tests::patches::{all_of, least_total, worked};
 use outside_tests::random::Random;
+use outside_tests::told::{Told, Wrong};
 
 /// What a judge knows of a patch, and of its job.
 #[derive(Clone, Copy)]
@@ -32,7 +34,7 @@ struct Steps {
 }
 
 const RIGHT: Steps = Steps {
-    number_of_job: |job, _, work| number_of_job(job, work),
+    number_of_job: |job, _, work| number_without_triangles(job, work),
     is_tiling,
     total,
     number_of_patch,
@@ -132,12 +134,12 @@ fn wrong_total_first(known: Known) -> Option<u32> {
 
 fn length_first(job: &Job, list: &[u16], work: usize) -> Option<u32> {
     match list.len() + 2 == job.n {
-        true => number_of_job(job, work),
+        true => number_without_triangles(job, work),
         false => Some(21),
     }
 }
 
-const WRONG: [(&str, fn(&mut Steps)); 21] = [
+const WRONG: [Wrong<Steps>; 21] = [
     ("edges without their sides", |s| {
         s.is_tiling = |job, list| edges_fit(job, list, |uses| uses == 0 || uses == 2);
     }),
@@ -181,41 +183,26 @@ const WRONG: [(&str, fn(&mut Steps)); 21] = [
     ("work not cleared", |s| s.cleared = |_, _, _| 0),
 ];
 
-/// How many cases tell each wrong judge from the right one.
-struct Told {
-    times: [(&'static str, usize); WRONG.len()],
+fn by_nothing() -> Told<Steps> {
+    Told::by_nothing(RIGHT, &WRONG)
 }
 
-impl Told {
-    fn by_nothing() -> Told {
-        Told { times: WRONG.map(|(name, _)| (name, 0)) }
-    }
-
-    /// One case more for each patch of a job. The steps by themselves are right.
-    fn by(&mut self, job: &Job, patches: &[Patch], work: usize) {
-        let least = number_of_job(job, work).map_or_else(|| least_total(job), |_| 0);
-        for patch in patches {
-            let mut tables = Tables::of_patch(job, &patch.list, work);
-            let right = (BY_SETS.judge(job.n, patch.stated, &mut tables), tables);
-            assert!(RIGHT.judge(job, patch, least, work) == right, "{patch:?} and {job:?}");
-            for ((_, change), (_, times)) in WRONG.iter().zip(&mut self.times) {
-                let mut steps = RIGHT;
-                change(&mut steps);
-                *times += (steps.judge(job, patch, least, work) != right) as usize;
-            }
-        }
-    }
-
-    fn expect_over(&self, least: usize) {
-        assert!(self.times.iter().all(|&(_, times)| times > least), "{:?}", self.times);
+/// One case more for each patch of a job.
+fn tell(told: &mut Told<Steps>, job: &Job, patches: &[Patch], work: usize) {
+    let least = number_without_triangles(job, work).map_or_else(|| least_total(job), |_| 0);
+    for patch in patches {
+        let mut tables = Tables::of_patch(job, &patch.list, work);
+        let right = (BY_SETS.judge(job.n, patch.stated, &mut tables), tables);
+        let case = || format!("{patch:?} and {job:?}");
+        told.by(&right, |steps| steps.judge(job, patch, least, work), &case);
     }
 }
 
 #[test]
 fn told_by_the_worked_cases() {
-    let mut told = Told::by_nothing();
+    let mut told = by_nothing();
     for (job, patch, _) in worked() {
-        told.by(&job, &[patch], job.candidates.len() + 1);
+        tell(&mut told, &job, &[patch], job.candidates.len() + 1);
     }
     told.expect_over(0);
 }
@@ -224,19 +211,19 @@ fn told_by_the_worked_cases() {
 #[test]
 fn told_by_patches_of_small_jobs() {
     let mut random = Random::new(1);
-    let mut told = Told::by_nothing();
+    let mut told = by_nothing();
     for case in 0..360 {
         let keep = random.one_of(&[100, 70]);
         let highest = random.one_of(&[0, 1, 1000, 2_000_000_000]);
         let job = random_job(3 + case % 3, keep, 70, highest, &mut random);
         let patches = all_of(&job, &mut random);
-        told.by(&job, &patches, job.candidates.len() + random.below(2));
+        tell(&mut told, &job, &patches, job.candidates.len() + random.below(2));
     }
     let lists: [&[u16]; 3] = [&[0, 3, 5], &[0, 3], &[]];
     let patches = lists.map(|list| Patch { list: list.to_vec(), stated: 21 });
     for damage in OF_JOBS {
         let lending = damaged(&[damage]);
-        told.by(&lending.job, &patches, lending.places[1]);
+        tell(&mut told, &lending.job, &patches, lending.places[1]);
     }
     told.expect_over(30);
 }

@@ -11,12 +11,15 @@ usage: ./rim make [--area N] [--bend N] [--decimal-comma] [-o FILE] POINTS
        ./rim show [--list] [-o FILE] RIM
        ./rim draw [--from VIEW] [-o FILE] RIM
        ./rim stl|obj [-o FILE] RIM
+       ./rim price [-o FILE] RIM
        ./rim judge [-o FILE] RIM PATCH
 
   make   a rim file from a list of points
   show   a rim file as text: header, records, vertices, the outcome in words
   draw   the patch as a picture (SVG)
   stl    the patch as a mesh (ASCII STL), obj as OBJ; both in millimetres
+  price  the patch's total, triangles and area in square millimetres, in three lines, without the patch;
+         or none, or refused K
   judge  a patch that another program made: accepted EXCESS, which is how far its total is above the
          least one, or refused K
 
@@ -47,7 +50,7 @@ not run, or PATCH cannot be read as a patch of RIM.
 ";
 
 /// The commands in words.
-const COMMANDS: &str = "make, show, draw, stl, obj or judge";
+const COMMANDS: &str = "make, show, draw, stl, obj, price or judge";
 
 /// What to write. A picture without a view is seen from where the rim shows best.
 #[derive(Clone, Debug, PartialEq)]
@@ -58,6 +61,7 @@ pub enum Command {
     Draw(Option<View>),
     Stl,
     Obj,
+    Price,
     Judge { patch: Place },
 }
 
@@ -152,6 +156,7 @@ impl Options {
             "draw" => Ok(Command::Draw(self.view)),
             "stl" => Ok(Command::Stl),
             "obj" => Ok(Command::Obj),
+            "price" => Ok(Command::Price),
             "judge" => Ok(Command::Judge { patch: self.patch.clone() }),
             _ => Err(format!("there is no command '{command}': {COMMANDS}")),
         }

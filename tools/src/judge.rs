@@ -1,6 +1,7 @@
 //! A patch from elsewhere, judged by the library. It decides; this only says where to look.
 
 use crate::geometry::rim_edges;
+use crate::job::Job;
 use crate::patch_text::{parse, StatedPatch, StatedTriangle};
 use patch_box::{Number, OwnedTables};
 
@@ -32,23 +33,10 @@ pub fn judge(file: &[u8], text: &[u8]) -> Result<Judgement, String> {
     })
 }
 
-/// The direct job of a rim (rule 3.1).
-struct Job {
-    n: usize,
-    tables: OwnedTables,
-}
-
 /// No candidate's number: no rim has so many.
 const NO_CANDIDATE: u16 = u16::MAX;
 
 impl Job {
-    fn of(file: &[u8]) -> Result<Job, Number> {
-        let mut tables = OwnedTables::new(patch_box::sizes(file)?);
-        let OwnedTables { candidates, weights, rows, .. } = &mut tables;
-        patch_box::find(file, candidates, weights, rows)?;
-        Ok(Job { n: patch_box::read(file)?, tables })
-    }
-
     /// The candidate numbers of triangles. Candidates stand in rising order.
     fn numbers(&self, triangles: &[StatedTriangle]) -> Vec<u16> {
         let candidates: Vec<[u64; 3]> =

@@ -1,11 +1,12 @@
 //! Rim files for people: made from a list of points, shown as text, their patches as meshes and
-//! pictures, and patches from elsewhere judged. Rules are those of docs/SPECIFICATION.md.
+//! pictures, priced, and patches from elsewhere judged. Rules are those of docs/SPECIFICATION.md.
 
 #![forbid(unsafe_code)]
 
 pub mod arguments;
 pub mod diagnosis;
 pub mod geometry;
+pub mod job;
 pub mod judge;
 pub mod list;
 pub mod mesh;
@@ -14,6 +15,7 @@ pub mod patch;
 pub mod patch_text;
 pub mod picture;
 pub mod points;
+pub mod price;
 pub mod rim_file;
 pub mod show;
 pub mod text;

@@ -9,6 +9,7 @@ use rim::judge::{judge, Judgement};
 use rim::output::{is_screen, read, reason, write, Place};
 use rim::patch::{close, Patch};
 use rim::points::{points, Comma};
+use rim::price::price;
 use rim::text::MAX_BYTES;
 use rim::{list, mesh, picture, rim_file, show, Failure};
 use std::io::Write;
@@ -61,20 +62,35 @@ fn milled(place: &Place, write: fn(&Patch) -> String) -> Result<Vec<u8>, Failure
 /// What a command writes, and how it ends once that is written: with a status, or with a line too.
 type Answer = (Vec<u8>, Result<u8, Failure>);
 
+/// A refusal is written too, and its reason with the name of what is refused is the line.
+fn refused(number: Number, place: &Place, why: &str) -> Answer {
+    let why = format!("{}: {why}", place.name());
+    (format!("refused {}\n", number.code()).into_bytes(), Err(Failure::Refused(why)))
+}
+
+fn rim_refused(number: Number, place: &Place, file: &[u8]) -> Answer {
+    refused(number, place, &show::refusal(number, &diagnose(file)))
+}
+
+fn priced(place: &Place) -> Result<Answer, Failure> {
+    let file = rim_input(place)?;
+    Ok(match price(&file) {
+        Ok(quote) => {
+            let text = quote.map_or("none\n".into(), |quote| quote.text());
+            (text.into_bytes(), Ok(0))
+        }
+        Err(number) => rim_refused(number, place, &file),
+    })
+}
+
 fn judged(rim: &Place, patch: &Place) -> Result<Answer, Failure> {
     let (file, text) = (rim_input(rim)?, input(patch, MAX_BYTES)?);
-    let said = |place: &Place, why: String| format!("{}: {why}", place.name());
-    let judgement = judge(&file, &text).map_err(|why| Failure::CannotRun(said(patch, why)))?;
-    let (number, why) = match judgement {
-        Judgement::Accepted(excess) => {
-            return Ok((format!("accepted {excess}\n").into_bytes(), Ok(0)));
-        }
-        Judgement::RimRefused(number) => {
-            (number, said(rim, show::refusal(number, &diagnose(&file))))
-        }
-        Judgement::PatchRefused(number, why) => (number, said(patch, why)),
-    };
-    Ok((format!("refused {}\n", number.code()).into_bytes(), Err(Failure::Refused(why))))
+    let unreadable = |why: String| Failure::CannotRun(format!("{}: {why}", patch.name()));
+    Ok(match judge(&file, &text).map_err(unreadable)? {
+        Judgement::Accepted(excess) => (format!("accepted {excess}\n").into_bytes(), Ok(0)),
+        Judgement::RimRefused(number) => rim_refused(number, rim, &file),
+        Judgement::PatchRefused(number, why) => refused(number, patch, &why),
+    })
 }
 
 fn put(place: &Place, bytes: &[u8]) -> Result<(), Failure> {
@@ -99,6 +115,7 @@ fn answer(command: Command, from: &Place) -> Result<Answer, Failure> {
         Command::Draw(view) => Ok((picture::svg(&closed(from)?, view).into_bytes(), Ok(0))),
         Command::Stl => Ok((milled(from, mesh::stl)?, Ok(0))),
         Command::Obj => Ok((milled(from, mesh::obj)?, Ok(0))),
+        Command::Price => priced(from),
         Command::Judge { patch } => judged(from, &patch),
     }
 }

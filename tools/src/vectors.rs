@@ -25,7 +25,18 @@ pub fn unit(p: [f64; 3]) -> [f64; 3] {
     p.map(|x| x / length)
 }
 
-/// The direction of (b - a) × (c - a) (rule 2.6), for a triangle that is not on one line.
-pub fn unit_normal([a, b, c]: [[i64; 3]; 3]) -> [f64; 3] {
-    unit(cross(minus(b, a), minus(c, a)).map(|x| x as f64))
+/// The normal of a triangle (rule 2.6).
+fn normal([a, b, c]: [[i64; 3]; 3]) -> [i64; 3] {
+    cross(minus(b, a), minus(c, a))
+}
+
+/// The direction of the normal of a triangle that is not on one line.
+pub fn unit_normal(corners: [[i64; 3]; 3]) -> [f64; 3] {
+    unit(normal(corners).map(|x| x as f64))
+}
+
+/// The length of the normal of a triangle (rule 2.7).
+pub fn length_in_quarters(corners: [[i64; 3]; 3]) -> u64 {
+    let normal = normal(corners);
+    (16 * dot(normal, normal) as u64).isqrt()
 }

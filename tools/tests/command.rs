@@ -17,7 +17,7 @@ fn help() {
 
 #[test]
 fn wrong_arguments() {
-    let commands = "make, show, draw, stl, obj or judge";
+    let commands = "make, show, draw, stl, obj, price or judge";
     run(&[], b"").refused(2, &format!("a command is expected: {commands} (./rim --help)"));
     run(&["close", "x"], b"").refused(2, &format!("there is no command 'close': {commands}"));
     let files = |name: &str, count: usize| {
@@ -45,7 +45,7 @@ fn wrong_arguments() {
 #[test]
 fn files_that_cannot_be_read() {
     let folder = Folder::new("unreadable");
-    for command in ["make", "show", "draw", "stl", "obj"] {
+    for command in ["make", "show", "draw", "stl", "obj", "price"] {
         run_in(&folder.0, &[command, "gone"], b"").refused(2, "gone: No such file or directory");
         run_in(&folder.0, &[command, "."], b"").refused(2, ".: Is a directory");
     }

@@ -1,11 +1,11 @@
-//! Times of the reader, the finder, the tiler, the whole call and the judge beside the fast reference
-//! in the same run, over changing rims and jobs. Each figure is the least mean of several rounds, in
-//! microseconds per call: library, reference, and library / reference. The time is the clock's:
-//! the machine should be quiet, and the least round is the one that other work disturbed least.
-//! The finder's call reads the file too. The first table is of rim files of edition 1, at its end of
-//! flat rims; the next has direct jobs, with the judge of the tiler's patch beside the tiler on the
-//! same job, and the one after it the same two on the lists of those rims of the first table that have
-//! a patch. Another has the whole call on the same rims but the flat ones in both editions, and the
+//! Times of the reader, the finder, the price, the patch, the whole call and the judge beside the fast
+//! reference in the same run, over changing rims and jobs. Each figure is the least mean of several
+//! rounds, in microseconds per call: library, reference, and library / reference. The time is the
+//! clock's: the machine should be quiet, and the least round is the one that other work disturbed
+//! least. The finder's call reads the file too. The patch is at the least total. The first table is of
+//! rim files of edition 1, at its end of flat rims; the next has direct jobs, with the price, the patch
+//! and the judge of that patch on the same job, and the one after it the same three on the lists of
+//! those rims of the first table that have a patch. Another has the whole call on the same rims but the flat ones in both editions, and the
 //! last the conversion of files, spare records and all. Without the library only the reference is
 //! timed.
 
@@ -14,7 +14,7 @@
 use outside_tests::calls::{Calls, Job, Lent, Patch, Places, Tables, MOST_BYTES};
 use outside_tests::comparison::{compare_conversion, compare_judge};
 use outside_tests::fast::FAST;
-use outside_tests::jobs::{job_of, random_job};
+use outside_tests::jobs::{job_of, price_and_patch, random_job};
 use outside_tests::library::library;
 use outside_tests::normals;
 use outside_tests::planes::{Outline, Plane};
@@ -85,21 +85,31 @@ fn tables_of(job: &Job) -> Tables {
     Tables::of_job(job, 62, job.candidates.len())
 }
 
-fn tiler_times(jobs: &[Job]) -> Times {
+fn price_times(jobs: &[Job]) -> Times {
     let mut tables: Vec<Tables> = jobs.iter().map(tables_of).collect();
     measure(jobs.len(), &mut |calls, case| {
-        black_box(calls.patch_job(jobs[case].n, &mut tables[case]));
+        black_box(calls.price(jobs[case].n, &mut tables[case]));
     })
 }
 
-/// The tiler's patch of a job, or an empty list.
+/// The patches at the least totals.
+fn patch_times(jobs: &[Job]) -> Times {
+    let mut tables: Vec<Tables> = jobs.iter().map(tables_of).collect();
+    let prices = jobs.iter().zip(&mut tables).map(|(job, tables)| FAST.price(job.n, tables).total);
+    let prices: Vec<u64> = prices.collect();
+    measure(jobs.len(), &mut |calls, case| {
+        black_box(calls.patch(jobs[case].n, prices[case], &mut tables[case]));
+    })
+}
+
+/// The patch of a job, or an empty list.
 fn patch_of(job: &Job) -> Patch {
     let mut tables = tables_of(job);
-    let answer = FAST.patch_job(job.n, &mut tables);
+    let answer = price_and_patch(&FAST, job.n, &mut tables);
     Patch { list: tables.triangles.view()[..answer.triangles].to_vec(), stated: answer.total }
 }
 
-/// The judge of the tiler's patches.
+/// The judge of those patches.
 fn judge_times(jobs: &[Job]) -> Times {
     let patches: Vec<Patch> = jobs.iter().map(patch_of).collect();
     let both = || jobs.iter().zip(&patches);
@@ -149,18 +159,19 @@ fn rims(shape: &str, n: usize, files: Vec<RimFile>) {
     let finder = measure(count, &mut |calls, case| {
         black_box(calls.find_candidates(black_box(&files[case]), &mut tables));
     });
-    let tiler = tiler_times(&jobs);
+    let [price, patch] = [price_times(&jobs), patch_times(&jobs)];
     let whole = measure(count, &mut |calls, case| {
         black_box(calls.patch_rim(black_box(&files[case]), &mut tables));
     });
     let mean = |of: fn(&Job) -> usize| jobs.iter().map(of).sum::<usize>() / count;
     println!(
-        "{shape:<12} {n:>2} {:>5} {:>5} {} {} {} {}",
+        "{shape:<12} {n:>2} {:>5} {:>5} {} {} {} {} {}",
         mean(|job| job.candidates.len()),
         mean(|job| job.rows.len()),
         reader.shown(),
         finder.shown(),
-        tiler.shown(),
+        price.shown(),
+        patch.shown(),
         whole.shown()
     );
 }
@@ -209,15 +220,21 @@ fn jobs(n: usize, rows: usize, random: &mut Random) {
     let jobs: Vec<Job> = (0..count).map(|_| random_job(n, 100, rows, 1000, random)).collect();
     check(count, |calls, case| {
         let mut left = tables_of(&jobs[case]);
-        calls.patch_job(n, &mut left);
+        price_and_patch(calls, n, &mut left);
         left
     });
-    let [tiler, judge] = [tiler_times(&jobs), judge_times(&jobs)];
     let [candidates, rows] = [jobs[0].candidates.len(), jobs[0].rows.len()];
-    println!("{n:>2} {candidates:>6} {rows:>8} {} {}", tiler.shown(), judge.shown());
+    println!("{n:>2} {candidates:>6} {rows:>8} {}", times_of_jobs(&jobs));
 }
 
-/// The tiler and the judge on the lists of rims, where they have a patch.
+/// The calls on direct jobs, under the heads that OF_JOBS names.
+fn times_of_jobs(jobs: &[Job]) -> String {
+    [price_times(jobs), patch_times(jobs), judge_times(jobs)].map(|times| times.shown()).join(" ")
+}
+
+const OF_JOBS: [&str; 3] = ["price", "patch", "judge"];
+
+/// The calls on the lists of rims, where they have a patch.
 fn patches_of_rims(shape: Shape, n: usize, random: &mut Random) {
     let mut tables = Tables::guarded(Places::ENOUGH);
     let files = rim_files(n, || shape.points(n, 1000, random)).into_iter();
@@ -225,10 +242,9 @@ fn patches_of_rims(shape: Shape, n: usize, random: &mut Random) {
     let rims = jobs.len();
     jobs.retain(|job| !patch_of(job).list.is_empty());
     if !jobs.is_empty() {
-        let [tiler, judge] = [tiler_times(&jobs), judge_times(&jobs)];
         let patches = format!("{} of {rims}", jobs.len());
         let shape = format!("{shape:?}");
-        println!("{shape:<12} {n:>2} {patches:>8} {} {}", tiler.shown(), judge.shown());
+        println!("{shape:<12} {n:>2} {patches:>8} {}", times_of_jobs(&jobs));
     }
 }
 
@@ -246,7 +262,7 @@ fn each_rim(mut part: impl FnMut(Shape, usize)) {
 }
 
 fn all_rims(random: &mut Random) {
-    let stages = ["reader", "reader and finder", "tiler", "whole call"];
+    let stages = ["reader", "reader and finder", "price", "patch", "whole call"];
     heads("rims", &format!("{:<12} {:>2} {:>5} {:>5}", "shape", "n", "cand", "rows"), &stages);
     each_rim(|shape, n| {
         rims(&format!("{shape:?}"), n, rim_files(n, || shape.points(n, 1000, random)));
@@ -259,7 +275,7 @@ fn all_rims(random: &mut Random) {
 
 fn all_jobs(random: &mut Random) {
     let first = format!("{:>2} {:>6} {:>8}", "n", "cand", "rows");
-    heads("direct jobs over all triples", &first, &["tiler", "judge"]);
+    heads("direct jobs over all triples", &first, &OF_JOBS);
     for n in SIZES {
         for rows in [0, 10, 100] {
             jobs(n, rows, random);
@@ -269,7 +285,7 @@ fn all_jobs(random: &mut Random) {
 
 fn all_patches() {
     let first = format!("{:<12} {:>2} {:>8}", "shape", "n", "patches");
-    heads("patches of rims judged", &first, &["tiler", "judge"]);
+    heads("patches of rims", &first, &OF_JOBS);
     let mut random = Random::new(1);
     each_rim(|shape, n| patches_of_rims(shape, n, &mut random));
 }

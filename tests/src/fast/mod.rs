@@ -44,6 +44,32 @@ fn write_lists(polygon: &Polygon, faces: &Faces, tables: &mut Tables) {
     faces.write_weights_and_rows(polygon, candidates, weights, &mut tables.rows.table()[..rows]);
 }
 
+/// The number of the direct job in the tables, with so many places for triangles, or 0.
+fn number_of_job(n: usize, tables: &Tables, triangles: usize) -> u32 {
+    tiler::number_due(
+        n,
+        tables.candidates.view(),
+        tables.weights.view(),
+        tables.rows.view(),
+        triangles,
+        tables.work.view().len(),
+    )
+}
+
+/// The same where no triangle table is lent: n places are enough for every list.
+fn number_without_triangles(n: usize, tables: &Tables) -> u32 {
+    number_of_job(n, tables, n)
+}
+
+/// The price of the accepted direct job in the tables.
+fn price_of(n: usize, tables: &mut Tables) -> PatchAnswer {
+    let candidates = tables.candidates.view();
+    let count = candidates.len();
+    let weights = &tables.weights.view()[..count];
+    let work = &mut tables.work.table()[..count];
+    tiler::price(n, candidates, weights, tables.rows.view(), work)
+}
+
 impl Calls for Fast {
     fn name(&self) -> String {
         format!("fast reference within {}", self.limit)
@@ -71,43 +97,51 @@ impl Calls for Fast {
             &tables.candidates.view()[..count],
             &tables.weights.view()[..count],
             &tables.rows.view()[..rows],
+            None,
             tables.triangles.table(),
             &mut tables.work.table()[..count],
         )
     }
 
-    fn patch_job(&self, n: usize, tables: &mut Tables) -> PatchAnswer {
-        let candidates = tables.candidates.view();
-        let weights = tables.weights.view();
-        let rows = tables.rows.view();
-        let (triangles, work) = (tables.triangles.view().len(), tables.work.view().len());
-        let number = tiler::number_due(n, candidates, weights, rows, triangles, work);
+    fn price(&self, n: usize, tables: &mut Tables) -> PatchAnswer {
+        let number = number_without_triangles(n, tables);
         if number != 0 {
             return PatchAnswer::refused(number);
         }
+        price_of(n, tables)
+    }
+
+    fn patch(&self, n: usize, agreed: u64, tables: &mut Tables) -> PatchAnswer {
+        let number = number_of_job(n, tables, tables.triangles.view().len());
+        if number != 0 {
+            return PatchAnswer::refused(number);
+        }
+        let candidates = tables.candidates.view();
         let count = candidates.len();
-        let work = &mut tables.work.table()[..count];
-        tiler::tile(n, candidates, &weights[..count], rows, tables.triangles.table(), work)
+        tiler::tile(
+            n,
+            candidates,
+            &tables.weights.view()[..count],
+            tables.rows.view(),
+            Some(agreed),
+            tables.triangles.table(),
+            &mut tables.work.table()[..count],
+        )
     }
 
     fn judge(&self, n: usize, stated: u64, tables: &mut Tables) -> JudgeAnswer {
-        let candidates = tables.candidates.view();
-        let weights = tables.weights.view();
-        let rows = tables.rows.view();
-        // The list is no table to be filled: n places are enough for every one.
-        let number = tiler::number_due(n, candidates, weights, rows, n, tables.work.view().len());
+        let number = number_without_triangles(n, tables);
         if number != 0 {
             return JudgeAnswer::refused(number);
         }
-        let list = tables.triangles.view();
+        let candidates = tables.candidates.view();
+        let weights = tables.weights.view();
+        let (rows, list) = (tables.rows.view(), tables.triangles.view());
         let number = judge::number_due(n, candidates, weights, rows, list, stated);
         if number != 0 {
             return JudgeAnswer::refused(number);
         }
-        let count = candidates.len();
-        let work = &mut tables.work.table()[..count];
-        let least = tiler::least_total(n, candidates, &weights[..count], rows, work);
-        JudgeAnswer { number: 0, excess: stated - least }
+        JudgeAnswer { number: 0, excess: stated - price_of(n, tables).total }
     }
 
     fn read_rim(&self, file: &[u8]) -> ReadAnswer {

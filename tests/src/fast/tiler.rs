@@ -165,37 +165,46 @@ impl Job<'_> {
     }
 }
 
-/// The best patch of an accepted job, with as many work places as candidates.
-pub fn tile(
-    n: usize,
-    candidates: &[Triangle],
-    weights: &[u32],
-    rows: &[Row],
-    triangles: &mut [u16],
-    work: &mut [u64],
-) -> PatchAnswer {
-    let job = Job { starts: block_starts(candidates), candidates, rows };
-    let total = job.least_total(n, weights, work);
-    if total != NONE {
-        job.write(n, work, triangles);
-    }
-    work.fill(0);
+fn answer_of(n: usize, total: u64) -> PatchAnswer {
     match total {
         NONE => PatchAnswer::NONE,
         _ => PatchAnswer { number: 0, triangles: n - 2, total },
     }
 }
 
-/// The total of that patch alone, for a job that has one.
-pub fn least_total(
+/// The price of an accepted job, with as many work places as candidates.
+pub fn price(
     n: usize,
     candidates: &[Triangle],
     weights: &[u32],
     rows: &[Row],
     work: &mut [u64],
-) -> u64 {
+) -> PatchAnswer {
     let job = Job { starts: block_starts(candidates), candidates, rows };
     let total = job.least_total(n, weights, work);
     work.fill(0);
-    total
+    answer_of(n, total)
+}
+
+/// The best patch of the same, at the agreed total where there is one.
+pub fn tile(
+    n: usize,
+    candidates: &[Triangle],
+    weights: &[u32],
+    rows: &[Row],
+    agreed: Option<u64>,
+    triangles: &mut [u16],
+    work: &mut [u64],
+) -> PatchAnswer {
+    let job = Job { starts: block_starts(candidates), candidates, rows };
+    let total = job.least_total(n, weights, work);
+    let is_agreed = total == NONE || agreed.is_none_or(|agreed| agreed == total);
+    if total != NONE && is_agreed {
+        job.write(n, work, triangles);
+    }
+    work.fill(0);
+    match is_agreed {
+        true => answer_of(n, total),
+        false => PatchAnswer::refused(23),
+    }
 }

@@ -1,6 +1,5 @@
 //! The judge of a patch from elsewhere (rules 3.13, 3.14, 4.21, 4.22 and 4.36).
 
-use super::tests_of_jobs;
 use super::tilings::{self, Tiling};
 use crate::calls::{Job, Patch};
 use std::collections::BTreeSet;
@@ -20,11 +19,6 @@ pub fn is_tiling(job: &Job, list: &[u16]) -> bool {
 /// The total of a list is that of its set.
 pub fn total(job: &Job, list: &[u16]) -> u64 {
     tilings::total(job, &tilings::row_weights(job), &named(job, list))
-}
-
-/// The number of the job with so many work places: no triangle table is lent, so none is too short.
-pub fn number_of_job(job: &Job, work: usize) -> Option<u32> {
-    tests_of_jobs::number_due(job, usize::MAX, work)
 }
 
 /// 21, then 22, on the patch of an accepted job.

@@ -56,17 +56,19 @@ fn write_lists(lists: &Lists, tables: &mut Tables) {
     tables.rows.fill(&lists.rows);
 }
 
-/// Rules 3.8 and 3.9, after a patch or 'none': zero in one work place per candidate, and the
-/// triangles of a patch.
-fn write_patch(best: Option<Tiling>, candidates: usize, tables: &mut Tables) -> PatchAnswer {
-    tables.work.table()[..candidates].fill(0);
-    match best {
-        None => PatchAnswer::NONE,
-        Some(tiling) => {
-            tables.triangles.fill(&tiling.walk);
-            PatchAnswer { number: 0, triangles: tiling.walk.len(), total: tiling.total }
-        }
-    }
+/// Rule 5.2: the numbers of a patch or 'none'.
+fn answer_of(best: Option<&Tiling>) -> PatchAnswer {
+    best.map_or(PatchAnswer::NONE, |tiling| PatchAnswer {
+        number: 0,
+        triangles: tiling.walk.len(),
+        total: tiling.total,
+    })
+}
+
+/// Rule 3.8: the triangles of a patch.
+fn write_patch(best: Option<&Tiling>, tables: &mut Tables) -> PatchAnswer {
+    best.into_iter().for_each(|tiling| tables.triangles.fill(&tiling.walk));
+    answer_of(best)
 }
 
 /// The direct job that stands in the tables.
@@ -103,26 +105,43 @@ impl Calls for Law {
         write_lists(&lists, tables);
         let Lists { candidates: triples, weights, rows } = lists;
         let job = Job { n, candidates: triples, weights, rows };
-        write_patch((self.best)(&job), candidates, tables)
+        tables.work.table()[..candidates].fill(0);
+        write_patch((self.best)(&job).as_ref(), tables)
     }
 
-    fn patch_job(&self, n: usize, tables: &mut Tables) -> PatchAnswer {
+    fn price(&self, n: usize, tables: &mut Tables) -> PatchAnswer {
+        let job = job_in(n, tables);
+        let work = tables.work.view().len();
+        if let Some(number) = tests_of_jobs::number_without_triangles(&job, work) {
+            return PatchAnswer::refused(number);
+        }
+        tables.clear_work();
+        answer_of((self.best)(&job).as_ref())
+    }
+
+    fn patch(&self, n: usize, agreed: u64, tables: &mut Tables) -> PatchAnswer {
         let job = job_in(n, tables);
         let places = (tables.triangles.view().len(), tables.work.view().len());
         if let Some(number) = tests_of_jobs::number_due(&job, places.0, places.1) {
             return PatchAnswer::refused(number);
         }
-        write_patch((self.best)(&job), job.candidates.len(), tables)
+        // Rule 4.30: 23 is the one refusal that changes a table.
+        tables.clear_work();
+        let best = (self.best)(&job);
+        match tests_of_jobs::number_of_agreement(best.as_ref(), agreed) {
+            Some(number) => PatchAnswer::refused(number),
+            None => write_patch(best.as_ref(), tables),
+        }
     }
 
     fn judge(&self, n: usize, stated: u64, tables: &mut Tables) -> JudgeAnswer {
         let job = job_in(n, tables);
         let patch = Patch { list: tables.triangles.view().to_vec(), stated };
-        let number = judge::number_of_job(&job, tables.work.view().len());
+        let number = tests_of_jobs::number_without_triangles(&job, tables.work.view().len());
         if let Some(number) = number.or_else(|| judge::number_of_patch(&job, &patch)) {
             return JudgeAnswer::refused(number);
         }
-        tables.work.table()[..job.candidates.len()].fill(0);
+        tables.clear_work();
         JudgeAnswer { number: 0, excess: judge::excess(self.best, &job, stated) }
     }
 

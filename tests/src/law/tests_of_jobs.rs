@@ -1,10 +1,11 @@
 //! The tests of a direct job (rule 4.32): 14, 13, 15, 16, 17, each over the whole job before the
-//! next.
+//! next; and what comes after them for a patch at an agreed total (rule 4.37).
 
 use super::finder::hangs_on;
+use super::tilings::Tiling;
 use crate::calls::Job;
 
-const HIGHEST_WEIGHT: u32 = 2_000_000_000;
+pub const HIGHEST_WEIGHT: u32 = 2_000_000_000;
 
 fn candidates_good(job: &Job) -> bool {
     let vertices = job.candidates.iter().all(|&[a, b, c]| a < b && b < c && (c as usize) < job.n);
@@ -43,4 +44,14 @@ pub fn number_due(job: &Job, triangles: usize, work: usize) -> Option<u32> {
     } else {
         None
     }
+}
+
+/// The same where no triangle table is lent, so that none is too short: for a price and a judgement.
+pub fn number_without_triangles(job: &Job, work: usize) -> Option<u32> {
+    number_due(job, usize::MAX, work)
+}
+
+/// 23, where the job has a tiling and its best one another total.
+pub fn number_of_agreement(best: Option<&Tiling>, agreed: u64) -> Option<u32> {
+    best.filter(|tiling| tiling.total != agreed).map(|_| 23)
 }
