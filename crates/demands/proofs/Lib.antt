@@ -12,6 +12,7 @@ pub mod FileFinding
 pub mod Polygons
 pub mod Flat
 pub mod Judging
+pub mod Numbers
 pub mod Sizes
 pub mod Conversion
 pub mod Base

@@ -39,7 +39,9 @@ use Rattle.finder.specs.Finding.{short, numberDue}
 use Rattle.triangulation.specs.Triangulations.{Problem, Answer, best, patch, bestKey, key, isTriangulation}
 use Rattle.triangulation.specs.Triangulations.{totalWeight, preorderFrom, countBetween, countOutside}
 use Rattle.triangulation.specs.Problems.{problemFrom}
-use Rattle.triangulator.specs.Call.{settled, triangulated}
+use Rattle.triangulator.specs.Call.{settled}
+use Rattle.pricing.specs.Quote.{priced}
+use Rattle.pricing.specs.Patch.{patchedAt}
 use Rattle.validation.specs.Validation.{named, isTiling, listTotal, listCode}
 use Rattle.judge.specs.Call.{judgeCode, judged}
 use Rattle.pipeline.specs.Patching.{tables, Patching, patching, problemIn, tablesShort, patched, patchBy, polygonNumber, fileNumber, patchPolygon, patchFile}
@@ -197,7 +199,7 @@ rims-hold = refl
 
 -- ---- the list
 others-hold : map (λ c. c .computed) (drop 9 worked) ≡ map (λ c. c .expected) (drop 9 worked)
-unfolding gridNumberOf ofBits finite numerator denominator negative inRange roundEighths triangulated judged judgeCode listCode
+unfolding gridNumberOf ofBits finite numerator denominator negative inRange roundEighths priced patchedAt judged judgeCode listCode
     listTotal isTiling named jobCode listsCode everyFrom candidateFits ascends before rowFits namesPair hangs rowBefore bestKey
     key isTriangulation totalWeight preorderFrom countBetween countOutside rootDigits lengthOf ratioOf bendOf
 others-hold = refl

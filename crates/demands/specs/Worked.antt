@@ -1,4 +1,4 @@
--- The worked cases of rules 6.1 to 6.9 in one list: what the definitions give, and what it should be. Definitions only.
+-- The worked cases of rules 6.1 to 6.10 in one list: what the definitions give, and what it should be. Definitions only.
 use mathlib.Core.List.{List, [], _∷_, map}
 use Prim.Native.Nat.{ℕ}
 use lib.IntN.{ℤ, pos, negsuc}
@@ -22,18 +22,21 @@ use Rattle.triangulation.specs.Triangulations.{Problem, triangulations, totalWe
 use Rattle.triangulator.specs.declared.Outcome.the-variants.{Patch, None, Refused}
 use Rattle.triangulator.specs.Call.{Result, result}
 use Rattle.jobs.specs.Job.{Job, jobOf}
-use Rattle.triangulator.specs.Cases.{answered, single, jobP, ties}
+use Rattle.jobs.specs.Cases.{single, jobP, editedP, ties}
+use Rattle.pricing.specs.declared.Quote.the-variants as quote
+use Rattle.pricing.specs.Quote as price
+use Rattle.pricing.specs.Cases.{pricedOn, patchedOn, cleared, twoTriangles, notLeast}
 use Rattle.judge.specs.declared.Judgement.the-variants as judgement
 use Rattle.judge.specs.Call as judge
 use Rattle.judge.specs.Cases.{judgedOn, accepted, refused}
 use Rattle.pipeline.specs.Patching.{Tables, tables, Patching, patching, problemIn, patchPolygon, patchFile}
 
--- what a case computes: what the one call on a file or a polygon, or the call for a direct job, answers and leaves, and what the judge does; tilings; a bend;
--- a grid number
+-- what a case computes: what the one call on a file or a polygon, the two calls on a direct job and the judge answer and leave; tilings; a bend; a grid number
 pub data Value : Type 0 where
   of-file : Patching → Value
   of-rim : Patching → Value
-  of-job : Result → Value
+  of-price : price.Result → Value
+  of-patch : Result → Value
   of-judge : judge.Result → Value
   of-tilings : List (List ℕ) → Value
   of-bend : ℕ → Value
@@ -119,6 +122,13 @@ rounds bits number = case (of-float (gridNumberOf (ofBits binary32 bits))) (of-f
 abbrev pub judges : Job → List ℕ → ℕ → judge.Result → Case
 judges job list stated expected = case (of-judge (judgedOn job list stated)) (of-judge expected)
 
+-- the price of a job, and its patch at an agreed total
+abbrev pub prices : Job → price.Result → Case
+prices job expected = case (of-price (pricedOn job)) (of-price expected)
+
+abbrev pub patches : Job → ℕ → Result → Case
+patches job agreed expected = case (of-patch (patchedOn job agreed)) (of-patch expected)
+
 abbrev pub worked : List Case
 worked =
     -- rule 6.1: P from its bytes through the one call; and its tilings, which are two
@@ -156,14 +166,31 @@ worked =
     ∷ case (of-rim (patchPolygon (rimOf square []) (lent 2 4 2))) (of-rim (patching (Refused (refusal 12)) (lent 2 4 2)))
     ∷ case (of-rim (patchPolygon (rimOf line []) (lent 2 0 0))) (of-rim (patching None (lent 2 0 0)))
     -- rule 6.2: a candidate of weight 5; no candidate
-    ∷ case (of-job (answered single)) (of-job (result (Patch 1 5) (0 ∷ 9 ∷ []) (0 ∷ 9 ∷ [])))
-    ∷ case (of-job (answered (jobOf 3 [] [] []))) (of-job (result None (9 ∷ 9 ∷ []) (9 ∷ [])))
+    ∷ prices single (price.result (quote.Total 1 5) (0 ∷ 9 ∷ []))
+    ∷ patches single 5 (result (Patch 1 5) (0 ∷ 9 ∷ []) (0 ∷ 9 ∷ []))
+    ∷ prices (jobOf 3 [] [] []) (price.result quote.None (9 ∷ []))
+    ∷ patches (jobOf 3 [] [] []) 0 (result None (9 ∷ 9 ∷ []) (9 ∷ []))
     -- rule 6.3: four candidates of weight 1 without rows, with a row, with the row of a pair that does not hang
-    ∷ case (of-job (answered (ties []))) (of-job (result (Patch 2 2) (1 ∷ 3 ∷ 9 ∷ []) (0 ∷ 0 ∷ 0 ∷ 0 ∷ 9 ∷ [])))
-    ∷ case (of-job (answered (ties (triple 1 3 1 ∷ [])))) (of-job (result (Patch 2 2) (2 ∷ 0 ∷ 9 ∷ []) (0 ∷ 0 ∷ 0 ∷ 0 ∷ 9 ∷ [])))
-    ∷ case (of-job (answered (ties (triple 1 0 1 ∷ [])))) (of-job (result (Refused (refusal 16)) (9 ∷ 9 ∷ 9 ∷ []) (9 ∷ 9 ∷ 9 ∷ 9 ∷ 9 ∷ [])))
+    ∷ prices (ties []) (price.result (quote.Total 2 2) cleared)
+    ∷ patches (ties []) 2 (twoTriangles 2 1 3)
+    ∷ prices (ties (triple 1 3 1 ∷ [])) (price.result (quote.Total 2 2) cleared)
+    ∷ patches (ties (triple 1 3 1 ∷ [])) 2 (twoTriangles 2 2 0)
+    ∷ prices (ties (triple 1 0 1 ∷ [])) (price.result (quote.Refused (refusal 16)) (9 ∷ 9 ∷ 9 ∷ 9 ∷ 9 ∷ []))
+    ∷ patches (ties (triple 1 0 1 ∷ [])) 2 (result (Refused (refusal 16)) (9 ∷ 9 ∷ 9 ∷ []) (9 ∷ 9 ∷ 9 ∷ 9 ∷ 9 ∷ []))
     -- rule 6.4: two candidates that leave a hole
-    ∷ case (of-job (answered (jobOf 5 (triple 0 1 2 ∷ triple 0 2 4 ∷ []) (1 ∷ 1 ∷ []) []))) (of-job (result None (9 ∷ 9 ∷ 9 ∷ 9 ∷ []) (0 ∷ 0 ∷ 9 ∷ [])))
+    ∷ prices (jobOf 5 (triple 0 1 2 ∷ triple 0 2 4 ∷ []) (1 ∷ 1 ∷ []) []) (price.result quote.None (0 ∷ 0 ∷ 9 ∷ []))
+    ∷ patches (jobOf 5 (triple 0 1 2 ∷ triple 0 2 4 ∷ []) (1 ∷ 1 ∷ []) []) 2 (result None (9 ∷ 9 ∷ 9 ∷ 9 ∷ []) (0 ∷ 0 ∷ 9 ∷ []))
+    -- rule 6.10: the lists of P priced, patched at the price, and at other totals; after edits of weights that leave the least total, and that do not
+    ∷ prices jobP (price.result (quote.Total 2 943) cleared)
+    ∷ patches jobP 943 (twoTriangles 943 1 3)
+    ∷ patches jobP 942 notLeast
+    ∷ patches jobP 944 notLeast
+    ∷ patches jobP 1000 notLeast
+    ∷ patches jobP 0 notLeast
+    ∷ patches (editedP 400 256) 943 (twoTriangles 943 1 3)
+    ∷ patches (editedP 263 257) 943 (twoTriangles 943 2 0)
+    ∷ patches (editedP 262 256) 943 notLeast
+    ∷ patches (editedP 320 257) 943 notLeast
     -- rule 6.9: the lists of P judged, both tilings in any order, with another total, and what is no tiling; other jobs
     ∷ judges jobP (1 ∷ 3 ∷ []) 943 (accepted 0)
     ∷ judges jobP (3 ∷ 1 ∷ []) 943 (accepted 0)

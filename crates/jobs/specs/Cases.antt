@@ -16,6 +16,9 @@ quadrilateral weights rows = jobOf 4 (triple 0 1 2 ∷ triple 0 1 3 ∷ triple 0
 abbrev pub ties : List (List ℕ) → Job
 ties rows = quadrilateral (1 ∷ 1 ∷ 1 ∷ 1 ∷ []) rows
 
--- the lists that rim file P gives (rule 6.1)
+-- the lists that rim file P gives (rule 6.1); and with other weights of candidates 0 and 1 (rule 6.10)
+abbrev pub editedP : ℕ → ℕ → Job
+editedP weight0 weight1 = quadrilateral (weight0 ∷ weight1 ∷ 320 ∷ 373 ∷ []) (triple 1 3 314 ∷ triple 2 0 360 ∷ [])
+
 abbrev pub jobP : Job
-jobP = quadrilateral (320 ∷ 256 ∷ 320 ∷ 373 ∷ []) (triple 1 3 314 ∷ triple 2 0 360 ∷ [])
+jobP = editedP 320 256
