@@ -1,6 +1,6 @@
 -- What the users asked of a patch at an agreed total, of the call's outcome and tables. Assumes nothing.
 use Prim.Native.Nat.{ℕ, suc, _-_}
-use mathlib.Core.Path.{_≡_, refl, sym, ap, ap₂, _∙_, subst}
+use mathlib.Core.Path.{_≡_, refl, sym, ap, _∙_, subst}
 use mathlib.Core.Logic.{_≢_}
 use mathlib.Core.List.{List}
 use native.Mathlib.Omega.{arith}
@@ -11,7 +11,7 @@ use Rattle.terms.specs.Order.{NoneDue}
 use Rattle.terms.proofs.Order.{none-first, first-unique}
 use Rattle.triangulation.specs.Triangulations.{Problem, Answer, none, patch, best}
 use Rattle.triangulation.specs.Problems.{problemOf}
-use Rattle.triangulation.specs.Demand3.{Triangulates, Demand3, HandedBack}
+use Rattle.triangulation.specs.Demand3.{Triangulates, Demand3}
 use Rattle.triangulation.specs.Least.{Least}
 use Rattle.triangulation.proofs.Demand3.{demand3, best-length}
 use Rattle.triangulation.proofs.LeastTotal.{least-unique}
@@ -20,11 +20,10 @@ use Rattle.jobs.specs.Due.{Accepted, CallPlace}
 use Rattle.jobs.specs.Due as job-due
 use Rattle.jobs.proofs.Acceptance.{at-most-17}
 use Rattle.jobs.proofs.Calls.{ordered}
-use Rattle.triangulator.specs.declared.Outcome.{Outcome}
 use Rattle.triangulator.specs.declared.Outcome.the-variants.{Patch, None, Refused}
 use Rattle.triangulator.specs.Call.{numberOf, totalOf, partOf, Result, result, settled}
 use Rattle.triangulator.specs.Demands.{stated, Taken, a-patch, a-none, Handed, RestLeft}
-use Rattle.triangulator.proofs.Demands.{settled-states, settled-handed, settled-rest, refused-handed, patch-handed}
+use Rattle.triangulator.proofs.Demands.{settled-states, settled-handed, settled-rest, refused-handed}
 use Rattle.pricing.specs.Patch.{patchedAt}
 use Rattle.pricing.specs.Due.{AgreedDue, of-job, not-least, FirstDue}
 use Rattle.pricing.proofs.Patching.{not-taken, job-valid, PatchEnd, in-refusal, in-none, in-23, in-patch, patch-end, first-of-job, first-23}

@@ -1,6 +1,6 @@
 -- The price and then the patch at that price: on one job what a single call gives, and on an edited one what its own least total says. Assumes nothing.
 use Prim.Native.Nat.{ℕ, zero, suc, _-_, _≤_}
-use mathlib.Core.Path.{_≡_, refl, sym, ap, ap₂, _∙_, subst}
+use mathlib.Core.Path.{_≡_, refl, sym, ap, _∙_, subst}
 use mathlib.Core.List.{List}
 use native.Mathlib.Omega.{arith}
 use lib.ListN.{length, replicate, length-replicate}
@@ -9,9 +9,9 @@ use Rattle.codes.specs.Refusals.{refusal}
 use Rattle.lists.specs.Lists.{filled}
 use Rattle.lists.proofs.Choice.{yes, no}
 use Rattle.lists.proofs.Writing.{filled-length, filled-over}
-use Rattle.triangulation.specs.Triangulations.{Problem, Answer, none, patch, best}
+use Rattle.triangulation.specs.Triangulations.{Answer, none, patch, best}
 use Rattle.triangulation.specs.Problems.{problemOf}
-use Rattle.triangulation.specs.Demand3.{Triangulates, HandedBack}
+use Rattle.triangulation.specs.Demand3.{HandedBack}
 use Rattle.triangulation.specs.Least.{Least}
 use Rattle.triangulation.proofs.Demand3.{best-length}
 use Rattle.jobs.specs.Job.{Job, jobCode, codeWithoutTriangles}

@@ -1,6 +1,6 @@
 -- Demands 1 and 3 of the call that patches a direct job at an agreed total: its outcome and tables, and when it gives 23. Assumes nothing.
 use Prim.Native.Nat.{ℕ, zero, suc, _-_}
-use mathlib.Core.Path.{_≡_, refl, sym, ap, ap₂, _∙_, subst}
+use mathlib.Core.Path.{_≡_, refl, sym, ap, _∙_, subst}
 use mathlib.Core.Logic.{_≢_}
 use mathlib.Core.List.{List}
 use native.Mathlib.Omega.{arith}
@@ -10,26 +10,22 @@ use borrow.Author.Tests.{eq-eqb, ne-eqb, eqb-true, eqb-false}
 use Rattle.codes.specs.Refusals.{refusal}
 use Rattle.lists.specs.Lists.{filled}
 use Rattle.lists.proofs.Choice.{Truth, truth, holds, fails, yes, no}
-use Rattle.terms.specs.Order.{NoneDue}
 use Rattle.terms.specs.Order as order
-use Rattle.terms.proofs.Order.{none-first, first-unique}
 use Rattle.triangulation.specs.Triangulations.{Problem, ValidProblem, Answer, none, patch, best}
 use Rattle.triangulation.specs.Problems.{problemOf}
-use Rattle.triangulation.specs.Demand3.{Triangulates, Demand3}
+use Rattle.triangulation.specs.Demand3.{Triangulates}
 use Rattle.triangulation.specs.Least.{Least}
-use Rattle.triangulation.proofs.Demand3.{demand3, best-length}
 use Rattle.triangulation.proofs.LeastTotal.{least-unique, Known, known, without, answer-known}
 use Rattle.jobs.specs.Job.{Job, jobCode}
 use Rattle.jobs.specs.Due.{JobPlace, JobDue, Accepted, CallPlace, job-at, after-job, CallBefore}
 use Rattle.jobs.specs.Due as job-due
-use Rattle.jobs.proofs.Acceptance.{accepted-zero, zero-accepted, code-due, at-most-17}
-use Rattle.jobs.proofs.Calls.{ordered, job-first}
+use Rattle.jobs.proofs.Acceptance.{accepted-zero, zero-accepted, code-due}
+use Rattle.jobs.proofs.Calls.{job-first}
 use Rattle.triangulator.specs.declared.Outcome.{Outcome}
-use Rattle.triangulator.specs.declared.Outcome.the-variants.{Patch, None, Refused}
-use Rattle.triangulator.specs.Call.{numberOf, totalOf, partOf, Result, result, settled}
-use Rattle.triangulator.specs.Demands.{stated, Taken, a-patch, a-none, Handed, RestLeft}
+use Rattle.triangulator.specs.declared.Outcome.the-variants.{Refused}
+use Rattle.triangulator.specs.Call.{Result, result, settled}
+use Rattle.triangulator.specs.Demands.{Taken, a-patch, a-none}
 use Rattle.triangulator.proofs.Accepting.{accepted-well-formed}
-use Rattle.triangulator.proofs.Demands.{settled-states, settled-handed, settled-rest, refused-handed}
 use Rattle.pricing.specs.Patch.{settledAt, patchedAt}
 use Rattle.pricing.specs.Due.{AgreedDue, of-job, not-least, FirstDue}
 

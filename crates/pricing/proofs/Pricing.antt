@@ -7,7 +7,7 @@ use lib.ListN.{length, replicate}
 use Rattle.codes.specs.Refusals.{refusal}
 use Rattle.lists.specs.Lists.{filled}
 use Rattle.terms.proofs.Order.{none-first}
-use Rattle.triangulation.specs.Triangulations.{Problem, ValidProblem, Answer, best}
+use Rattle.triangulation.specs.Triangulations.{Problem, Answer, best}
 use Rattle.triangulation.specs.Problems.{problemOf}
 use Rattle.triangulation.specs.Demand3.{Triangulates}
 use Rattle.triangulation.specs.Least.{Least}

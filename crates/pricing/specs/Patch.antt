@@ -11,7 +11,7 @@ use Rattle.triangulation.specs.Problems.{problemOf}
 use Rattle.triangulation.specs.Recursion.{costOf, restOf}
 use Rattle.jobs.specs.Job.{Job, jobCode}
 use Rattle.triangulator.specs.declared.Outcome.the-variants.{Refused}
-use Rattle.triangulator.specs.Call.{Values, values, answerValues, dueValues, Result, result, settled}
+use Rattle.triangulator.specs.Call.{Values, values, answerValues, Result, result, settled}
 
 -- a refusal changes no table (rule 4.30), and comes before a patch and 'none' (rule 4.33)
 abbrev pub refusedOr : ℕ → List ℕ → List ℕ → Result → Result

@@ -75,18 +75,16 @@ pub fn price(
     ensures { λ r. ⌜ valuesOf r
         ≡ pricedValues (jobOf n (now (candidates .entry)) (now (weights .entry)) (now (rows .entry))) (length (now (work .entry))) ⌝ }
 {
-    let number = jobs::code_without_triangles(n, candidates, weights, rows, work.len());
-    if number != 0 {
-        return Quote::Refused(Refusal::new(number));
+    let due = jobs::code_without_triangles(n, candidates, weights, rows, work.len());
+    if due != 0 {
+        return Quote::Refused(Refusal::new(due));
     }
-    let least = triangulator::solver::least(n, candidates, weights, rows, work);
-    if NONE <= least {
+    let total = triangulator::solver::least(n, candidates, weights, rows, work);
+    if NONE <= total {
         return Quote::None;
     }
-    Quote::Total {
-        triangles: n - 2,
-        total: least,
-    }
+    let triangles = n - 2;
+    Quote::Total { triangles, total }
 }
 
 // 14, 13, 15, 16 and 17; 'none', whatever was agreed; 23 where the least total is not the agreed one; else the best triangulation.

@@ -13,7 +13,10 @@ use Rattle.reader.proofs.Accepted as accepted
 use Rattle.reader.proofs.HalfSteps as half-steps
 use Rattle.jobs.specs.Job.{Job}
 use Rattle.triangulation.proofs.Tiling as tiling
-use Rattle.triangulator.proofs.Demands as jobs
+use Rattle.pricing.proofs.Pricing as pricing
+use Rattle.pricing.proofs.Patching as patching
+use Rattle.pricing.proofs.Demands as agreed-patch
+use Rattle.pricing.proofs.InTurn as in-turn
 use Rattle.judge.proofs.Demands as judge
 use Rattle.judge.proofs.Refusals as refusals
 use Rattle.converter.proofs.Numbers as numbers
@@ -35,6 +38,7 @@ use Rattle.demands.proofs.FileFinding as file-finding
 use Rattle.demands.proofs.Flat as flat
 use Rattle.demands.proofs.Judging as judging
 use Rattle.demands.proofs.Limits as limits
+use Rattle.demands.proofs.Numbers as rim-numbers
 use Rattle.demands.proofs.OnePatch as one-patch
 use Rattle.demands.proofs.Polygons as polygons
 use Rattle.demands.proofs.Quarters as quarters
@@ -45,7 +49,7 @@ use Rattle.patch_program.specs.Printing.{printoutOf}
 use Rattle.patch_program.proofs.Demands as lines
 use Rattle.promises.specs.Files.{ReaderCall, Editions, ConverterCall, HalfSteps, Limits}
 use Rattle.promises.specs.Rims.{Finds, TellsSizes, Closes, TellsFileSizes, FlatRims, Lengths, Printing}
-use Rattle.promises.specs.Jobs.{DirectJob, Turns, Judging}
+use Rattle.promises.specs.Jobs.{Prices, Patches, InTurn, Turns, Judging}
 use Rattle.promises.specs.Promises.{Promises}
 
 reads : (limit : ℕ) (file : List ℕ) → ReaderCall limit file
@@ -91,6 +95,7 @@ by-hand p t = record {
   taken-only-when = polygons.taken-only-when p t;
   refused-first = polygons.refused-first p t;
   given-first = polygons.given-first p t;
+  never-23 = rim-numbers.polygon-never-23 p t;
   lists = polygons.polygon-demand2 p t;
   quarters = polygons.polygon-quarters p t;
   right = polygons.polygon-demand3-of-tables p t;
@@ -105,6 +110,7 @@ closes limit file bytes t = record {
   taken-only-when = demand1.taken-only-when limit file bytes t;
   refused-first = demand1.refused-first limit file bytes t;
   given-first = demand1.given-first limit file bytes t;
+  never-23 = rim-numbers.file-never-23 limit file bytes t;
   lists = demands.file-demand2 limit file bytes t;
   quarters = demands.file-quarters limit file bytes t;
   right = demands.file-demand3-of-tables limit file bytes t;
@@ -127,16 +133,42 @@ sizes-of-files limit file t = record {
   enough-taken = λ e. sizes.enough-taken limit file t e;
 }
 
-tiles : (job : Job) (triangles work : List ℕ) → DirectJob job triangles work
-tiles job triangles work = record {
-  taken-when = jobs.job-taken job triangles work;
-  taken-only-when = jobs.job-taken-only job triangles work;
-  refused-first = jobs.job-refused job triangles work;
-  given-first = jobs.job-refused-only job triangles work;
-  right = jobs.job-demand3 job triangles work;
-  handed = jobs.job-handed job triangles work;
-  rest = jobs.job-rest job triangles work;
-  valid = jobs.job-valid job triangles work;
+prices-jobs : (job : Job) (work : List ℕ) → Prices job work
+prices-jobs job work = record {
+  priced-when = pricing.priced-when job work;
+  priced-only-when = pricing.priced-only-when job work;
+  refused-first = pricing.price-refused-first job work;
+  given-first = pricing.price-given-first job work;
+  total-when = pricing.total-when job work;
+  total-is = pricing.total-is job work;
+  none-when = pricing.none-when job work;
+  none-only-when = pricing.none-only-when job work;
+  zeros = pricing.price-work job work;
+}
+
+patches-jobs : (job : Job) (agreed : ℕ) (triangles work : List ℕ) → Patches job agreed triangles work
+patches-jobs job agreed triangles work = record {
+  taken-when = agreed-patch.taken-when job agreed triangles work;
+  taken-only-when = agreed-patch.taken-only-when job agreed triangles work;
+  refused-first = agreed-patch.refused-first job agreed triangles work;
+  given-first = agreed-patch.given-first job agreed triangles work;
+  gives-23 = agreed-patch.gives-23 job agreed triangles work;
+  given-23 = agreed-patch.given-23 job agreed triangles work;
+  none-whatever = agreed-patch.none-whatever job agreed triangles work;
+  right = agreed-patch.right job agreed triangles work;
+  total-agreed = agreed-patch.total-agreed job agreed triangles work;
+  handed = agreed-patch.handed job agreed triangles work;
+  rest = agreed-patch.rest job agreed triangles work;
+  valid = patching.job-valid job agreed triangles work;
+  judged-0 = judging.agreed-patch-accepted job agreed triangles work;
+}
+
+one-after-the-other : (job : Job) (triangles work : List ℕ) → InTurn job triangles work
+one-after-the-other job triangles work = record {
+  as-single = in-turn.in-turn job triangles work;
+  price-as-single = in-turn.in-turn-values job triangles work;
+  no-longer = λ count total e edited work′. agreed-patch.gives-23 edited total triangles work′;
+  still-least = λ count total e edited work′. in-turn.best-at edited total triangles work′;
 }
 
 in-editions : (file : List ℕ) → Editions file
@@ -232,7 +264,9 @@ promises = record {
   rim-files = closes;
   polygon-sizes = sizes-of-polygons;
   file-sizes = sizes-of-files;
-  direct-jobs = tiles;
+  prices = prices-jobs;
+  patches = patches-jobs;
+  in-turn = one-after-the-other;
   tilings = λ problem. record { tiling-of = tiling.true-tiling problem; of-tiling = tiling.tiling-true problem };
   editions = in-editions;
   converting = converts;
@@ -246,4 +280,6 @@ promises = record {
   printing = prints;
   refusal-values = λ k. refl;
   none-values = refl;
+  refused-quote = λ k. refl;
+  none-quote = refl;
 }

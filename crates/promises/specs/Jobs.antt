@@ -1,9 +1,9 @@
--- What is promised of direct jobs and of tilings: the tiler's call, what a tiling is, turns, the judge's call. A part of the page (Promises.antt).
+-- What is promised of direct jobs and of tilings: the tiler's two calls, what a tiling is, turns, the judge's call. A part of the page (Promises.antt).
 -- Definitions only.
 use mathlib.Core.Path.{_≡_}
 use mathlib.Core.Logic.{_≢_}
 use mathlib.Core.List.{List}
-use Prim.Native.Nat.{ℕ, _≤_}
+use Prim.Native.Nat.{ℕ, _-_, _≤_}
 use lib.ListN.{length, replicate}
 use Rattle.codes.specs.Refusals.{refusal}
 use Rattle.terms.specs.Order.{NoneDue}
@@ -12,42 +12,98 @@ use Rattle.polygon.specs.declared.Polygon.{Polygon}
 use Rattle.rim_file.specs.File.{Bytes}
 use Rattle.finder.specs.Sizes.{placesOf}
 use Rattle.jobs.specs.Job.{Job}
-use Rattle.jobs.specs.Due.{Accepted}
+use Rattle.jobs.specs.Due.{Accepted, JobAccepted}
 use Rattle.jobs.specs.Due as job-due
 use Rattle.triangulation.specs.Triangulations.{Problem, ValidProblem, patch, totalWeight}
 use Rattle.triangulation.specs.Problems.{problemOf}
 use Rattle.triangulation.specs.Demand3.{Triangulates, Demand3, HandedBack}
+use Rattle.triangulation.specs.Least.{Least}
 use Rattle.triangulation.specs.Tiling.{Tiling}
 use Rattle.preorder.specs.Preorder.{TurnByTurn}
-use Rattle.triangulator.specs.declared.Outcome.the-variants.{Patch, Refused}
-use Rattle.triangulator.specs.Call.{result, partOf, triangulated}
+use Rattle.triangulator.specs.declared.Outcome.the-variants.{Patch, None, Refused}
+use Rattle.triangulator.specs.Call.{valuesOf, result, partOf}
 use Rattle.triangulator.specs.Demands.{Taken, Handed, RestLeft, stated}
+use Rattle.pricing.specs.declared.Quote.the-variants as quote
+use Rattle.pricing.specs.Quote.{priced}
+use Rattle.pricing.specs.Quote as price
+use Rattle.pricing.specs.Patch.{patchedAt, triangulated}
+use Rattle.pricing.specs.Due.{AgreedDue, FirstDue}
+use Rattle.pricing.specs.Demands.{Quoted}
 use Rattle.judge.specs.declared.Judgement.the-variants as judgement
 use Rattle.judge.specs.Call.{judged}
 use Rattle.judge.specs.Call as judge
-use Rattle.judge.specs.Demands.{JobAccepted, IsTiling, Acceptable, SameNumbers, Excess}
+use Rattle.judge.specs.Demands.{IsTiling, Acceptable, SameNumbers, Excess}
 use Rattle.judge.specs.Due as judge-due
 use Rattle.pipeline.specs.Patching.{Tables, patchPolygon, patchFile}
 use Rattle.demands.specs.Demand1.{polygonIn, CallDue}
 use Rattle.demands.specs.Demand3.{jobLeft, problemLeft, answerIn}
 use Rattle.demands.specs.Polygons.{PatchDue}
 
--- ---- direct jobs, of the tiler's call
-pub record DirectJob (job : Job) (triangles work : List ℕ) : Type 0 where
-  -- demand 1: a patch or 'none' exactly when no number is due (rules 4.32, 4.33)
-  pub taken-when : Accepted job (length triangles) (length work) → Taken (triangulated job triangles work .outcome)
-  pub taken-only-when : Taken (triangulated job triangles work .outcome) → Accepted job (length triangles) (length work)
-  -- every other job gets the first number due, and both tables hold what they held (rules 4.30, 4.32)
+-- ---- the price of a direct job: the least total, before anyone decides to mill
+pub record Prices (job : Job) (work : List ℕ) : Type 0 where
+  -- demand 1: a total or 'none' exactly when no number is due, with no triangle table among those asked for (rules 4.33, 4.37)
+  pub priced-when : JobAccepted job (length work) → Quoted (priced job work .quote)
+  pub priced-only-when : Quoted (priced job work .quote) → JobAccepted job (length work)
+  -- every other job gets the first number due, and the work table holds what it held (rules 4.30, 4.37)
+  pub refused-first : (k : ℕ) → job-due.FirstDue job (job .n - 2) (length work) k → priced job work ≡ price.result (quote.Refused (refusal k)) work
+  pub given-first : (k : ℕ) → priced job work .quote ≡ quote.Refused (refusal k) → job-due.FirstDue job (job .n - 2) (length work) k
+  -- demand 3 as to total and 'none': a total exactly when there is a tiling, and no tiling costs less; 'none' exactly when there is none (rules 3.7, 3.15)
+  pub total-when : JobAccepted job (length work) → (s : List ℕ) → Triangulates (problemOf job) s →
+      (total : ℕ) × (priced job work .quote ≡ quote.Total (job .n - 2) total)
+  pub total-is : (count total : ℕ) → priced job work .quote ≡ quote.Total count total → (count ≡ job .n - 2) × Least (problemOf job) total
+  pub none-when : JobAccepted job (length work) → ((s : List ℕ) → Triangulates (problemOf job) s → ⊥) → priced job work .quote ≡ quote.None
+  pub none-only-when : priced job work .quote ≡ quote.None → (s : List ℕ) → Triangulates (problemOf job) s → ⊥
+  -- only the work table is written: 0 in a place for each candidate, and every further place keeps what it held (rule 3.9)
+  pub zeros : JobAccepted job (length work) → priced job work .work ≡ filled (replicate (length (job .candidates)) 0) work
+
+-- ---- the patch of a direct job at an agreed total
+pub record Patches (job : Job) (agreed : ℕ) (triangles work : List ℕ) : Type 0 where
+  -- demand 1: a patch or 'none' exactly when no number is due, 23 among them (rules 4.33, 4.37)
+  pub taken-when : NoneDue (AgreedDue job agreed (length triangles) (length work)) → Taken (patchedAt job agreed triangles work .outcome)
+  pub taken-only-when : Taken (patchedAt job agreed triangles work .outcome) → NoneDue (AgreedDue job agreed (length triangles) (length work))
+  -- every other call gets the first number due; where that is one of the job's, both tables hold what they held (rules 4.30, 4.32)
   pub refused-first : (k : ℕ) → job-due.FirstDue job (length triangles) (length work) k →
-      triangulated job triangles work ≡ result (Refused (refusal k)) triangles work
-  pub given-first : (k : ℕ) → triangulated job triangles work .outcome ≡ Refused (refusal k) → job-due.FirstDue job (length triangles) (length work) k
-  -- demand 3, what is handed back, and what is left beside it (rules 3.3 to 3.9)
-  pub right : Accepted job (length triangles) (length work) →
-      Demand3 (problemOf job) (stated (triangulated job triangles work .outcome) (triangulated job triangles work .triangles))
-  pub handed : Handed (problemOf job) (partOf (triangulated job triangles work .outcome) (triangulated job triangles work .triangles))
-      (triangulated job triangles work .outcome)
-  pub rest : Accepted job (length triangles) (length work) → RestLeft (length (job .candidates)) triangles work (triangulated job triangles work)
+      patchedAt job agreed triangles work ≡ result (Refused (refusal k)) triangles work
+  pub given-first : (k : ℕ) → patchedAt job agreed triangles work .outcome ≡ Refused (refusal k) → FirstDue job agreed (length triangles) (length work) k
+  -- 23 exactly when the job is accepted, has a tiling, and the agreed total is not the least: no triangle is written, and the work table is left as after
+  -- 'none' (rules 4.23, 4.30, 4.37)
+  pub gives-23 : Accepted job (length triangles) (length work) → (s : List ℕ) → Triangulates (problemOf job) s → (Least (problemOf job) agreed → ⊥) →
+      patchedAt job agreed triangles work ≡ result (Refused (refusal 23)) triangles (filled (replicate (length (job .candidates)) 0) work)
+  pub given-23 : patchedAt job agreed triangles work .outcome ≡ Refused (refusal 23) →
+      Accepted job (length triangles) (length work) × ((s : List ℕ) × Triangulates (problemOf job) s) × (Least (problemOf job) agreed → ⊥)
+  -- 'none' comes before the agreed total is looked at (rule 4.37)
+  pub none-whatever : Accepted job (length triangles) (length work) → ((s : List ℕ) → Triangulates (problemOf job) s → ⊥) →
+      patchedAt job agreed triangles work ≡ result None triangles (filled (replicate (length (job .candidates)) 0) work)
+  -- demand 3 in full, except where 23 is due (rules 3.3 to 3.8)
+  pub right : Accepted job (length triangles) (length work) → patchedAt job agreed triangles work .outcome ≢ Refused (refusal 23) →
+      Demand3 (problemOf job) (stated (patchedAt job agreed triangles work .outcome) (patchedAt job agreed triangles work .triangles))
+  pub total-agreed : (count total : ℕ) → patchedAt job agreed triangles work .outcome ≡ Patch count total → total ≡ agreed
+  -- what is handed back after every call, and what is left beside it, by 23 too (rules 3.8, 3.9, 4.30)
+  pub handed : Handed (problemOf job) (partOf (patchedAt job agreed triangles work .outcome) (patchedAt job agreed triangles work .triangles))
+      (patchedAt job agreed triangles work .outcome)
+  pub rest : Accepted job (length triangles) (length work) → RestLeft (length (job .candidates)) triangles work (patchedAt job agreed triangles work)
   pub valid : Accepted job (length triangles) (length work) → ValidProblem (problemOf job)
+  -- the judge accepts with excess 0 what was written (rules 3.14, 5.12)
+  pub judged-0 : (work′ : List ℕ) (count total : ℕ) → length (job .candidates) ≤ length work′ →
+      patchedAt job agreed triangles work .outcome ≡ Patch count total →
+      judged job (partOf (Patch count total) (patchedAt job agreed triangles work .triangles)) total work′
+      ≡ judge.result (judgement.Accepted 0) (filled (replicate (length (job .candidates)) 0) work′)
+
+-- ---- the price, and then the patch at that price
+pub record InTurn (job : Job) (triangles work : List ℕ) : Type 0 where
+  -- where the triangle table has its n - 2 places, the two in turn on one job give what the single call gave, in the answer and in every place (rule 5.13)
+  pub as-single : job .n - 2 ≤ length triangles →
+      patchedAt job (price.totalOf (priced job work .quote)) triangles (priced job work .work) ≡ triangulated job triangles work
+  pub price-as-single : job .n - 2 ≤ length triangles → price.valuesOf (priced job work .quote) ≡ valuesOf (triangulated job triangles work .outcome)
+  -- each call speaks of the job that is handed to it. After an edit, a total that is no longer the least writes no triangle (rules 4.23, 5.12)
+  pub no-longer : (count total : ℕ) → priced job work .quote ≡ quote.Total count total → (edited : Job) (work′ : List ℕ) →
+      Accepted edited (length triangles) (length work′) → (s : List ℕ) → Triangulates (problemOf edited) s → (Least (problemOf edited) total → ⊥) →
+      patchedAt edited total triangles work′ ≡ result (Refused (refusal 23)) triangles (filled (replicate (length (edited .candidates)) 0) work′)
+  -- and one that still is the least gives the best patch of the edited job (rules 3.7, 3.8, 5.12)
+  pub still-least : (count total : ℕ) → priced job work .quote ≡ quote.Total count total → (edited : Job) (work′ : List ℕ) →
+      Accepted edited (length triangles) (length work′) → Least (problemOf edited) total →
+      (patchedAt edited total triangles work′ .outcome ≡ Patch (edited .n - 2) total)
+      × HandedBack (problemOf edited) total (partOf (Patch (edited .n - 2) total) (patchedAt edited total triangles work′ .triangles))
 
 -- ---- what a tiling is: the test by edge counts, which demand 3 speaks of, says what rules 3.2 and 3.3 say of vertices and triangles
 pub record Tilings (problem : Problem) : Type 0 where
@@ -57,8 +113,8 @@ pub record Tilings (problem : Problem) : Type 0 where
 -- ---- turns: every patch is listed by turns, a triangle in each, and after each no more parts wait than triangles are still to be listed (rule 3.12); said of
 -- the list that is handed back, and kept by the code's loop turn for turn (`Listing` of preorder/proofs)
 pub record Turns : Type 0 where
-  pub of-jobs : (job : Job) (triangles work : List ℕ) → Accepted job (length triangles) (length work) → (total : ℕ) (l : List ℕ) →
-      stated (triangulated job triangles work .outcome) (triangulated job triangles work .triangles) ≡ patch total l → TurnByTurn (problemOf job) l
+  pub of-jobs : (job : Job) (agreed : ℕ) (triangles work : List ℕ) → Accepted job (length triangles) (length work) → (total : ℕ) (l : List ℕ) →
+      stated (patchedAt job agreed triangles work .outcome) (patchedAt job agreed triangles work .triangles) ≡ patch total l → TurnByTurn (problemOf job) l
   pub of-files : (limit : ℕ) (file : List ℕ) → Bytes file → (t : Tables) → NoneDue (CallDue limit file t) → (total : ℕ) (l : List ℕ) →
       answerIn (patchFile limit file t) ≡ patch total l → TurnByTurn (problemLeft (polygonIn limit file) (patchFile limit file t .left)) l
   pub of-polygons : (p : Polygon) (t : Tables) → NoneDue (PatchDue p t) → (total : ℕ) (l : List ℕ) →

@@ -31,7 +31,7 @@ use Rattle.finder.specs.Finding.{Finding, finding}
 use Rattle.finder.specs.Finding as finder
 use Rattle.finder.specs.Sizes.{placesOf, sizesOf}
 use Rattle.triangulation.specs.Triangulations.{ValidProblem}
-use Rattle.triangulator.specs.declared.Outcome.the-variants.{Patch, None}
+use Rattle.triangulator.specs.declared.Outcome.the-variants.{Patch, None, Refused}
 use Rattle.triangulator.specs.Call.{numberOf}
 use Rattle.triangulator.specs.Demands.{Taken}
 use Rattle.pipeline.specs.Patching.{Tables, Patching, refused, patchFile}
@@ -75,6 +75,8 @@ pub record Closes {Place : Type 0} (Before : Place → Place → Type 0) (Due : 
   -- every other call gets the first number due, and every lent table holds what it held (rules 4.30, 4.31, 4.34)
   pub refused-first : (k : ℕ) → order.First Before Due k → x ≡ refused k t
   pub given-first : (k : ℕ) → numberOf (x .outcome) ≡ suc k → order.First Before Due (suc k)
+  -- no total was agreed, so never 23 (rules 4.23, 5.1)
+  pub never-23 : x .outcome ≡ Refused (refusal 23) → ⊥
   -- demand 2, of the lists in the first places of the tables (rules 2.3 to 2.19, 3.9)
   pub lists : NoneDue Due → ListsLeft p t (x .left)
   -- with lengths that are whole parts of four times the root (rules 2.7, 2.8, 2.10 to 2.15)

@@ -1,6 +1,6 @@
 -- The answer has the least total, which is one number. Assumes nothing.
 use Prim.Native.Nat.{ℕ}
-use mathlib.Core.Path.{_≡_, refl, sym}
+use mathlib.Core.Path.{_≡_, refl}
 use mathlib.Core.List.{List}
 use native.Mathlib.Omega.{arith}
 use Rattle.triangulation.specs.Triangulations.{Problem, ValidProblem, Answer, none, patch, best}

@@ -88,7 +88,7 @@ returns-3 c =
     let s = call g in
     let e = h .before .before .before .before .before .solve .ensures in
     patch-not-least (s .args .n) _ (due s) (s .args .agreed) (zero g) (s .args .triangles .now) (s .args .work .now) (key g) (e .1 .0) (e .1 .1)
-    (c .new2 .ensures) (omega (arith, e .0, h .if2 .left)) (λ q. c .before .if3 .taken (e .0 ∙ sym q))
+    (c .new2 .ensures) (omega (arith, e .0, h .if2 .left)) (λ q. omega (arith, e .0, q, c .before .if3 .taken))
 
 sub-t10 : tie.Need-sub-t10
 sub-t10 c = omega (arith, formed (c .before .before .before .before .before .before .before .before .before) .valid .n3)
@@ -107,7 +107,7 @@ returns-4 c =
     let s = call g in
     let e = h .before .before .before .before .before .solve .ensures in
     patch-whole (s .args .n) _ (due s) (s .args .agreed) (zero g) (s .args .triangles .now) (s .args .work .now) (key g) (e .1 .0) (e .1 .1)
-    _ (e .0) (h .if2 .left) (sym (c .if3 .left)) (λ x l q. best-length (problemOf (job s)) (formed g .valid) x l (ap answerOf q))
+    _ (e .0) (h .if2 .left) (omega (arith, c .if3 .left)) (λ x l q. best-length (problemOf (job s)) (formed g .valid) x l (ap answerOf q))
 
 pub patch-spec : {M : Type 1} → statement M
 patch-spec =

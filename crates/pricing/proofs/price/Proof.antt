@@ -4,7 +4,7 @@ use mathlib.Core.Path.{_≡_, sym, _∙_}
 use native.Mathlib.Omega.{arith}
 use lib.ListN.{length}
 use Rattle.jobs.specs.Job.{Job, jobOf, codeWithoutTriangles}
-use Rattle.triangulation.specs.Triangulations.{Problem, bestKey}
+use Rattle.triangulation.specs.Triangulations.{bestKey}
 use Rattle.triangulation.specs.Problems.{problemOf}
 use Rattle.minimum_weight.proofs.Answer.{answer-light}
 use Rattle.triangulator.proofs.Accepting.{accepted-well-formed}
@@ -60,8 +60,8 @@ returns-2 c =
     quote-none (s .args .n) _ (due s) (s .args .work .now) (zero g) (bestKey (problemOf (job s))) (e .1) (omega (arith, e .0, c .if2 .taken))
     (answer-light (s .args .n) _ _ _ (f .0))
 
-sub-t8 : tie.Need-sub-t8
-sub-t8 c =
+sub-triangles : tie.Need-sub-triangles
+sub-triangles c =
     let g = c .before .before .before .before .before in
     let s = call g in
     omega (arith, accepted-well-formed (job s) (s .args .n - 2) (length (s .args .work .now)) (zero g) .0 .valid .n3)
@@ -87,6 +87,6 @@ price-spec =
     least-requires
     same-length
     returns-2
-    sub-t8
+    sub-triangles
     same-length-2
     returns-3)
