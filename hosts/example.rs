@@ -7,7 +7,7 @@
 
 #![forbid(unsafe_code)]
 
-use patch_box::{Number, Outcome, OwnedTables, Price};
+use patch_box::{Number, Outcome, OwnedTables, Quote};
 use std::ffi::{OsStr, OsString};
 use std::fmt::Write as _;
 use std::io::{Read, Write as _};
@@ -54,8 +54,8 @@ fn patch_line(triangles: usize, total: u64) -> String {
 fn priced(tables: &mut OwnedTables, n: usize) -> Result<u64, Number> {
     let OwnedTables { candidates, weights, rows, work, .. } = tables;
     Ok(match patch_box::price(n, candidates, weights, rows, work)? {
-        Price::None => 0,
-        Price::Total { total, .. } => total,
+        Quote::None => 0,
+        Quote::Total { total, .. } => total,
     })
 }
 

@@ -87,7 +87,7 @@ pub struct Sizes {
 
 /// The price of an accepted job.
 #[derive(Clone, Copy, Debug, PartialEq, Eq)]
-pub enum Price {
+pub enum Quote {
     /// The least total, and the triangles of a patch that has it: the places that [`patch`] needs for
     /// them.
     Total { triangles: usize, total: u64 },
@@ -241,7 +241,7 @@ pub fn price(
     weights: &[u32],
     rows: &[Row],
     work: &mut [u64],
-) -> Result<Price, Number> {
+) -> Result<Quote, Number> {
     call!(patch_box_price(n; candidates, weights, rows; work)).price()
 }
 
@@ -371,9 +371,9 @@ impl archive::Patch {
 }
 
 impl archive::Price {
-    fn price(self) -> Result<Price, Number> {
+    fn price(self) -> Result<Quote, Number> {
         let settled = settled(self.number, self.triangles, self.total)?;
-        Ok(settled.map_or(Price::None, |(triangles, total)| Price::Total { triangles, total }))
+        Ok(settled.map_or(Quote::None, |(triangles, total)| Quote::Total { triangles, total }))
     }
 }
 

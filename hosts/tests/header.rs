@@ -2,7 +2,7 @@
 
 #![forbid(unsafe_code)]
 
-use patch_box::{Number, Outcome, Price, MAX_CANDIDATES, MAX_FILE, MAX_ROWS, MAX_TRIANGLES};
+use patch_box::{Number, Outcome, Quote, MAX_CANDIDATES, MAX_FILE, MAX_ROWS, MAX_TRIANGLES};
 use patch_box::{MAX_VERTICES, MIN_VERTICES, TRIM_VERTICES};
 
 const HEADER: &str = include_str!("../patch_box.h");
@@ -99,7 +99,7 @@ fn empty_tables_are_lent() {
     assert_eq!(patch_box::find(&[], &mut [], &mut [], &mut []), Err(Number::Length));
     assert_eq!(patch_box::find_within(3, &[], &mut [], &mut [], &mut []), Err(Number::Length));
     assert_eq!(patch_box::convert(&[], &mut []), Err(Number::Length));
-    assert_eq!(patch_box::price(3, &[], &[], &[], &mut []), Ok(Price::None));
+    assert_eq!(patch_box::price(3, &[], &[], &[], &mut []), Ok(Quote::None));
     let patched = |places: &mut [u16]| patch_box::patch(3, &[], &[], &[], 0, places, &mut []);
     assert_eq!(patched(&mut []), Err(Number::TableTooShort));
     assert_eq!(patched(&mut [0]), Ok(Outcome::None));

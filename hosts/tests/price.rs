@@ -5,14 +5,14 @@
 mod common;
 
 use common::{damaged_p, p, rim_file, wavy_edge, Job};
-use patch_box::{Number, Outcome, OwnedTables, Price};
+use patch_box::{Number, Outcome, OwnedTables, Quote};
 
 /// No call writes it.
 const GUARD: u16 = u16::MAX;
 
 impl Job {
     /// The price, which leaves zeros in a work place for each candidate; a refusal nothing at all.
-    fn price(&self) -> Result<Price, Number> {
+    fn price(&self) -> Result<Quote, Number> {
         let Job { n, candidates, weights, rows, .. } = self;
         let mut work = self.guarded_work();
         let price = patch_box::price(*n, candidates, weights, rows, &mut work);
@@ -40,7 +40,7 @@ impl Job {
     /// The price is this, and at it the triangles are these.
     fn expect(&self, total: u64, list: &[u16]) {
         let triangles = self.n - 2;
-        assert_eq!(self.price(), Ok(Price::Total { triangles, total }));
+        assert_eq!(self.price(), Ok(Quote::Total { triangles, total }));
         for places in [triangles, triangles + 2] {
             assert_eq!(self.patch(total, places), Ok(Some((total, list.to_vec()))));
         }
@@ -85,7 +85,7 @@ fn no_triangulation() {
         job.candidates.truncate(2);
         job.rows.clear();
     });
-    assert_eq!(open.price(), Ok(Price::None));
+    assert_eq!(open.price(), Ok(Quote::None));
     for agreed in [0, 1, 943, u64::MAX] {
         assert_eq!(open.patch(agreed, 3), Ok(None), "{agreed}");
     }

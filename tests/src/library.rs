@@ -10,7 +10,7 @@ mod linked {
         Calls, ConvertAnswer, FindAnswer, JudgeAnswer, Lent, PatchAnswer, Places, ReadAnswer,
         Tables,
     };
-    use patch_box::{Number, Outcome, Price};
+    use patch_box::{Number, Outcome, Quote};
 
     /// The calls with a limit, or those without one.
     pub struct Library {
@@ -58,8 +58,8 @@ mod linked {
             );
             match price {
                 Err(number) => PatchAnswer::refused(number.code()),
-                Ok(Price::None) => PatchAnswer::NONE,
-                Ok(Price::Total { triangles, total }) => {
+                Ok(Quote::None) => PatchAnswer::NONE,
+                Ok(Quote::Total { triangles, total }) => {
                     PatchAnswer { number: 0, triangles, total }
                 }
             }

@@ -3,7 +3,7 @@
 use crate::diagnosis::diagnose;
 use crate::job::Job;
 use crate::vectors::length_in_quarters;
-use patch_box::{Number, Outcome, OwnedTables, Price};
+use patch_box::{Number, Outcome, OwnedTables, Quote};
 
 /// The lengths of normals, in quarters, that make up a square millimetre: a normal is as long as twice
 /// the area of its triangle, and a millimetre has eight steps of the grid.
@@ -11,7 +11,7 @@ const SQUARE_MILLIMETRE: u64 = 4 * 2 * 8 * 8;
 
 /// What a patch costs.
 #[derive(Clone, Copy, Debug, PartialEq, Eq)]
-pub struct Quote {
+pub struct Priced {
     pub total: u64,
     pub triangles: usize,
     /// The lengths of the triangles' normals, in quarters (rule 2.7).
@@ -19,7 +19,7 @@ pub struct Quote {
 }
 
 /// The price of a rim's patch, or nothing for 'none'. The patch itself is made for the area alone.
-pub fn price(file: &[u8]) -> Result<Option<Quote>, Number> {
+pub fn price(file: &[u8]) -> Result<Option<Priced>, Number> {
     let mut job = Job::of(file)?;
     let Some(total) = job.price()? else { return Ok(None) };
     let points = diagnose(file).vertices;
@@ -27,15 +27,15 @@ pub fn price(file: &[u8]) -> Result<Option<Quote>, Number> {
     let corners = patch.iter().map(|&number| job.tables.candidates[number as usize]);
     let lengths =
         corners.map(|t| length_in_quarters(t.map(|vertex| points[vertex as usize].point)));
-    Ok(Some(Quote { total, triangles: patch.len(), area: lengths.sum() }))
+    Ok(Some(Priced { total, triangles: patch.len(), area: lengths.sum() }))
 }
 
 impl Job {
     fn price(&mut self) -> Result<Option<u64>, Number> {
         let OwnedTables { candidates, weights, rows, work, .. } = &mut self.tables;
         Ok(match patch_box::price(self.n, candidates, weights, rows, work)? {
-            Price::None => None,
-            Price::Total { total, .. } => Some(total),
+            Quote::None => None,
+            Quote::Total { total, .. } => Some(total),
         })
     }
 
@@ -50,10 +50,10 @@ impl Job {
     }
 }
 
-impl Quote {
+impl Priced {
     /// In lines, with the area in square millimetres.
     pub fn text(&self) -> String {
-        let Quote { total, triangles, area } = self;
+        let Priced { total, triangles, area } = self;
         format!("total {total}\ntriangles {triangles}\narea {}\n", square_millimetres(*area))
     }
 }
