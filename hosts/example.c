@@ -99,10 +99,12 @@ static void print_patched(struct tables *t, size_t n, uint64_t agreed)
 {
     patch_box_patch_answer answer = patch_box_patch(LISTS(n, t), agreed, t->triangles, t->sizes.triangles, t->work, t->sizes.work);
     printf("patched at %llu: ", (unsigned long long)agreed);
-    if (answer.number == PATCH_BOX_ACCEPTED)
-        printf("patch %zu %zu %llu\n", n, answer.triangles, (unsigned long long)answer.total);
-    else
+    if (answer.number != PATCH_BOX_ACCEPTED)
         printf("refused %lu\n", (unsigned long)answer.number);
+    else if (answer.triangles == 0)
+        printf("none\n");
+    else
+        printf("patch %zu %zu %llu\n", n, answer.triangles, (unsigned long long)answer.total);
 }
 
 /* Judges the patch as one from elsewhere, which may have its triangles in any order, here in the reverse one, and with this total. */

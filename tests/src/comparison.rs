@@ -151,7 +151,7 @@ pub fn compare_patch(
 
 /// A direct job, with so many places in the triangle and work tables: its price, and then its patch at
 /// that total over the same tables, which is the answer. What is tested gives the same patch without a
-/// price before, and none at one more.
+/// price before, and 23 at one more.
 pub fn compare_job(
     expected: &dyn Calls,
     tested: &dyn Calls,

@@ -10,7 +10,7 @@ use Rattle.finder.specs.Sizes as sizes
 use Rattle.triangulator.specs.declared.Outcome.{Outcome}
 use Rattle.triangulator.specs.Call.{numberOf, trianglesOf, totalOf}
 use Rattle.pricing.specs.declared.Quote.{Quote}
-use Rattle.pricing.specs.Quote as quote
+use Rattle.pricing.specs.Quote as price
 use Rattle.judge.specs.declared.Judgement.{Judgement}
 use Rattle.judge.specs.Call.{excessOf}
 use Rattle.judge.specs.Call as judge
@@ -31,7 +31,7 @@ patchAnswerOf o = record { number = numberOf o; triangles = trianglesOf o; total
 
 -- the number, the triangle count and the total of a quote (rule 5.11)
 abbrev pub priceAnswerOf : Quote → PriceAnswer
-priceAnswerOf q = record { number = quote.numberOf q; triangles = quote.trianglesOf q; total = quote.totalOf q }
+priceAnswerOf q = record { number = price.numberOf q; triangles = price.trianglesOf q; total = price.totalOf q }
 
 -- the number and the excess of a judgement (rule 5.10)
 abbrev pub judgeAnswerOf : Judgement → JudgeAnswer

@@ -9,7 +9,6 @@ use native.Mathlib.Omega.{arith}
 use borrow.Author.Tests.{ltb-true, lt-ltb}
 use lib.Dec.{ltb}
 use lib.ListN.{length}
-use Rattle.codes.specs.Refusals.{refusal}
 use Rattle.lists.specs.Lists.{upFrom}
 use Rattle.lists.proofs.Choice.{Truth, holds, fails, truth, no, either-left, either-right}
 use Rattle.polygon.specs.declared.Polygon.{Polygon}
@@ -22,10 +21,9 @@ use Rattle.delaunay.specs.Candidates.{candidatesOf}
 use Rattle.finder.specs.Sizes.{placesOf}
 use Rattle.triangulation.specs.Triangulations.{best}
 use Rattle.triangulator.specs.declared.Outcome.{Outcome}
-use Rattle.triangulator.specs.declared.Outcome.the-variants.{Refused}
 use Rattle.triangulator.specs.Call.{numberOf}
 use Rattle.triangulator.specs.Demands.{Taken, a-patch, a-none}
-use Rattle.triangulator.proofs.Demands.{settled-taken}
+use Rattle.triangulator.proofs.Demands.{never-refused, settled-taken}
 use Rattle.pipeline.specs.Patching.{Tables, Patching, refused, rowsIn, problemIn, tablesShort, patched, patchBy, fileNumber, patchFile}
 use Rattle.demands.specs.Demand1.{polygonIn, TooShort, triangles, candidates, weights, rows, work, CallDue}
 use Rattle.demands.proofs.FileNumbers.{polygon-is, polygon-valid, file-verdict, none-read}
@@ -62,11 +60,7 @@ module _ (p : Polygon) (t : Tables) where
       (either-right (ltb (length (t .work)) (length (candidatesOf p))) _ (either-right (ltb (length (t .candidates)) (length (candidatesOf p))) _
       (either-right (ltb (length (t .weights)) (length (candidatesOf p))) _ (lt-ltb _ _ h))))
 
--- a patch and 'none' are no refusal, and have no number
-pub never-refused : {o : Outcome} {k : ℕ} → o ≡ Refused (refusal k) → Taken o → ⊥
-never-refused e a-patch = let z : _≡_ {A = ℕ} 0 1 = cc in omega arith
-never-refused e a-none = let z : _≡_ {A = ℕ} 0 1 = cc in omega arith
-
+-- a patch and 'none' have no number
 pub never-given : {o : Outcome} {k : ℕ} → Taken o → numberOf o ≡ suc k → ⊥
 never-given a-patch q = omega (arith, q)
 never-given a-none q = omega (arith, q)

@@ -18,7 +18,7 @@ use Rattle.triangulator.specs.Call.{partOf}
 use Rattle.triangulator.specs.Demands.{Taken, a-patch, Handed}
 use Rattle.judge.specs.declared.Judgement.the-variants as judgement
 use Rattle.judge.specs.Call.{result, judged}
-use Rattle.jobs.specs.Due.{Accepted, JobAccepted, job-at}
+use Rattle.jobs.specs.Due.{Accepted, AcceptedWithoutTriangles, job-at}
 use Rattle.pricing.specs.Patch.{patchedAt}
 use Rattle.pricing.specs.Due.{of-job}
 use Rattle.pricing.proofs.Demands as pricing
@@ -47,7 +47,7 @@ agreed-patch-accepted job agreed triangles work work′ count total room e =
     (pricing.handed job agreed triangles work)))
 
 -- none of 13 to 17 is due on the lists of a rim beside a work table that is long enough (rule 4.36)
-pub rim-job-accepted : (p : Polygon) → ValidPolygon p → (workPlaces : ℕ) → length (candidatesOf p) ≤ workPlaces → JobAccepted (jobIn p) workPlaces
+pub rim-job-accepted : (p : Polygon) → ValidPolygon p → (workPlaces : ℕ) → length (candidatesOf p) ≤ workPlaces → AcceptedWithoutTriangles (jobIn p) workPlaces
 rim-job-accepted p v workPlaces h =
     fitting-accepted (jobIn p) (p .n - 2) workPlaces
     (record { at-least = v .least; at-most = v .most; triangle-room = omega arith; work-room = h; lists = lists-accepted p v })

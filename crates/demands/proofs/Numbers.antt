@@ -1,4 +1,4 @@
--- The numbers of calls on rims: all are from 1 to 20, so the one call never gives a number of an agreed total. Assumes nothing.
+-- The numbers of calls on rims are at most 20, so the one call never gives 23. Assumes nothing.
 use mathlib.Core.Path.{_≡_, ap}
 use mathlib.Core.List.{List}
 use Prim.Native.Nat.{ℕ, _≤_}

@@ -17,12 +17,12 @@ use Rattle.triangulation.specs.Triangulations.{ValidProblem, best}
 use Rattle.triangulation.specs.Demand3.{Demand3}
 use Rattle.triangulator.specs.Call.{numberOf}
 use Rattle.triangulator.specs.Demands.{Taken}
-use Rattle.triangulator.proofs.Demands.{settled-taken}
+use Rattle.triangulator.proofs.Demands.{never-refused, settled-taken}
 use Rattle.pipeline.specs.Patching.{Tables, Patching, refused, problemIn, tablesShort, patched, patchBy, polygonNumber, patchPolygon}
 use Rattle.demands.specs.Demand1.{TooShort}
 use Rattle.demands.specs.Demand3.{ListsLeft, QuartersLeft, problemLeft, answerIn, RightOfTables, HandedOfTables, RestOfTables}
 use Rattle.demands.specs.Polygons.{by-polygon, PatchDue}
-use Rattle.demands.proofs.Demand1.{short-true, true-short, never-refused, never-given}
+use Rattle.demands.proofs.Demand1.{short-true, true-short, never-given}
 use Rattle.demands.proofs.PolygonNumbers.{polygon-verdict}
 use Rattle.demands.proofs.Quarters.{in-quarters}
 use Rattle.demands.proofs.Patched.{patched-demand2, patched-demand3, patched-demand3-of-tables}

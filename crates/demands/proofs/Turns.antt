@@ -1,4 +1,4 @@
--- Every patch is listed turn by turn (rule 3.12), of the call for direct jobs and of those on rim files and polygons. Assumes nothing.
+-- Every patch is listed turn by turn (rule 3.12), of the patch call and of the one call on rim files and polygons. Assumes nothing.
 use Prim.Native.Nat.{ℕ}
 use mathlib.Core.Path.{_≡_, sym, ap, _∙_, subst}
 use mathlib.Core.List.{List}
@@ -43,7 +43,7 @@ module _ (job : Job) where
   right-answer ok a d total l e =
       turn-by-turn (job .n) (job .candidates) (job .weights) (job .rows) ok total l (sym (demand3-unique (problemOf job) (ok .valid) a d) ∙ e)
 
-  -- of every patch that the call for direct jobs gives, at whatever total it was agreed
+  -- of every patch at an agreed total
   pub job-turn-by-turn : (agreed : ℕ) (triangles work : List ℕ) → Accepted job (length triangles) (length work) → (total : ℕ) (l : List ℕ)
       → stated (patchedAt job agreed triangles work .outcome) (patchedAt job agreed triangles work .triangles) ≡ patch total l → TurnByTurn (problemOf job) l
   job-turn-by-turn agreed triangles work a total l e =

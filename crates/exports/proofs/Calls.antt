@@ -7,7 +7,7 @@ use Rattle.finder.specs.Finding.{Finding, finding}
 use Rattle.triangulator.specs.declared.Outcome.{Outcome}
 use Rattle.triangulator.specs.Call.{Result, result}
 use Rattle.pricing.specs.declared.Quote.{Quote}
-use Rattle.pricing.specs.Quote as quote
+use Rattle.pricing.specs.Quote as price
 use Rattle.judge.specs.declared.Judgement.{Judgement}
 use Rattle.judge.specs.Call as judge
 use Rattle.pipeline.specs.Patching.{Tables, Patching, patching}
@@ -46,6 +46,6 @@ pub job-judged :
 job-judged {work = work} e h = ap (λ (x : JudgeAnswer). jobJudgement x work) e ∙ ap jobJudgementOf h
 
 pub job-priced :
-    {q : Quote} {a : PriceAnswer} {work : List ℕ} {r : quote.Result} →
-    a ≡ priceAnswerOf q → quote.result q work ≡ r → jobPrice a work ≡ jobPriceOf r
+    {q : Quote} {a : PriceAnswer} {work : List ℕ} {r : price.Result} →
+    a ≡ priceAnswerOf q → price.result q work ≡ r → jobPrice a work ≡ jobPriceOf r
 job-priced {work = work} e h = ap (λ (x : PriceAnswer). jobPrice x work) e ∙ ap jobPriceOf h

@@ -3,7 +3,7 @@ use Prim.Native.Nat.{ℕ}
 use mathlib.Core.List.{List}
 use Rattle.finder.specs.Finding.{Finding}
 use Rattle.triangulator.specs.Call.{Result}
-use Rattle.pricing.specs.Quote as quote
+use Rattle.pricing.specs.Quote as price
 use Rattle.judge.specs.Call as judge
 use Rattle.pipeline.specs.Patching.{Tables, Patching}
 use Rattle.converter.specs.Call.{Converting}
@@ -33,7 +33,7 @@ pub record JobPrice : Type 0 where
 abbrev pub jobPrice : PriceAnswer → List ℕ → JobPrice
 jobPrice answer work = record { answer = answer; work = work }
 
-abbrev pub jobPriceOf : quote.Result → JobPrice
+abbrev pub jobPriceOf : price.Result → JobPrice
 jobPriceOf r = jobPrice (priceAnswerOf (r .quote)) (r .work)
 
 -- a direct job's patch, with the triangle and work tables after it (rules 3.8, 3.9)

@@ -1,4 +1,4 @@
-// The calls that hosts in C and Rust link: each makes the one call of its stage, and gives the host its numbers. Each call on a rim file but the conversion
+// The calls that hosts in C and Rust link: each makes one call of the library, and gives the host its numbers. Each call on a rim file but the conversion
 // stands twice: with the limit that the host asks for, and with the largest.
 use answers::ConvertAnswer;
 use answers::FindAnswer;
@@ -81,7 +81,7 @@ pub extern "C" fn patch_box_price(
     answers::price_answer(quote)
 }
 
-// And the patch, where the agreed total is the least.
+// The tiler's other call: the patch, where the agreed total is the least.
 #[no_mangle]
 pub extern "C" fn patch_box_patch(
     n: usize,

@@ -58,15 +58,15 @@ module _ (job : Job) (trianglePlaces workPlaces : ℕ) where
   Accepted = NoneDue JobDue
 
 -- the job is accepted beside a work table of so many places, where no triangle table is lent (rules 4.36, 4.37)
-abbrev pub JobAccepted : Job → ℕ → Type 0
-JobAccepted job workPlaces = Accepted job (job .n - 2) workPlaces
+abbrev pub AcceptedWithoutTriangles : Job → ℕ → Type 0
+AcceptedWithoutTriangles job workPlaces = Accepted job (job .n - 2) workPlaces
 
 -- a call that goes on testing once the job is accepted: a number is due at a place of the job, or after it (rules 4.36, 4.37)
-pub data CallPlace : Type 0 where
-  job-at : JobPlace → CallPlace
-  after-job : CallPlace
+pub data JobCallPlace : Type 0 where
+  job-at : JobPlace → JobCallPlace
+  after-job : JobCallPlace
 
 -- one place comes before another (rules 4.36, 4.37): those of the job in their order, then what comes after it
-pub data CallBefore : CallPlace → CallPlace → Type 0 where
-  job-job : {p q : JobPlace} → JobBefore p q → CallBefore (job-at p) (job-at q)
-  job-after : {p : JobPlace} → CallBefore (job-at p) after-job
+pub data JobCallBefore : JobCallPlace → JobCallPlace → Type 0 where
+  job-job : {p q : JobPlace} → JobBefore p q → JobCallBefore (job-at p) (job-at q)
+  job-after : {p : JobPlace} → JobCallBefore (job-at p) after-job

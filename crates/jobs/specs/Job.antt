@@ -82,6 +82,6 @@ jobCode job trianglePlaces workPlaces =
     (unless (enough (length (job .candidates)) workPlaces) 13
     (listsCode job)))
 
--- the number where no triangle table is lent: as beside one that has its n - 2 places (rule 4.36)
+-- the number where no triangle table is lent: as beside one that has its n - 2 places (rules 4.36, 4.37)
 abbrev pub codeWithoutTriangles : Job → ℕ → ℕ
 codeWithoutTriangles job workPlaces = jobCode job (job .n - 2) workPlaces

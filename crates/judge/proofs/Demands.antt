@@ -12,7 +12,7 @@ use Rattle.triangulation.specs.Triangulations.{Problem, ValidProblem, best}
 use Rattle.triangulation.specs.Problems.{problemOf}
 use Rattle.triangulation.specs.Demand3.{HandedBack}
 use Rattle.jobs.specs.Job.{Job, codeWithoutTriangles}
-use Rattle.jobs.specs.Due.{JobAccepted}
+use Rattle.jobs.specs.Due.{AcceptedWithoutTriangles}
 use Rattle.jobs.proofs.Acceptance.{accepted-zero}
 use Rattle.triangulator.proofs.Accepting.{accepted-well-formed}
 use Rattle.judge.specs.declared.Judgement.the-variants as judgement
@@ -22,7 +22,7 @@ use Rattle.judge.specs.Due.{FirstDue}
 use Rattle.judge.proofs.Tilings.{same-code}
 use Rattle.judge.proofs.Numbers.{code-due, due-code, zero-accepts, accepts-zero}
 use Rattle.judge.proofs.FirstNumber.{verdict}
-use Rattle.judge.proofs.Least.{excess-is}
+use Rattle.judge.proofs.Excess.{excess-is}
 
 -- an acceptance is no refusal
 not-both : {excess number : ℕ} → judgement.Accepted excess ≡ judgement.Refused (refusal number) → ⊥
@@ -32,7 +32,7 @@ module _ (job : Job) where
   abbrev problem : Problem
   problem = problemOf job
 
-  pub valid : {workPlaces : ℕ} → JobAccepted job workPlaces → ValidProblem problem
+  pub valid : {workPlaces : ℕ} → AcceptedWithoutTriangles job workPlaces → ValidProblem problem
   valid {workPlaces} a = accepted-well-formed job (job .n - 2) workPlaces (accepted-zero job (job .n - 2) workPlaces a) .0 .valid
 
   module _ (list : List ℕ) (stated : ℕ) (work : List ℕ) where
@@ -59,12 +59,12 @@ module _ (job : Job) where
         by (suc k) f = absurd (not-both (sym e ∙ number-is f))
 
     -- of an accepted problem the judge accepts exactly those lists that are a tiling without repeats and have the stated total (rules 3.13, 4.36)
-    pub accepts-when : JobAccepted job (length work) → Acceptable problem list stated →
+    pub accepts-when : AcceptedWithoutTriangles job (length work) → Acceptable problem list stated →
         (excess : ℕ) × (judged job list stated work .judgement ≡ judgement.Accepted excess)
     accepts-when a l = (excessOver (best problem) stated, ap (λ (r : Result). r .judgement) (by-code (accepts-zero job list stated (length work) a l)))
 
     pub accepts-only-when : (excess : ℕ) → judged job list stated work .judgement ≡ judgement.Accepted excess →
-        JobAccepted job (length work) × Acceptable problem list stated
+        AcceptedWithoutTriangles job (length work) × Acceptable problem list stated
     accepts-only-when excess e = zero-accepts job list stated (length work) (accepted-code excess e)
 
     -- then its answer is how far the total is above the least, 0 exactly when no tiling costs less (rule 3.14), and it leaves zeros (rule 3.9)
@@ -102,7 +102,7 @@ module _ (job : Job) where
       (same-code problem list list′ stated h)
 
   -- a patch as the caller is handed it is accepted with excess 0 (rules 3.8, 3.14)
-  pub handed-accepted : (total : ℕ) (part work : List ℕ) → JobAccepted job (length work) → HandedBack problem total part
+  pub handed-accepted : (total : ℕ) (part work : List ℕ) → AcceptedWithoutTriangles job (length work) → HandedBack problem total part
       → judged job part total work ≡ result (judgement.Accepted 0) (filled (replicate (length (job .candidates)) 0) work)
   handed-accepted total part work a h =
       let o = h .right in

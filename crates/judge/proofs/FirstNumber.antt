@@ -12,7 +12,7 @@ use Rattle.terms.proofs.Order.{Verdict, none-due}
 use Rattle.triangulation.specs.Triangulations.{Problem}
 use Rattle.triangulation.specs.Problems.{problemOf}
 use Rattle.jobs.specs.Job.{Job}
-use Rattle.jobs.specs.Due.{JobPlace, JobDue, JobAccepted, CallPlace, job-at, after-job, CallBefore}
+use Rattle.jobs.specs.Due.{JobPlace, JobDue, AcceptedWithoutTriangles, JobCallPlace, job-at, after-job, JobCallBefore}
 use Rattle.jobs.proofs.First.{verdict-unless}
 use Rattle.jobs.proofs.FirstNumber as jobs
 use Rattle.jobs.proofs.Calls.{call-verdict}
@@ -25,13 +25,7 @@ module _ (job : Job) (list : List ℕ) (stated workPlaces : ℕ) where
   abbrev problem : Problem
   problem = problemOf job
 
-  abbrev code : ℕ
-  code = judgeCode job list stated workPlaces
-
-  abbrev J : JobPlace → ℕ → Type 0
-  J = JobDue job (job .n - 2) workPlaces
-
-  abbrev D : CallPlace → ℕ → Type 0
+  abbrev D : JobCallPlace → ℕ → Type 0
   D = JudgeDue job list stated workPlaces
 
   -- what is due at a place of the job is due on the job
@@ -39,24 +33,24 @@ module _ (job : Job) (list : List ℕ) (stated workPlaces : ℕ) where
   to-job p k (of-job d) = d
 
   -- ---- of an accepted job, the list's two
-  module _ (a : JobAccepted job workPlaces) where
-    before-21 : (p : CallPlace) (j : ℕ) → Precedes CallBefore p j after-job 21 → D p j → ⊥
+  module _ (a : AcceptedWithoutTriangles job workPlaces) where
+    before-21 : (p : JobCallPlace) (j : ℕ) → Precedes JobCallBefore p j after-job 21 → D p j → ⊥
     before-21 _ j h (of-job {p} d) = a .none p j d
     before-21 _ _ (by-number l) (no-tiling d) = omega arith
     before-21 _ _ (by-number l) (other-total d) = omega arith
 
     module _ (t : isTiling problem list ≡ true) where
-      before-22 : (p : CallPlace) (j : ℕ) → Precedes CallBefore p j after-job 22 → D p j → ⊥
+      before-22 : (p : JobCallPlace) (j : ℕ) → Precedes JobCallBefore p j after-job 22 → D p j → ⊥
       before-22 _ j h (of-job {p} d) = a .none p j d
       before-22 _ _ (by-number l) (no-tiling d) = d (named problem list) (tiling-is problem list t)
       before-22 _ _ (by-number l) (other-total d) = omega arith
 
-      nothing : eqb stated (listTotal problem list) ≡ true → (p : CallPlace) (j : ℕ) → D p j → ⊥
+      nothing : eqb stated (listTotal problem list) ≡ true → (p : JobCallPlace) (j : ℕ) → D p j → ⊥
       nothing e _ j (of-job {p} d) = a .none p j d
       nothing e _ _ (no-tiling d) = d (named problem list) (tiling-is problem list t)
       nothing e _ _ (other-total d) = d (eqb-true stated (listTotal problem list) e)
 
-    list-verdict : Verdict CallBefore D (listCode problem list stated)
+    list-verdict : Verdict JobCallBefore D (listCode problem list stated)
     unfolding listCode
     list-verdict =
         verdict-unless after-job 20 (isTiling problem list) _ before-21 (λ e. no-tiling (λ set t. true-not-false (is-tiling problem list t) e))
@@ -65,6 +59,6 @@ module _ (job : Job) (list : List ℕ) (stated workPlaces : ℕ) where
         (λ e. none-due (record { none = nothing t e }) refl))
 
   -- ---- the number is the first due, or 0 where none is
-  pub verdict : Verdict CallBefore (JudgeDue job list stated workPlaces) (judgeCode job list stated workPlaces)
+  pub verdict : Verdict JobCallBefore (JudgeDue job list stated workPlaces) (judgeCode job list stated workPlaces)
   unfolding judgeCode
   verdict = call-verdict (λ p k d. of-job d) to-job (jobs.verdict job (job .n - 2) workPlaces) list-verdict

@@ -1,7 +1,7 @@
 pub mod Tilings
 pub mod FirstNumber
 pub mod Numbers
-pub mod Least
+pub mod Excess
 pub mod Settling
 pub mod Demands
 pub mod Refusals

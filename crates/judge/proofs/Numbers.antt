@@ -10,7 +10,7 @@ use Rattle.terms.proofs.Order.{verdict-first, verdict-given}
 use Rattle.triangulation.specs.Triangulations.{Problem, totalWeight}
 use Rattle.triangulation.specs.Problems.{problemOf}
 use Rattle.jobs.specs.Job.{Job, jobCode}
-use Rattle.jobs.specs.Due.{JobAccepted}
+use Rattle.jobs.specs.Due.{AcceptedWithoutTriangles}
 use Rattle.jobs.proofs.Acceptance.{accepted-zero, zero-accepted}
 use Rattle.jobs.proofs.Calls.{ordered}
 use Rattle.validation.specs.Validation.{named, listTotal, listCode}
@@ -35,25 +35,25 @@ module _ (job : Job) (list : List ℕ) (stated workPlaces : ℕ) where
   due-code k f = verdict-first ordered (verdict job list stated workPlaces) f
 
   -- ---- and none exactly when the problem is accepted and the list acceptable
-  pub zero-accepts : code ≡ 0 → JobAccepted job workPlaces × Acceptable problem list stated
+  pub zero-accepts : code ≡ 0 → AcceptedWithoutTriangles job workPlaces × Acceptable problem list stated
   unfolding judgeCode
   zero-accepts e =
       let z = due-neither (jobCode job (job .n - 2) workPlaces) (listCode problem list stated) e in
       (zero-accepted job (job .n - 2) workPlaces (z .0), zero-acceptable problem list stated (z .1))
 
-  pub accepts-zero : JobAccepted job workPlaces → Acceptable problem list stated → code ≡ 0
+  pub accepts-zero : AcceptedWithoutTriangles job workPlaces → Acceptable problem list stated → code ≡ 0
   unfolding judgeCode
   accepts-zero a l =
       due-on (listCode problem list stated) (accepted-zero job (job .n - 2) workPlaces a) ∙ acceptable-zero problem list stated l
 
   -- ---- of an accepted problem 21 where the list is no tiling, and 22 where it is one of another total
-  pub no-tiling-code : JobAccepted job workPlaces → ((set : List ℕ) → IsTiling problem list set → ⊥) → code ≡ 21
+  pub no-tiling-code : AcceptedWithoutTriangles job workPlaces → ((set : List ℕ) → IsTiling problem list set → ⊥) → code ≡ 21
   unfolding judgeCode listCode
   no-tiling-code a h =
       due-on (listCode problem list stated) (accepted-zero job (job .n - 2) workPlaces a)
       ∙ no _ _ (not-true-false _ (λ t. h (named problem list) (tiling-is problem list t)))
 
-  pub other-total-code : JobAccepted job workPlaces → (set : List ℕ) → IsTiling problem list set → stated ≢ totalWeight problem set → code ≡ 22
+  pub other-total-code : AcceptedWithoutTriangles job workPlaces → (set : List ℕ) → IsTiling problem list set → stated ≢ totalWeight problem set → code ≡ 22
   unfolding judgeCode listCode
   other-total-code a set t h =
       due-on (listCode problem list stated) (accepted-zero job (job .n - 2) workPlaces a)

@@ -3,8 +3,8 @@ use Prim.Native.Nat.{ℕ, _+_}
 use mathlib.Core.Path.{_≡_}
 use mathlib.Core.List.{List}
 use Rattle.triangulation.specs.Triangulations.{Problem, totalWeight}
-use Rattle.triangulation.specs.Demand3.{Triangulates, NamesOnce}
-use Rattle.triangulation.specs.Least.{Cheapest, Least}
+use Rattle.triangulation.specs.Demand3.{Triangulates, Cheapest, NamesOnce}
+use Rattle.triangulation.specs.LeastTotal.{Least}
 use Rattle.validation.specs.Validation.{times}
 
 -- the list is the tiling `set`, in whatever order and without repeats (rule 3.13)

@@ -12,21 +12,21 @@ use Rattle.terms.proofs.Order.{none-first, first-unique}
 use Rattle.triangulation.specs.Triangulations.{Problem, Answer, none, patch, best}
 use Rattle.triangulation.specs.Problems.{problemOf}
 use Rattle.triangulation.specs.Demand3.{Triangulates, Demand3}
-use Rattle.triangulation.specs.Least.{Least}
+use Rattle.triangulation.specs.LeastTotal.{Least}
 use Rattle.triangulation.proofs.Demand3.{demand3, best-length}
 use Rattle.triangulation.proofs.LeastTotal.{least-unique}
 use Rattle.jobs.specs.Job.{Job}
-use Rattle.jobs.specs.Due.{Accepted, CallPlace}
+use Rattle.jobs.specs.Due.{Accepted, JobCallPlace}
 use Rattle.jobs.specs.Due as job-due
 use Rattle.jobs.proofs.Acceptance.{at-most-17}
 use Rattle.jobs.proofs.Calls.{ordered}
 use Rattle.triangulator.specs.declared.Outcome.the-variants.{Patch, None, Refused}
 use Rattle.triangulator.specs.Call.{numberOf, totalOf, partOf, Result, result, settled}
 use Rattle.triangulator.specs.Demands.{stated, Taken, a-patch, a-none, Handed, RestLeft}
-use Rattle.triangulator.proofs.Demands.{settled-states, settled-handed, settled-rest, refused-handed}
+use Rattle.triangulator.proofs.Demands.{never-refused, settled-states, settled-handed, settled-rest, refused-handed}
 use Rattle.pricing.specs.Patch.{patchedAt}
 use Rattle.pricing.specs.Due.{AgreedDue, of-job, not-least, FirstDue}
-use Rattle.pricing.proofs.Patching.{not-taken, job-valid, PatchEnd, in-refusal, in-none, in-23, in-patch, patch-end, first-of-job, first-23}
+use Rattle.pricing.proofs.Patching.{job-valid, PatchEnd, in-refusal, in-none, in-23, in-patch, patch-end, first-of-job, first-23}
 
 module _ (job : Job) (agreed : ℕ) (triangles work : List ℕ) where
   abbrev problem : Problem
@@ -44,7 +44,7 @@ module _ (job : Job) (agreed : ℕ) (triangles work : List ℕ) where
   abbrev Fits : Type 0
   Fits = Accepted job (length triangles) (length work)
 
-  abbrev Due : CallPlace → ℕ → Type 0
+  abbrev Due : JobCallPlace → ℕ → Type 0
   Due = AgreedDue job agreed (length triangles) (length work)
 
   abbrev End : Type 0
@@ -73,13 +73,13 @@ module _ (job : Job) (agreed : ℕ) (triangles work : List ℕ) where
       none-with : Fits → ((s : List ℕ) → Triangulates problem s → (Least problem agreed → ⊥) → ⊥) → NoneDue Due
       none-with ok h = record { none = no-due }
         where
-          no-due : (p : CallPlace) (k : ℕ) → Due p k → ⊥
+          no-due : (p : JobCallPlace) (k : ℕ) → Due p k → ⊥
           no-due _ k (of-job {p} d) = ok .none p k d
           no-due _ _ (not-least s x y) = h s x y
 
       by : End → NoneDue Due
-      by (in-refusal k f e) = absurd (not-taken (outcome-of e) t)
-      by (in-23 ok least h d e) = absurd (not-taken (outcome-of e) t)
+      by (in-refusal k f e) = absurd (never-refused (outcome-of e) t)
+      by (in-23 ok least h d e) = absurd (never-refused (outcome-of e) t)
       by (in-none ok h b e) = none-with ok (λ s x y. h s x)
       by (in-patch ok h l b e) = none-with ok (λ s x y. y h)
 
@@ -96,6 +96,22 @@ module _ (job : Job) (agreed : ℕ) (triangles work : List ℕ) where
       by (in-none ok h b e) = absurd (none-first ok f)
       by (in-patch ok h l b e) = absurd (none-first ok f)
 
+  pub first-given : (k : ℕ) → FirstDue job agreed (length triangles) (length work) k → patchedAt job agreed triangles work .outcome ≡ Refused (refusal k)
+  first-given k f = by end
+    where
+      refused-with : {j : ℕ} {t w : List ℕ} → call ≡ result (Refused (refusal j)) t w → FirstDue job agreed (length triangles) (length work) j
+          → call .outcome ≡ Refused (refusal k)
+      refused-with e g = outcome-of e ∙ ap (λ (i : ℕ). Refused (refusal i)) (first-unique ordered g f)
+
+      taken : {r : Result} → call ≡ r → Taken (r .outcome) → call .outcome ≡ Refused (refusal k)
+      taken e t = absurd (none-first (taken-only-when (subst (λ (r : Result). Taken (r .outcome)) (sym e) t)) f)
+
+      by : End → call .outcome ≡ Refused (refusal k)
+      by (in-refusal j g e) = refused-with e (first-of-job job agreed triangles work g)
+      by (in-23 ok least h d e) = refused-with e (first-23 job agreed triangles work ok least h d)
+      by (in-none ok h b e) = taken e a-none
+      by (in-patch ok h l b e) = taken e a-patch
+
   pub given-first : (k : ℕ) → patchedAt job agreed triangles work .outcome ≡ Refused (refusal k) → FirstDue job agreed (length triangles) (length work) k
   given-first k q = by end
     where
@@ -105,8 +121,8 @@ module _ (job : Job) (agreed : ℕ) (triangles work : List ℕ) where
       by : End → FirstDue job agreed (length triangles) (length work) k
       by (in-refusal j g e) = subst (FirstDue job agreed (length triangles) (length work)) (numbered e) (first-of-job job agreed triangles work g)
       by (in-23 ok least h d e) = subst (FirstDue job agreed (length triangles) (length work)) (numbered e) (first-23 job agreed triangles work ok least h d)
-      by (in-none ok h b e) = absurd (not-taken (sym (outcome-of e) ∙ q) a-none)
-      by (in-patch ok h l b e) = absurd (not-taken (sym (outcome-of e) ∙ q) a-patch)
+      by (in-none ok h b e) = absurd (never-refused (sym (outcome-of e) ∙ q) a-none)
+      by (in-patch ok h l b e) = absurd (never-refused (sym (outcome-of e) ∙ q) a-patch)
 
   -- 23 exactly when the job is accepted, has a tiling, and the agreed total is not the least (rules 4.23, 4.37)
   pub gives-23 : Accepted job (length triangles) (length work) → (s : List ℕ) → Triangulates (problemOf job) s → (Least (problemOf job) agreed → ⊥) →
@@ -128,8 +144,18 @@ module _ (job : Job) (agreed : ℕ) (triangles work : List ℕ) where
           let j : suc k ≡ 23 = ap numberOf (sym (outcome-of e) ∙ q) in
           absurd (omega (arith, at-most-17 job (length triangles) (length work) (f .is-due), j))
       by (in-23 ok least h d e) = (ok, (h .set, h .tiles), λ (l : Least problem agreed). d (least-unique l h))
-      by (in-none ok h b e) = absurd (not-taken (sym (outcome-of e) ∙ q) a-none)
-      by (in-patch ok h l b e) = absurd (not-taken (sym (outcome-of e) ∙ q) a-patch)
+      by (in-none ok h b e) = absurd (never-refused (sym (outcome-of e) ∙ q) a-none)
+      by (in-patch ok h l b e) = absurd (never-refused (sym (outcome-of e) ∙ q) a-patch)
+
+  -- where the agreed total is not the least, no triangle is written, whatever else is wrong (rules 4.23, 4.30)
+  pub unwritten : (Least (problemOf job) agreed → ⊥) → patchedAt job agreed triangles work .triangles ≡ triangles
+  unwritten n = by end
+    where
+      by : End → call .triangles ≡ triangles
+      by (in-refusal k f e) = ap (λ (r : Result). r .triangles) e
+      by (in-23 _ least h d e) = ap (λ (r : Result). r .triangles) e
+      by (in-none _ h b e) = ap (λ (r : Result). r .triangles) e
+      by (in-patch _ h l b e) = absurd (n h)
 
   -- 'none' before the agreed total is looked at (rule 4.37)
   pub none-whatever : Accepted job (length triangles) (length work) → ((s : List ℕ) → Triangulates (problemOf job) s → ⊥) →
@@ -174,8 +200,8 @@ module _ (job : Job) (agreed : ℕ) (triangles work : List ℕ) where
   total-agreed number total q = by end
     where
       by : End → total ≡ agreed
-      by (in-refusal k f e) = absurd (not-taken (sym q ∙ outcome-of e) a-patch)
-      by (in-23 ok least h d e) = absurd (not-taken (sym q ∙ outcome-of e) a-patch)
+      by (in-refusal k f e) = absurd (never-refused (sym q ∙ outcome-of e) a-patch)
+      by (in-23 ok least h d e) = absurd (never-refused (sym q ∙ outcome-of e) a-patch)
       by (in-none ok h b e) = absurd (no-patch (sym q ∙ outcome-of e))
         where
           no-patch : Patch number total ≡ None → ⊥

@@ -4,15 +4,15 @@ use mathlib.Core.Path.{_≡_, refl, sym, ap, _∙_, subst}
 use mathlib.Core.List.{List}
 use native.Mathlib.Omega.{arith}
 use lib.ListN.{length, replicate, length-replicate}
-use borrow.Author.Tests.{eq-eqb, ne-eqb}
+use borrow.Author.Tests.{eq-eqb}
 use Rattle.codes.specs.Refusals.{refusal}
 use Rattle.lists.specs.Lists.{filled}
-use Rattle.lists.proofs.Choice.{yes, no}
+use Rattle.lists.proofs.Choice.{yes}
 use Rattle.lists.proofs.Writing.{filled-length, filled-over}
 use Rattle.triangulation.specs.Triangulations.{Answer, none, patch, best}
 use Rattle.triangulation.specs.Problems.{problemOf}
 use Rattle.triangulation.specs.Demand3.{HandedBack}
-use Rattle.triangulation.specs.Least.{Least}
+use Rattle.triangulation.specs.LeastTotal.{Least}
 use Rattle.triangulation.proofs.Demand3.{best-length}
 use Rattle.jobs.specs.Job.{Job, jobCode, codeWithoutTriangles}
 use Rattle.jobs.specs.Due.{Accepted}
@@ -21,14 +21,13 @@ use Rattle.jobs.proofs.Acceptance.{fitting}
 use Rattle.triangulator.specs.declared.Outcome.{Outcome}
 use Rattle.triangulator.specs.declared.Outcome.the-variants.{Patch, Refused}
 use Rattle.triangulator.specs.Call.{values, partOf, Result, result, settled}
-use Rattle.triangulator.specs.Call as single
+use Rattle.triangulator.specs.Call as tiler
 use Rattle.triangulator.specs.Demands.{Handed}
 use Rattle.triangulator.proofs.Accepting.{accepted-well-formed}
 use Rattle.triangulator.proofs.Demands.{patch-handed}
-use Rattle.pricing.specs.declared.Quote.the-variants as quote
 use Rattle.pricing.specs.Quote.{totalOf, valuesOf, quoteOf, priced}
 use Rattle.pricing.specs.Quote as price
-use Rattle.pricing.specs.Patch.{settledAt, patchedAt, triangulated}
+use Rattle.pricing.specs.Patch.{refusedOr, settledAt, patchedAt, triangulated}
 use Rattle.pricing.proofs.Patching.{settled-call, refused-call}
 use Rattle.pricing.proofs.Demands.{handed, patch-at}
 
@@ -55,13 +54,11 @@ module _ (job : Job) (triangles work : List ℕ) (room : job .n - 2 ≤ length t
 
   single-accepted : code ≡ 0 → triangulated job triangles work ≡ settled answer count triangles work
   unfolding triangulated
-  single-accepted e = yes _ _ (eq-eqb (jobCode job (length triangles) (length work)) 0 (code-is ∙ e))
+  single-accepted e = ap (λ (k : ℕ). refusedOr k triangles work (settled answer count triangles work)) (code-is ∙ e)
 
   single-refused : (k : ℕ) → code ≡ suc k → triangulated job triangles work ≡ result (Refused (refusal (suc k))) triangles work
   unfolding triangulated
-  single-refused k e =
-      no _ _ (ne-eqb (jobCode job (length triangles) (length work)) 0 (λ z. omega (arith, code-is, e, z)))
-      ∙ ap (λ (j : ℕ). result (Refused (refusal j)) triangles work) (code-is ∙ e)
+  single-refused k e = ap (λ (j : ℕ). refusedOr j triangles work (settled answer count triangles work)) (code-is ∙ e)
 
   -- a work table of zeros is as long as before, and is cleared to the same
   cleared-long : code ≡ 0 → length cleared ≡ length work
@@ -91,21 +88,21 @@ module _ (job : Job) (triangles work : List ℕ) (room : job .n - 2 ≤ length t
       by (suc k) e = after e ∙ refused-call job 0 triangles work k (code-is ∙ e) ∙ sym (single-refused k e)
 
   -- and the price has its number, its triangle count and its total
-  pub in-turn-values : valuesOf (priced job work .quote) ≡ single.valuesOf (triangulated job triangles work .outcome)
+  pub in-turn-values : valuesOf (priced job work .quote) ≡ tiler.valuesOf (triangulated job triangles work .outcome)
   in-turn-values = by code refl
     where
-      answered : code ≡ 0 → (a : Answer) → answer ≡ a → valuesOf (quoteOf (job .n) a) ≡ single.valuesOf (settled a count triangles work .outcome)
+      answered : code ≡ 0 → (a : Answer) → answer ≡ a → valuesOf (quoteOf (job .n) a) ≡ tiler.valuesOf (settled a count triangles work .outcome)
       answered e none b = refl
       answered e (patch total l) b =
           let v = accepted-well-formed job (job .n - 2) (length work) e .0 .valid in
           ap (λ (c : ℕ). values 0 c total) (sym (best-length (problemOf job) v total l b))
 
-      by : (k : ℕ) → code ≡ k → valuesOf (priced job work .quote) ≡ single.valuesOf (triangulated job triangles work .outcome)
+      by : (k : ℕ) → code ≡ k → valuesOf (priced job work .quote) ≡ tiler.valuesOf (triangulated job triangles work .outcome)
       by zero e =
           ap (λ (r : price.Result). valuesOf (r .quote)) (price-is e) ∙ answered e answer refl
-          ∙ ap (λ (r : Result). single.valuesOf (r .outcome)) (sym (single-accepted e))
+          ∙ ap (λ (r : Result). tiler.valuesOf (r .outcome)) (sym (single-accepted e))
       by (suc k) e =
-          ap (λ (r : price.Result). valuesOf (r .quote)) (price-is e) ∙ ap (λ (r : Result). single.valuesOf (r .outcome)) (sym (single-refused k e))
+          ap (λ (r : price.Result). valuesOf (r .quote)) (price-is e) ∙ ap (λ (r : Result). tiler.valuesOf (r .outcome)) (sym (single-refused k e))
 
 -- a patch at the least total is the best one of the job that is handed over with it, whatever was priced before (rules 3.7, 5.12)
 pub best-at : (job : Job) (agreed : ℕ) (triangles work : List ℕ) → Accepted job (length triangles) (length work) → Least (problemOf job) agreed

@@ -1,4 +1,4 @@
--- Demands 1 and 3 of the call that patches a direct job at an agreed total: its outcome and tables, and when it gives 23. Assumes nothing.
+-- How a patch at an agreed total ends, case by case, and the first number due on it. Assumes nothing.
 use Prim.Native.Nat.{ℕ, zero, suc, _-_}
 use mathlib.Core.Path.{_≡_, refl, sym, ap, _∙_, subst}
 use mathlib.Core.Logic.{_≢_}
@@ -6,7 +6,7 @@ use mathlib.Core.List.{List}
 use native.Mathlib.Omega.{arith}
 use lib.Dec.{eqb}
 use lib.ListN.{length, replicate}
-use borrow.Author.Tests.{eq-eqb, ne-eqb, eqb-true, eqb-false}
+use borrow.Author.Tests.{eqb-true, eqb-false}
 use Rattle.codes.specs.Refusals.{refusal}
 use Rattle.lists.specs.Lists.{filled}
 use Rattle.lists.proofs.Choice.{Truth, truth, holds, fails, yes, no}
@@ -14,25 +14,18 @@ use Rattle.terms.specs.Order as order
 use Rattle.triangulation.specs.Triangulations.{Problem, ValidProblem, Answer, none, patch, best}
 use Rattle.triangulation.specs.Problems.{problemOf}
 use Rattle.triangulation.specs.Demand3.{Triangulates}
-use Rattle.triangulation.specs.Least.{Least}
+use Rattle.triangulation.specs.LeastTotal.{Least}
 use Rattle.triangulation.proofs.LeastTotal.{least-unique, Known, known, without, answer-known}
 use Rattle.jobs.specs.Job.{Job, jobCode}
-use Rattle.jobs.specs.Due.{JobPlace, JobDue, Accepted, CallPlace, job-at, after-job, CallBefore}
+use Rattle.jobs.specs.Due.{JobPlace, JobDue, Accepted, JobCallPlace, job-at, after-job, JobCallBefore}
 use Rattle.jobs.specs.Due as job-due
 use Rattle.jobs.proofs.Acceptance.{accepted-zero, zero-accepted, code-due}
 use Rattle.jobs.proofs.Calls.{job-first}
-use Rattle.triangulator.specs.declared.Outcome.{Outcome}
 use Rattle.triangulator.specs.declared.Outcome.the-variants.{Refused}
 use Rattle.triangulator.specs.Call.{Result, result, settled}
-use Rattle.triangulator.specs.Demands.{Taken, a-patch, a-none}
 use Rattle.triangulator.proofs.Accepting.{accepted-well-formed}
-use Rattle.pricing.specs.Patch.{settledAt, patchedAt}
+use Rattle.pricing.specs.Patch.{refusedOr, settledAt, patchedAt}
 use Rattle.pricing.specs.Due.{AgreedDue, of-job, not-least, FirstDue}
-
--- a patch and 'none' are no refusals
-pub not-taken : {o : Outcome} {k : ℕ} → o ≡ Refused (refusal k) → Taken o → ⊥
-not-taken e a-patch = let z : _≡_ {A = ℕ} 0 1 = cc in omega arith
-not-taken e a-none = let z : _≡_ {A = ℕ} 0 1 = cc in omega arith
 
 module _ (job : Job) (agreed : ℕ) (triangles work : List ℕ) where
   abbrev problem : Problem
@@ -75,12 +68,14 @@ module _ (job : Job) (agreed : ℕ) (triangles work : List ℕ) where
   pub settled-call : jobCode job (length triangles) (length work) ≡ 0
       → patchedAt job agreed triangles work ≡ settledAt agreed (best (problemOf job)) (length (job .candidates)) triangles work
   unfolding patchedAt
-  settled-call e = yes _ _ (eq-eqb _ 0 e)
+  settled-call e =
+      ap (λ (k : ℕ). refusedOr k triangles work (settledAt agreed (best (problemOf job)) (length (job .candidates)) triangles work)) e
 
   pub refused-call : (k : ℕ) → jobCode job (length triangles) (length work) ≡ suc k
       → patchedAt job agreed triangles work ≡ result (Refused (refusal (suc k))) triangles work
   unfolding patchedAt
-  refused-call k e = no _ _ (ne-eqb (jobCode job (length triangles) (length work)) 0 (λ z. omega (arith, e, z))) ∙ ap (λ (j : ℕ). result (Refused (refusal j)) triangles work) e
+  refused-call k e =
+      ap (λ (j : ℕ). refusedOr j triangles work (settledAt agreed (best (problemOf job)) (length (job .candidates)) triangles work)) e
 
   pub patch-end : PatchEnd (patchedAt job agreed triangles work)
   patch-end = by (jobCode job (length triangles) (length work)) refl
@@ -91,11 +86,8 @@ module _ (job : Job) (agreed : ℕ) (triangles work : List ℕ) where
           subst PatchEnd (sym (settled-call e)) (accepted-end ok (best problem) (answer-known problem (job-valid ok)) refl)
       by (suc k) e = in-refusal k (code-due job (length triangles) (length work) k e) (refused-call k e)
 
-  outcome-is : {o : Outcome} {t w : List ℕ} → call ≡ result o t w → call .outcome ≡ o
-  outcome-is e = ap (λ (r : Result). r .outcome) e
-
   -- ---- the first number due on the call
-  abbrev Due : CallPlace → ℕ → Type 0
+  abbrev Due : JobCallPlace → ℕ → Type 0
   Due = AgreedDue job agreed (length triangles) (length work)
 
   to-job : (p : JobPlace) (k : ℕ) → Due (job-at p) k → JobDue job (length triangles) (length work) p k
@@ -112,6 +104,6 @@ module _ (job : Job) (agreed : ℕ) (triangles work : List ℕ) where
     none-before = none-before;
   }
     where
-      none-before : (q : CallPlace) (j : ℕ) → order.Precedes CallBefore q j after-job 23 → Due q j → ⊥
+      none-before : (q : JobCallPlace) (j : ℕ) → order.Precedes JobCallBefore q j after-job 23 → Due q j → ⊥
       none-before _ j l (of-job {p} x) = ok .none p j x
       none-before _ _ (order.by-number l) (not-least s t x) = omega arith

@@ -7,15 +7,15 @@ use lib.ListN.{length, replicate}
 use Rattle.codes.specs.Refusals.{refusal}
 use Rattle.lists.specs.Lists.{filled}
 use Rattle.terms.proofs.Order.{none-first}
-use Rattle.triangulation.specs.Triangulations.{Problem, Answer, best}
+use Rattle.triangulation.specs.Triangulations.{Problem, ValidProblem, Answer, best}
 use Rattle.triangulation.specs.Problems.{problemOf}
 use Rattle.triangulation.specs.Demand3.{Triangulates}
-use Rattle.triangulation.specs.Least.{Least}
+use Rattle.triangulation.specs.LeastTotal.{Least}
 use Rattle.triangulation.proofs.LeastTotal.{Known, known, without, answer-known}
 use Rattle.jobs.specs.Job.{Job, codeWithoutTriangles}
-use Rattle.jobs.specs.Due.{JobAccepted}
+use Rattle.jobs.specs.Due.{AcceptedWithoutTriangles}
 use Rattle.jobs.specs.Due as job-due
-use Rattle.jobs.proofs.Acceptance.{zero-accepted, code-due, first-only}
+use Rattle.jobs.proofs.Acceptance.{accepted-zero, zero-accepted, code-due, first-only}
 use Rattle.triangulator.proofs.Accepting.{accepted-well-formed}
 use Rattle.pricing.specs.declared.Quote.{Quote}
 use Rattle.pricing.specs.declared.Quote.the-variants.{Total, None, Refused}
@@ -37,12 +37,16 @@ module _ (job : Job) (work : List ℕ) where
   abbrev cleared : List ℕ
   cleared = filled (replicate (length (job .candidates)) 0) work
 
+  -- an accepted job states a valid problem: what is proved of tilings holds of it (rules 3.1 to 3.3)
+  pub priced-valid : AcceptedWithoutTriangles job (length work) → ValidProblem (problemOf job)
+  priced-valid a = accepted-well-formed job (job .n - 2) (length work) (accepted-zero job (job .n - 2) (length work) a) .0 .valid
+
   -- how a call ends
   pub data PriceEnd (r : Result) : Type 0 where
     in-refusal : (k : ℕ) → job-due.FirstDue job (job .n - 2) (length work) (suc k) → r ≡ result (Refused (refusal (suc k))) work → PriceEnd r
-    in-total : (total : ℕ) → JobAccepted job (length work) → Least (problemOf job) total
+    in-total : (total : ℕ) → AcceptedWithoutTriangles job (length work) → Least (problemOf job) total
         → r ≡ result (Total (job .n - 2) total) (filled (replicate (length (job .candidates)) 0) work) → PriceEnd r
-    in-none : JobAccepted job (length work) → ((s : List ℕ) → Triangulates (problemOf job) s → ⊥)
+    in-none : AcceptedWithoutTriangles job (length work) → ((s : List ℕ) → Triangulates (problemOf job) s → ⊥)
         → r ≡ result None (filled (replicate (length (job .candidates)) 0) work) → PriceEnd r
 
   abbrev at : ℕ → Answer → Result
@@ -64,7 +68,7 @@ module _ (job : Job) (work : List ℕ) where
           subst (λ (j : ℕ). PriceEnd (at j (best problem))) (sym e) (in-refusal k (code-due job (job .n - 2) (length work) k e) refl)
 
   -- ---- demand 1 (rules 4.33, 4.37): a total or 'none' exactly when the job is accepted, else the first number due, and the work table holds what it held
-  pub priced-when : JobAccepted job (length work) → Quoted (priced job work .quote)
+  pub priced-when : AcceptedWithoutTriangles job (length work) → Quoted (priced job work .quote)
   priced-when a = by price-end
     where
       by : PriceEnd (priced job work) → Quoted (priced job work .quote)
@@ -72,10 +76,10 @@ module _ (job : Job) (work : List ℕ) where
       by (in-total total _ h e) = subst (λ (r : Result). Quoted (r .quote)) (sym e) a-total
       by (in-none _ h e) = subst (λ (r : Result). Quoted (r .quote)) (sym e) a-none
 
-  pub priced-only-when : Quoted (priced job work .quote) → JobAccepted job (length work)
+  pub priced-only-when : Quoted (priced job work .quote) → AcceptedWithoutTriangles job (length work)
   priced-only-when q = by price-end
     where
-      by : PriceEnd (priced job work) → JobAccepted job (length work)
+      by : PriceEnd (priced job work) → AcceptedWithoutTriangles job (length work)
       by (in-refusal k f e) = absurd (not-refused (ap (λ (r : Result). r .quote) e) q)
       by (in-total total a h e) = a
       by (in-none a h e) = a
@@ -98,7 +102,7 @@ module _ (job : Job) (work : List ℕ) where
       by (in-none a h e) = absurd (not-refused (sym (ap (λ (r : Result). r .quote) e) ∙ q) a-none)
 
   -- ---- demand 3 as to total and 'none' (rules 3.7, 3.15): a total exactly when there is a tiling, and it is the least; 'none' exactly when there is none
-  pub total-when : JobAccepted job (length work) → (s : List ℕ) → Triangulates (problemOf job) s
+  pub total-when : AcceptedWithoutTriangles job (length work) → (s : List ℕ) → Triangulates (problemOf job) s
       → (total : ℕ) × (priced job work .quote ≡ Total (job .n - 2) total)
   total-when a s t = by price-end
     where
@@ -117,7 +121,7 @@ module _ (job : Job) (work : List ℕ) where
           (ap trianglesOf p, subst (Least (problemOf job)) (sym (ap totalOf p)) h)
       by (in-none a h e) = absurd (not-none (sym q ∙ ap (λ (r : Result). r .quote) e))
 
-  pub none-when : JobAccepted job (length work) → ((s : List ℕ) → Triangulates (problemOf job) s → ⊥) → priced job work .quote ≡ None
+  pub none-when : AcceptedWithoutTriangles job (length work) → ((s : List ℕ) → Triangulates (problemOf job) s → ⊥) → priced job work .quote ≡ None
   none-when a n = by price-end
     where
       by : PriceEnd (priced job work) → priced job work .quote ≡ None
@@ -134,7 +138,7 @@ module _ (job : Job) (work : List ℕ) where
       by (in-none a h e) = h
 
   -- ---- only the work table is written: zeros, one for each candidate (rule 3.9)
-  pub price-work : JobAccepted job (length work) → priced job work .work ≡ filled (replicate (length (job .candidates)) 0) work
+  pub price-work : AcceptedWithoutTriangles job (length work) → priced job work .work ≡ filled (replicate (length (job .candidates)) 0) work
   price-work a = by price-end
     where
       by : PriceEnd (priced job work) → priced job work .work ≡ cleared

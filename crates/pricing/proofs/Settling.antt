@@ -16,11 +16,12 @@ use Rattle.triangulation.specs.Triangulations.{Answer, answerOf}
 use Rattle.triangulation.specs.Recursion.{costOf, restOf, noTotal}
 use Rattle.triangulator.specs.declared.Outcome.{Outcome}
 use Rattle.triangulator.specs.declared.Outcome.the-variants as outcome
-use Rattle.triangulator.specs.Call as patch
+use Rattle.triangulator.specs.Call as tiler
 use Rattle.triangulator.specs.Call.{values, dueValues}
 use Rattle.pricing.specs.declared.Quote.the-variants.{Total, None, Refused}
 use Rattle.pricing.specs.Quote.{valuesOf, result, quoteOf, settled}
-use Rattle.pricing.specs.Patch.{refusedOr, settledAt, valuesAt, dueValuesAt, listedAt}
+use Rattle.pricing.specs.Patch.{refusedOr, settledAt, valuesAt, dueValuesAt}
+use Rattle.pricing.specs.Steps.{listedAt}
 
 -- ---- the price, by the exits of the code
 module _ (n count number : ℕ) (work : List ℕ) where
@@ -62,7 +63,8 @@ pub listed : {agreed : ℕ} (k triangles : List ℕ) → agreed ≡ costOf k →
 listed k triangles e = sym (yes _ _ (eq-eqb _ (costOf k) e))
 
 pub not-listed : {agreed : ℕ} (k triangles : List ℕ) → (k ≡ []) ⊎ (agreed ≢ costOf k) → triangles ≡ listedAt agreed k triangles
-not-listed {agreed} k triangles (inl e) = same (eqb agreed (costOf k)) ∙ ap (λ (l : List ℕ). cond (eqb agreed (costOf k)) (filled (restOf l) triangles) triangles) (sym e)
+not-listed {agreed} k triangles (inl e) =
+    same (eqb agreed (costOf k)) ∙ ap (λ (l : List ℕ). cond (eqb agreed (costOf k)) (filled (restOf l) triangles) triangles) (sym e)
   where
     same : (b : Bool) → triangles ≡ cond b triangles triangles
     same true = refl
@@ -71,35 +73,35 @@ not-listed {agreed} k triangles (inr d) = sym (no _ _ (ne-eqb agreed (costOf k) 
 
 -- ---- the patch, by the exits of the code
 -- a number of the job
-pub patch-refused : {r : Refusal} (k number agreed n : ℕ) (a : Answer) (triangles work : List ℕ) (x : patch.Result) → r ≡ refusal k → k ≡ number → k ≢ 0
-    → (patch.result (outcome.Refused r) triangles work ≡ refusedOr number triangles work x)
-    × (patch.valuesOf (outcome.Refused r) ≡ dueValuesAt number agreed n a)
+pub patch-refused : {r : Refusal} (k number agreed n : ℕ) (a : Answer) (triangles work : List ℕ) (x : tiler.Result) → r ≡ refusal k → k ≡ number → k ≢ 0
+    → (tiler.result (outcome.Refused r) triangles work ≡ refusedOr number triangles work x)
+    × (tiler.valuesOf (outcome.Refused r) ≡ dueValuesAt number agreed n a)
 patch-refused {r} k number agreed n a triangles work x m e d = by number e
   where
-    by : (j : ℕ) → k ≡ j → (patch.result (outcome.Refused r) triangles work ≡ refusedOr j triangles work x)
-        × (patch.valuesOf (outcome.Refused r) ≡ dueValuesAt j agreed n a)
+    by : (j : ℕ) → k ≡ j → (tiler.result (outcome.Refused r) triangles work ≡ refusedOr j triangles work x)
+        × (tiler.valuesOf (outcome.Refused r) ≡ dueValuesAt j agreed n a)
     by zero e = absurd (d e)
     by (suc j) e =
         let q = m ∙ ap refusal e in (
-          ap (λ (y : Refusal). patch.result (outcome.Refused y) triangles work) q ∙ sym (no _ _ (ne-eqb (suc j) 0 (λ z. omega (arith, z)))),
-          ap (λ (y : Refusal). patch.valuesOf (outcome.Refused y)) q,
+          ap (λ (y : Refusal). tiler.result (outcome.Refused y) triangles work) q,
+          ap (λ (y : Refusal). tiler.valuesOf (outcome.Refused y)) q,
         )
 
 -- what a key with a total says, where the agreed total is another, and where it is the same
 module _ (n count agreed : ℕ) (triangles work : List ℕ) where
   other-total : (k : List ℕ) → costOf k < noTotal → agreed ≢ costOf k
-      → (settledAt agreed (answerOf k) count triangles work ≡ patch.result (outcome.Refused (refusal 23)) triangles (filled (replicate count 0) work))
+      → (settledAt agreed (answerOf k) count triangles work ≡ tiler.result (outcome.Refused (refusal 23)) triangles (filled (replicate count 0) work))
       × (valuesAt agreed n (answerOf k) ≡ values 23 0 0)
   other-total [] h d = absurd (omega arith)
   other-total (x ∷ l) h d = (no _ _ (ne-eqb agreed x d), no _ _ (ne-eqb agreed x d))
 
   same-total : (k : List ℕ) → costOf k < noTotal → agreed ≡ costOf k → ((x : ℕ) (l : List ℕ) → k ≡ x ∷ l → length l ≡ n - 2)
       → (settledAt agreed (answerOf k) count triangles work
-      ≡ patch.result (outcome.Patch (n - 2) (costOf k)) (filled (restOf k) triangles) (filled (replicate count 0) work))
+      ≡ tiler.result (outcome.Patch (n - 2) (costOf k)) (filled (restOf k) triangles) (filled (replicate count 0) work))
       × (valuesAt agreed n (answerOf k) ≡ values 0 (n - 2) (costOf k))
   same-total [] h e m = absurd (omega arith)
   same-total (x ∷ l) h e m = (
-    yes _ _ (eq-eqb agreed x e) ∙ ap (λ (c : ℕ). patch.result (outcome.Patch c x) (filled l triangles) (filled (replicate count 0) work)) (m x l refl),
+    yes _ _ (eq-eqb agreed x e) ∙ ap (λ (c : ℕ). tiler.result (outcome.Patch c x) (filled l triangles) (filled (replicate count 0) work)) (m x l refl),
     yes _ _ (eq-eqb agreed x e),
   )
 
@@ -107,36 +109,37 @@ module _ (n count agreed : ℕ) (triangles work : List ℕ) where
 module _ (n count number agreed : ℕ) (z : number ≡ 0) (triangles work k : List ℕ) {listed-in cleared-in : List ℕ}
     (e : listed-in ≡ listedAt agreed k triangles) (f : cleared-in ≡ filled (replicate count 0) work) where
   abbrev Right : Outcome → Type 0
-  Right o = (patch.result o listed-in cleared-in ≡ refusedOr number triangles work (settledAt agreed (answerOf k) count triangles work))
-      × (patch.valuesOf o ≡ dueValuesAt number agreed n (answerOf k))
+  Right o = (tiler.result o listed-in cleared-in ≡ refusedOr number triangles work (settledAt agreed (answerOf k) count triangles work))
+      × (tiler.valuesOf o ≡ dueValuesAt number agreed n (answerOf k))
 
   -- it is enough to know the answer
-  accepted : (o : Outcome) → patch.result o listed-in cleared-in ≡ settledAt agreed (answerOf k) count triangles work
-      → patch.valuesOf o ≡ valuesAt agreed n (answerOf k) → Right o
+  accepted : (o : Outcome) → tiler.result o listed-in cleared-in ≡ settledAt agreed (answerOf k) count triangles work
+      → tiler.valuesOf o ≡ valuesAt agreed n (answerOf k) → Right o
   accepted o g h = (
-    g ∙ sym (yes _ _ (eq-eqb number 0 z)),
+    g ∙ ap (λ (j : ℕ). refusedOr j triangles work (settledAt agreed (answerOf k) count triangles work)) (sym z),
     h ∙ ap (λ (j : ℕ). dueValuesAt j agreed n (answerOf k)) (sym z),
   )
 
   pub patch-none : noTotal ≤ costOf k → (k ≡ []) ⊎ (costOf k < noTotal) → Right outcome.None
   patch-none h (inr q) = absurd (omega arith)
   patch-none h (inl q) = accepted outcome.None
-      (ap₂ (patch.result outcome.None) (e ∙ sym (not-listed k triangles (inl q))) f ∙ ap (λ (l : List ℕ). settledAt agreed (answerOf l) count triangles work) (sym q))
+      (ap₂ (tiler.result outcome.None) (e ∙ sym (not-listed k triangles (inl q))) f
+      ∙ ap (λ (l : List ℕ). settledAt agreed (answerOf l) count triangles work) (sym q))
       (ap (λ (l : List ℕ). valuesAt agreed n (answerOf l)) (sym q))
 
   pub patch-not-least : {r : Refusal} → r ≡ refusal 23 → costOf k < noTotal → agreed ≢ costOf k → Right (outcome.Refused r)
   patch-not-least {r} m h d =
       let o = other-total n count agreed triangles work k h d in
       accepted (outcome.Refused r)
-      (ap₂ (patch.result (outcome.Refused r)) (e ∙ sym (not-listed k triangles (inr d))) f
-      ∙ ap (λ (y : Refusal). patch.result (outcome.Refused y) triangles (filled (replicate count 0) work)) m ∙ sym (o .0))
-      (ap (λ (y : Refusal). patch.valuesOf (outcome.Refused y)) m ∙ sym (o .1))
+      (ap₂ (tiler.result (outcome.Refused r)) (e ∙ sym (not-listed k triangles (inr d))) f
+      ∙ ap (λ (y : Refusal). tiler.result (outcome.Refused y) triangles (filled (replicate count 0) work)) m ∙ sym (o .0))
+      (ap (λ (y : Refusal). tiler.valuesOf (outcome.Refused y)) m ∙ sym (o .1))
 
   pub patch-whole : (total : ℕ) → total ≡ costOf k → total < noTotal → agreed ≡ total
       → ((x : ℕ) (l : List ℕ) → k ≡ x ∷ l → length l ≡ n - 2) → Right (outcome.Patch (n - 2) total)
   patch-whole total g h a m =
       let o = same-total n count agreed triangles work k (omega (arith, g)) (a ∙ g) m in
       accepted (outcome.Patch (n - 2) total)
-      (ap₂ (patch.result (outcome.Patch (n - 2) total)) (e ∙ sym (listed k triangles (a ∙ g))) f
-      ∙ ap (λ (t : ℕ). patch.result (outcome.Patch (n - 2) t) (filled (restOf k) triangles) (filled (replicate count 0) work)) g ∙ sym (o .0))
+      (ap₂ (tiler.result (outcome.Patch (n - 2) total)) (e ∙ sym (listed k triangles (a ∙ g))) f
+      ∙ ap (λ (t : ℕ). tiler.result (outcome.Patch (n - 2) t) (filled (restOf k) triangles) (filled (replicate count 0) work)) g ∙ sym (o .0))
       (ap (values 0 (n - 2)) g ∙ sym (o .1))

@@ -4,13 +4,13 @@ use mathlib.Core.List.{List}
 use Rattle.terms.specs.Order.{First}
 use Rattle.triangulation.specs.Problems.{problemOf}
 use Rattle.triangulation.specs.Demand3.{Triangulates}
-use Rattle.triangulation.specs.Least.{Least}
+use Rattle.triangulation.specs.LeastTotal.{Least}
 use Rattle.jobs.specs.Job.{Job}
-use Rattle.jobs.specs.Due.{JobPlace, JobDue, CallPlace, job-at, after-job, CallBefore}
+use Rattle.jobs.specs.Due.{JobPlace, JobDue, JobCallPlace, job-at, after-job, JobCallBefore}
 
 module _ (job : Job) (agreed trianglePlaces workPlaces : ℕ) where
   -- number k is due at a place (rules 4.13 to 4.17, 4.23)
-  pub data AgreedDue : CallPlace → ℕ → Type 0 where
+  pub data AgreedDue : JobCallPlace → ℕ → Type 0 where
     -- one of the job's (rules 4.13 to 4.17)
     of-job : {p : JobPlace} {k : ℕ} → JobDue job trianglePlaces workPlaces p k → AgreedDue (job-at p) k
     -- there is a tiling, and the agreed total is not the least (rule 4.23)
@@ -18,4 +18,4 @@ module _ (job : Job) (agreed trianglePlaces workPlaces : ℕ) where
 
   -- the first number due on a call (rule 4.37)
   abbrev pub FirstDue : ℕ → Type 0
-  FirstDue = First CallBefore AgreedDue
+  FirstDue = First JobCallBefore AgreedDue

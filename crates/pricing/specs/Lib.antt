@@ -1,5 +1,6 @@
 pub mod Quote
 pub mod Patch
+pub mod Steps
 pub mod Due
 pub mod Demands
 pub mod Cases

@@ -8,14 +8,14 @@ use Rattle.codes.specs.Refusals.{refusal}
 use Rattle.lists.specs.Lists.{filled}
 use Rattle.triangulation.specs.Triangulations.{Answer, none, patch, best}
 use Rattle.triangulation.specs.Problems.{problemOf}
-use Rattle.triangulation.specs.Recursion.{costOf, restOf}
 use Rattle.jobs.specs.Job.{Job, jobCode}
 use Rattle.triangulator.specs.declared.Outcome.the-variants.{Refused}
 use Rattle.triangulator.specs.Call.{Values, values, answerValues, Result, result, settled}
 
 -- a refusal changes no table (rule 4.30), and comes before a patch and 'none' (rule 4.33)
 abbrev pub refusedOr : ℕ → List ℕ → List ℕ → Result → Result
-refusedOr number triangles work otherwise = cond (eqb number 0) otherwise (result (Refused (refusal number)) triangles work)
+refusedOr zero triangles work otherwise = otherwise
+refusedOr (suc k) triangles work otherwise = result (Refused (refusal (suc k))) triangles work
 
 -- an answer where a total was agreed (rules 4.23, 4.37): 'none' whatever it was; where it is not the least total 23, which writes no triangle and leaves the
 -- work table as 'none' does; else the patch
@@ -42,12 +42,8 @@ dueValuesAt (suc k) agreed n answer = values (suc k) 0 0
 abbrev pub patchedAtValues : Job → ℕ → ℕ → ℕ → Values
 patchedAtValues job agreed trianglePlaces workPlaces = dueValuesAt (jobCode job trianglePlaces workPlaces) agreed (job .n) (best (problemOf job))
 
--- one call in the place of the two, which no host can make: what they are measured by (rules 4.32, 5.13)
+-- the single call that the two replace, which nothing makes: what they give in turn is measured by it (rules 4.32, 5.13)
 unfoldable pub triangulated : Job → List ℕ → List ℕ → Result
 triangulated job triangles work =
     refusedOr (jobCode job (length triangles) (length work)) triangles work
     (settled (best (problemOf job)) (length (job .candidates)) triangles work)
-
--- the triangle table once the totals are known, for the code: the triangles where the agreed total is the least
-abbrev pub listedAt : ℕ → List ℕ → List ℕ → List ℕ
-listedAt agreed key triangles = cond (eqb agreed (costOf key)) (filled (restOf key) triangles) triangles

@@ -1,11 +1,11 @@
--- What wrong tilers would answer and leave on the direct jobs of rules 6.1 to 6.4 and 6.10. That none of it is right is proved (proofs/WrongCalls.antt);
--- nobody has to believe it.
+-- What wrong tilers would answer and leave on direct jobs, most of them of rules 6.1 to 6.4 and 6.10. That none of it is right is proved
+-- (proofs/WrongCalls.antt); nobody has to believe it.
 use mathlib.Core.List.{List, [], _∷_}
 use Prim.Native.Nat.{ℕ}
 use Rattle.codes.specs.Refusals.{refusal}
 use Rattle.terms.specs.Entries.{triple}
 use Rattle.jobs.specs.Job.{Job, jobOf}
-use Rattle.jobs.specs.Cases.{single, jobP, ties}
+use Rattle.jobs.specs.Cases.{single, jobP, editedP, ties}
 use Rattle.triangulator.specs.declared.Outcome.the-variants.{Patch, None, Refused}
 use Rattle.triangulator.specs.Call.{Result, result}
 use Rattle.pricing.specs.declared.Quote.the-variants as quote
@@ -73,6 +73,12 @@ wrongPatches =
     ∷ patchCall (ties (triple 1 3 1 ∷ [])) 3 (twoTriangles 3 1 3)
     -- a refusal that clears the work table
     ∷ patchCall (ties (triple 1 0 1 ∷ [])) 2 (result (Refused (refusal 16)) (9 ∷ 9 ∷ 9 ∷ []) cleared)
+    -- a hole taken for a patch
+    ∷ patchCall (jobOf 5 (triple 0 1 2 ∷ triple 0 2 4 ∷ []) (1 ∷ 1 ∷ []) []) 2 (result (Patch 3 2) (1 ∷ 0 ∷ 9 ∷ 9 ∷ []) (0 ∷ 0 ∷ 9 ∷ []))
+    -- the patch of the job as it was priced, after edits: its total is no longer the least, and another patch has it
+    ∷ patchCall (editedP 320 257) 943 (twoTriangles 943 1 3)
+    ∷ patchCall (editedP 262 256) 943 (twoTriangles 943 1 3)
+    ∷ patchCall (editedP 263 257) 943 (twoTriangles 943 1 3)
     -- 23 before 'none'
     ∷ patchCall (jobOf 3 [] [] []) 1 (result (Refused (refusal 23)) (9 ∷ 9 ∷ []) (9 ∷ []))
     -- 23 before a number of the job

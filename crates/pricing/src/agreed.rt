@@ -11,10 +11,11 @@ ghost use Rattle.triangulation.specs.Triangulations.{bestKey};
 ghost use Rattle.triangulation.specs.Problems.{problemFrom};
 ghost use Rattle.triangulation.specs.Recursion.{costOf};
 ghost use Rattle.minimum_weight.specs.Tables.{WellFormed};
-ghost use Rattle.pricing.specs.Patch.{listedAt};
+ghost use Rattle.pricing.specs.Steps.{listedAt};
 
 // The least total, or NONE. The triangles are written in preorder where the agreed total is the least; the work table is zero in one place per candidate.
-pub fn solve(
+// The steps are those of `triangulator::solver`, with the choice between them, so that the totals are found once.
+pub fn solve_at(
     n: usize,
     candidates: &[[u8; 3]],
     weights: &[u32],

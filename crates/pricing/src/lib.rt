@@ -7,7 +7,7 @@ use triangulator::Outcome;
 ghost use mathlib.Core.Path.{_≡_};
 ghost use lib.ListN.{length};
 ghost use Rattle.jobs.specs.Job.{jobOf};
-ghost use Rattle.triangulator.specs.Call as patch;
+ghost use Rattle.triangulator.specs.Call as tiler;
 ghost use Rattle.pricing.specs.Quote.{numberOf, trianglesOf, totalOf, valuesOf, result, pricedValues, priced};
 ghost use Rattle.pricing.specs.Patch.{patchedAtValues, patchedAt};
 
@@ -97,9 +97,9 @@ pub fn patch(
     triangles: &mut [u16],
     work: &mut [u64],
 ) -> Outcome
-    ensures { λ r. ⌜ patch.result r (now (triangles .exit)) (now (work .exit))
+    ensures { λ r. ⌜ tiler.result r (now (triangles .exit)) (now (work .exit))
         ≡ patchedAt (jobOf n (now (candidates .entry)) (now (weights .entry)) (now (rows .entry))) agreed (now (triangles .entry)) (now (work .entry)) ⌝ }
-    ensures { λ r. ⌜ patch.valuesOf r
+    ensures { λ r. ⌜ tiler.valuesOf r
         ≡ patchedAtValues (jobOf n (now (candidates .entry)) (now (weights .entry)) (now (rows .entry))) agreed
         (length (now (triangles .entry))) (length (now (work .entry))) ⌝ }
 {
@@ -107,7 +107,7 @@ pub fn patch(
     if number != 0 {
         return Outcome::Refused(Refusal::new(number));
     }
-    let least = agreed::solve(n, candidates, weights, rows, agreed, triangles, work);
+    let least = agreed::solve_at(n, candidates, weights, rows, agreed, triangles, work);
     if NONE <= least {
         return Outcome::None;
     }

@@ -144,18 +144,22 @@ prices-jobs job work = record {
   none-when = pricing.none-when job work;
   none-only-when = pricing.none-only-when job work;
   zeros = pricing.price-work job work;
+  valid = pricing.priced-valid job work;
 }
 
 patches-jobs : (job : Job) (agreed : ℕ) (triangles work : List ℕ) → Patches job agreed triangles work
 patches-jobs job agreed triangles work = record {
   taken-when = agreed-patch.taken-when job agreed triangles work;
   taken-only-when = agreed-patch.taken-only-when job agreed triangles work;
-  refused-first = agreed-patch.refused-first job agreed triangles work;
+  first-given = agreed-patch.first-given job agreed triangles work;
   given-first = agreed-patch.given-first job agreed triangles work;
+  refused-first = agreed-patch.refused-first job agreed triangles work;
   gives-23 = agreed-patch.gives-23 job agreed triangles work;
   given-23 = agreed-patch.given-23 job agreed triangles work;
+  unwritten = agreed-patch.unwritten job agreed triangles work;
   none-whatever = agreed-patch.none-whatever job agreed triangles work;
   right = agreed-patch.right job agreed triangles work;
+  patch-when = agreed-patch.patch-at job agreed triangles work;
   total-agreed = agreed-patch.total-agreed job agreed triangles work;
   handed = agreed-patch.handed job agreed triangles work;
   rest = agreed-patch.rest job agreed triangles work;
@@ -167,7 +171,8 @@ one-after-the-other : (job : Job) (triangles work : List ℕ) → InTurn job tri
 one-after-the-other job triangles work = record {
   as-single = in-turn.in-turn job triangles work;
   price-as-single = in-turn.in-turn-values job triangles work;
-  no-longer = λ count total e edited work′. agreed-patch.gives-23 edited total triangles work′;
+  no-longer = λ count total e edited work′. agreed-patch.unwritten edited total triangles work′;
+  no-longer-23 = λ count total e edited work′. agreed-patch.gives-23 edited total triangles work′;
   still-least = λ count total e edited work′. in-turn.best-at edited total triangles work′;
 }
 

@@ -12,12 +12,12 @@ use Rattle.polygon.specs.declared.Polygon.{Polygon}
 use Rattle.rim_file.specs.File.{Bytes}
 use Rattle.finder.specs.Sizes.{placesOf}
 use Rattle.jobs.specs.Job.{Job}
-use Rattle.jobs.specs.Due.{Accepted, JobAccepted}
+use Rattle.jobs.specs.Due.{Accepted, AcceptedWithoutTriangles}
 use Rattle.jobs.specs.Due as job-due
 use Rattle.triangulation.specs.Triangulations.{Problem, ValidProblem, patch, totalWeight}
 use Rattle.triangulation.specs.Problems.{problemOf}
 use Rattle.triangulation.specs.Demand3.{Triangulates, Demand3, HandedBack}
-use Rattle.triangulation.specs.Least.{Least}
+use Rattle.triangulation.specs.LeastTotal.{Least}
 use Rattle.triangulation.specs.Tiling.{Tiling}
 use Rattle.preorder.specs.Preorder.{TurnByTurn}
 use Rattle.triangulator.specs.declared.Outcome.the-variants.{Patch, None, Refused}
@@ -27,7 +27,8 @@ use Rattle.pricing.specs.declared.Quote.the-variants as quote
 use Rattle.pricing.specs.Quote.{priced}
 use Rattle.pricing.specs.Quote as price
 use Rattle.pricing.specs.Patch.{patchedAt, triangulated}
-use Rattle.pricing.specs.Due.{AgreedDue, FirstDue}
+use Rattle.pricing.specs.Due.{AgreedDue}
+use Rattle.pricing.specs.Due as agreed-due
 use Rattle.pricing.specs.Demands.{Quoted}
 use Rattle.judge.specs.declared.Judgement.the-variants as judgement
 use Rattle.judge.specs.Call.{judged}
@@ -42,46 +43,57 @@ use Rattle.demands.specs.Polygons.{PatchDue}
 -- ---- the price of a direct job: the least total, before anyone decides to mill
 pub record Prices (job : Job) (work : List ℕ) : Type 0 where
   -- demand 1: a total or 'none' exactly when no number is due, with no triangle table among those asked for (rules 4.33, 4.37)
-  pub priced-when : JobAccepted job (length work) → Quoted (priced job work .quote)
-  pub priced-only-when : Quoted (priced job work .quote) → JobAccepted job (length work)
+  pub priced-when : AcceptedWithoutTriangles job (length work) → Quoted (priced job work .quote)
+  pub priced-only-when : Quoted (priced job work .quote) → AcceptedWithoutTriangles job (length work)
   -- every other job gets the first number due, and the work table holds what it held (rules 4.30, 4.37)
   pub refused-first : (k : ℕ) → job-due.FirstDue job (job .n - 2) (length work) k → priced job work ≡ price.result (quote.Refused (refusal k)) work
   pub given-first : (k : ℕ) → priced job work .quote ≡ quote.Refused (refusal k) → job-due.FirstDue job (job .n - 2) (length work) k
   -- demand 3 as to total and 'none': a total exactly when there is a tiling, and no tiling costs less; 'none' exactly when there is none (rules 3.7, 3.15)
-  pub total-when : JobAccepted job (length work) → (s : List ℕ) → Triangulates (problemOf job) s →
+  pub total-when : AcceptedWithoutTriangles job (length work) → (s : List ℕ) → Triangulates (problemOf job) s →
       (total : ℕ) × (priced job work .quote ≡ quote.Total (job .n - 2) total)
   pub total-is : (count total : ℕ) → priced job work .quote ≡ quote.Total count total → (count ≡ job .n - 2) × Least (problemOf job) total
-  pub none-when : JobAccepted job (length work) → ((s : List ℕ) → Triangulates (problemOf job) s → ⊥) → priced job work .quote ≡ quote.None
+  pub none-when : AcceptedWithoutTriangles job (length work) → ((s : List ℕ) → Triangulates (problemOf job) s → ⊥) → priced job work .quote ≡ quote.None
   pub none-only-when : priced job work .quote ≡ quote.None → (s : List ℕ) → Triangulates (problemOf job) s → ⊥
   -- only the work table is written: 0 in a place for each candidate, and every further place keeps what it held (rule 3.9)
-  pub zeros : JobAccepted job (length work) → priced job work .work ≡ filled (replicate (length (job .candidates)) 0) work
+  pub zeros : AcceptedWithoutTriangles job (length work) → priced job work .work ≡ filled (replicate (length (job .candidates)) 0) work
+  -- what tilings are (`Tilings`, below) is said of the job
+  pub valid : AcceptedWithoutTriangles job (length work) → ValidProblem (problemOf job)
 
 -- ---- the patch of a direct job at an agreed total
 pub record Patches (job : Job) (agreed : ℕ) (triangles work : List ℕ) : Type 0 where
   -- demand 1: a patch or 'none' exactly when no number is due, 23 among them (rules 4.33, 4.37)
   pub taken-when : NoneDue (AgreedDue job agreed (length triangles) (length work)) → Taken (patchedAt job agreed triangles work .outcome)
   pub taken-only-when : Taken (patchedAt job agreed triangles work .outcome) → NoneDue (AgreedDue job agreed (length triangles) (length work))
-  -- every other call gets the first number due; where that is one of the job's, both tables hold what they held (rules 4.30, 4.32)
+  -- every other call gets the first number due; where that is one of the job's, both tables hold what they held (rules 4.30, 4.32, 4.37)
+  pub first-given : (k : ℕ) → agreed-due.FirstDue job agreed (length triangles) (length work) k →
+      patchedAt job agreed triangles work .outcome ≡ Refused (refusal k)
+  pub given-first : (k : ℕ) → patchedAt job agreed triangles work .outcome ≡ Refused (refusal k) →
+      agreed-due.FirstDue job agreed (length triangles) (length work) k
   pub refused-first : (k : ℕ) → job-due.FirstDue job (length triangles) (length work) k →
       patchedAt job agreed triangles work ≡ result (Refused (refusal k)) triangles work
-  pub given-first : (k : ℕ) → patchedAt job agreed triangles work .outcome ≡ Refused (refusal k) → FirstDue job agreed (length triangles) (length work) k
   -- 23 exactly when the job is accepted, has a tiling, and the agreed total is not the least: no triangle is written, and the work table is left as after
   -- 'none' (rules 4.23, 4.30, 4.37)
   pub gives-23 : Accepted job (length triangles) (length work) → (s : List ℕ) → Triangulates (problemOf job) s → (Least (problemOf job) agreed → ⊥) →
       patchedAt job agreed triangles work ≡ result (Refused (refusal 23)) triangles (filled (replicate (length (job .candidates)) 0) work)
   pub given-23 : patchedAt job agreed triangles work .outcome ≡ Refused (refusal 23) →
       Accepted job (length triangles) (length work) × ((s : List ℕ) × Triangulates (problemOf job) s) × (Least (problemOf job) agreed → ⊥)
+  -- no triangle is written at a total that is not the least, whatever else is due (rules 4.23, 4.30)
+  pub unwritten : (Least (problemOf job) agreed → ⊥) → patchedAt job agreed triangles work .triangles ≡ triangles
   -- 'none' comes before the agreed total is looked at (rule 4.37)
   pub none-whatever : Accepted job (length triangles) (length work) → ((s : List ℕ) → Triangulates (problemOf job) s → ⊥) →
       patchedAt job agreed triangles work ≡ result None triangles (filled (replicate (length (job .candidates)) 0) work)
   -- demand 3 in full, except where 23 is due (rules 3.3 to 3.8)
   pub right : Accepted job (length triangles) (length work) → patchedAt job agreed triangles work .outcome ≢ Refused (refusal 23) →
       Demand3 (problemOf job) (stated (patchedAt job agreed triangles work .outcome) (patchedAt job agreed triangles work .triangles))
+  -- a patch is given exactly at the least total (rules 4.23, 5.12)
+  pub patch-when : Accepted job (length triangles) (length work) → Least (problemOf job) agreed →
+      patchedAt job agreed triangles work .outcome ≡ Patch (job .n - 2) agreed
   pub total-agreed : (count total : ℕ) → patchedAt job agreed triangles work .outcome ≡ Patch count total → total ≡ agreed
   -- what is handed back after every call, and what is left beside it, by 23 too (rules 3.8, 3.9, 4.30)
   pub handed : Handed (problemOf job) (partOf (patchedAt job agreed triangles work .outcome) (patchedAt job agreed triangles work .triangles))
       (patchedAt job agreed triangles work .outcome)
   pub rest : Accepted job (length triangles) (length work) → RestLeft (length (job .candidates)) triangles work (patchedAt job agreed triangles work)
+  -- what tilings are (`Tilings`, below) is said of the job
   pub valid : Accepted job (length triangles) (length work) → ValidProblem (problemOf job)
   -- the judge accepts with excess 0 what was written (rules 3.14, 5.12)
   pub judged-0 : (work′ : List ℕ) (count total : ℕ) → length (job .candidates) ≤ length work′ →
@@ -95,8 +107,11 @@ pub record InTurn (job : Job) (triangles work : List ℕ) : Type 0 where
   pub as-single : job .n - 2 ≤ length triangles →
       patchedAt job (price.totalOf (priced job work .quote)) triangles (priced job work .work) ≡ triangulated job triangles work
   pub price-as-single : job .n - 2 ≤ length triangles → price.valuesOf (priced job work .quote) ≡ valuesOf (triangulated job triangles work .outcome)
-  -- each call speaks of the job that is handed to it. After an edit, a total that is no longer the least writes no triangle (rules 4.23, 5.12)
+  -- each call speaks of the job that is handed to it. After any edit, a total that is no longer the least writes no triangle; where the edited job is
+  -- accepted and has a tiling, it gets 23 (rules 4.23, 5.12)
   pub no-longer : (count total : ℕ) → priced job work .quote ≡ quote.Total count total → (edited : Job) (work′ : List ℕ) →
+      (Least (problemOf edited) total → ⊥) → patchedAt edited total triangles work′ .triangles ≡ triangles
+  pub no-longer-23 : (count total : ℕ) → priced job work .quote ≡ quote.Total count total → (edited : Job) (work′ : List ℕ) →
       Accepted edited (length triangles) (length work′) → (s : List ℕ) → Triangulates (problemOf edited) s → (Least (problemOf edited) total → ⊥) →
       patchedAt edited total triangles work′ ≡ result (Refused (refusal 23)) triangles (filled (replicate (length (edited .candidates)) 0) work′)
   -- and one that still is the least gives the best patch of the edited job (rules 3.7, 3.8, 5.12)
@@ -123,10 +138,10 @@ pub record Turns : Type 0 where
 -- ---- judging patches from elsewhere
 pub record Judging (job : Job) (list : List ℕ) (total : ℕ) (work : List ℕ) : Type 0 where
   -- a list is accepted exactly when the job is, the list is a tiling without repeats, and the total is its total (rules 3.13, 4.36)
-  pub accepts-when : JobAccepted job (length work) → Acceptable (problemOf job) list total →
+  pub accepts-when : AcceptedWithoutTriangles job (length work) → Acceptable (problemOf job) list total →
       (excess : ℕ) × (judged job list total work .judgement ≡ judgement.Accepted excess)
   pub accepts-only-when : (excess : ℕ) → judged job list total work .judgement ≡ judgement.Accepted excess →
-      JobAccepted job (length work) × Acceptable (problemOf job) list total
+      AcceptedWithoutTriangles job (length work) × Acceptable (problemOf job) list total
   -- then the excess is over the least total, and the work table has its zeros (rules 3.9, 3.14)
   pub accepted-excess : (excess : ℕ) → judged job list total work .judgement ≡ judgement.Accepted excess → Excess (problemOf job) total excess
   pub accepted-work : (excess : ℕ) → judged job list total work .judgement ≡ judgement.Accepted excess →
@@ -136,18 +151,18 @@ pub record Judging (job : Job) (list : List ℕ) (total : ℕ) (work : List ℕ)
       judged job list total work ≡ judge.result (judgement.Refused (refusal k)) work
   pub given-first : (k : ℕ) → judged job list total work .judgement ≡ judgement.Refused (refusal k) → judge-due.FirstDue job list total (length work) k
   -- of an accepted job, 21 exactly when the list is no tiling without repeats, and 22 exactly when it is one of another total (rules 4.21, 4.22)
-  pub gives-21 : JobAccepted job (length work) → ((set : List ℕ) → IsTiling (problemOf job) list set → ⊥) →
+  pub gives-21 : AcceptedWithoutTriangles job (length work) → ((set : List ℕ) → IsTiling (problemOf job) list set → ⊥) →
       judged job list total work ≡ judge.result (judgement.Refused (refusal 21)) work
   pub given-21 : judged job list total work .judgement ≡ judgement.Refused (refusal 21) →
-      JobAccepted job (length work) × ((set : List ℕ) → IsTiling (problemOf job) list set → ⊥)
-  pub gives-22 : JobAccepted job (length work) → (set : List ℕ) → IsTiling (problemOf job) list set → total ≢ totalWeight (problemOf job) set →
+      AcceptedWithoutTriangles job (length work) × ((set : List ℕ) → IsTiling (problemOf job) list set → ⊥)
+  pub gives-22 : AcceptedWithoutTriangles job (length work) → (set : List ℕ) → IsTiling (problemOf job) list set → total ≢ totalWeight (problemOf job) set →
       judged job list total work ≡ judge.result (judgement.Refused (refusal 22)) work
   pub given-22 : judged job list total work .judgement ≡ judgement.Refused (refusal 22) →
-      JobAccepted job (length work) × ((set : List ℕ) × IsTiling (problemOf job) list set × (total ≢ totalWeight (problemOf job) set))
+      AcceptedWithoutTriangles job (length work) × ((set : List ℕ) × IsTiling (problemOf job) list set × (total ≢ totalWeight (problemOf job) set))
   -- the order of the list never matters (rule 3.13)
   pub any-order : (list′ : List ℕ) → SameNumbers list list′ → judged job list total work ≡ judged job list′ total work
   -- a patch as the tiler hands it back is accepted with excess 0 (rule 3.14)
-  pub own-patch : JobAccepted job (length work) → HandedBack (problemOf job) total list →
+  pub own-patch : AcceptedWithoutTriangles job (length work) → HandedBack (problemOf job) total list →
       judged job list total work ≡ judge.result (judgement.Accepted 0) (filled (replicate (length (job .candidates)) 0) work)
 
 -- so is what the one call answered, with the lists that it left (rules 3.13, 3.14)

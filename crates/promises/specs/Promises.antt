@@ -3,8 +3,8 @@
 -- path and for every place of every lent table. On rim files: `read_polygon` is `readingOf`, `find_file` is `findFile`, `patch_file` is `patchFile`,
 -- `pipeline::table_sizes` is `sizesFile`, `convert` is `convertCall`. On polygons: `find` is `findCall`, `finder::table_sizes` is `sizesOf`,
 -- `patch_polygon` is `patchPolygon`. On direct jobs: `price` is `priced`, `patch` is `patchedAt`, `judge` is `judged`; `triangulated` is the single call
--- that the first two stand for. `Bytes file` says that the places of a file are bytes, as those of every `&[u8]` are. What the statements rest on stands
--- at the end.
+-- that the first two replace, and nothing makes it. `Bytes file` says that the places of a file are bytes, as those of every `&[u8]` are. What the
+-- statements rest on stands at the end.
 use mathlib.Core.Path.{_≡_}
 use mathlib.Core.List.{List}
 use Prim.Native.Nat.{ℕ}
@@ -66,15 +66,16 @@ pub record Promises : Type 0 where
 
 -- ---- what the page rests on, beside the calls' own definitions; `crate/File` is crates/CRATE/specs/FILE.antt, docs/ARCHITECTURE.md has the rest
 -- numbers that are due: reader/Due `FileDue`, demands/Demand1 `CallDue`, `TooShort`, demands/Finding `FindFileDue`, demands/Polygons `FindDue`, `PatchDue`,
---   `SizesDue`, jobs/Due `Accepted`, `JobAccepted`, `FirstDue`, pricing/Due `AgreedDue`, judge/Due `FirstDue`, converter/Due `ConvertDue`; the first of them: terms/Order `First`, `NoneDue`, with
---   the order of places in reader/Order, polygon/Due, jobs/Due, judge/Due; the places needed: finder/Sizes `placesOf`
+--   `SizesDue`, jobs/Due `Accepted`, `AcceptedWithoutTriangles`, `FirstDue`, pricing/Due `AgreedDue`, `FirstDue`, judge/Due `FirstDue`, converter/Due
+--   `ConvertDue`; the first of them: terms/Order `First`, `NoneDue`, with the order of places in reader/Order, polygon/Due, jobs/Due; the places needed:
+--   finder/Sizes `placesOf`
 -- what a file says: rim_file/File `areaFactor`, `bendFactor`, reader/Chain `link`, reader/Due `HasRecords`, `HasVertex`, `HasNormal`, `ChainAtMost`,
 --   reader/Rounded `Rounded`, grid/Number `HalfStep`, `EvenHalf`, rim_file/Layouts `Edition1`, `Edition2`, rim_file/Editions `SameRim`
 -- candidates, weights and rows: demands/Candidates `Candidate`, `Flat`, `Cocircular`, demands/Demand2 `TablesHold`, demands/Demand3 `ListsLeft`,
 --   `QuartersLeft`, `RightOfTables`, `HandedOfTables`, `RestOfTables`, demands/Quarters `InQuarters`, `IsNormal`, geometry/Quarters `IsLength`,
 --   `IsBendBetween`, `LongerByQuarter`, integers/Rounding `IsFloorRoot`, planar/Planes `OnOneLine`, planar/Circles `collinear`, weights/Weights `ownWeight`
 -- tilings and answers: jobs/Job `Job`, triangulation/Triangulations `Problem`, `totalWeight`, `preorder`, Problems `problemOf`, Tiling `Tiling`, Demand3
---   `Demand3`, `HandedBack`, Least `Least`, triangulator/Demands `Taken`, `Handed`, `RestLeft`, pricing/Demands `Quoted`, preorder/Preorder `TurnByTurn`,
+--   `Demand3`, `HandedBack`, LeastTotal `Least`, triangulator/Demands `Taken`, `Handed`, `RestLeft`, pricing/Demands `Quoted`, preorder/Preorder `TurnByTurn`,
 --   judge/Demands `IsTiling`, `Acceptable`, `SameNumbers`, `Excess`
 -- answers alike: demands/Base `baseFile`, Conversion `SameAnswers`, OnePatch `SamePatch`, `LongEnough`, Limits `OneAnswer`
 -- lines: patch_program/Run `emptyTables`, Demands `LinesHold`

@@ -5,7 +5,7 @@ use mathlib.Core.List.{List}
 use native.Mathlib.Omega.{arith}
 use Rattle.triangulation.specs.Triangulations.{Problem, ValidProblem, Answer, none, patch, best}
 use Rattle.triangulation.specs.Demand3.{Triangulates, Optimal}
-use Rattle.triangulation.specs.Least.{Least}
+use Rattle.triangulation.specs.LeastTotal.{Least}
 use Rattle.triangulation.proofs.Demand3.{demand3}
 
 pub least-unique : {job : Problem} {x y : ℕ} → Least job x → Least job y → x ≡ y

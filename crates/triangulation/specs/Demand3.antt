@@ -12,6 +12,10 @@ use Rattle.triangulation.specs.Triangulations.{Problem, Answer, none, pa
 abbrev pub Triangulates : Problem → List ℕ → Type 0
 Triangulates job s = List·Memᴰ s (subsets (numbersFrom 0 (job .size))) × (isTriangulation job s ≡ true)
 
+-- no tiling costs less (rules 3.7, 3.14)
+abbrev pub Cheapest : Problem → ℕ → Type 0
+Cheapest job total = (s : List ℕ) → Triangulates job s → total ≤ totalWeight job s
+
 -- the first list has the smaller number where the two first differ (rule 3.6)
 pub data Earlier : List ℕ → List ℕ → Type 0 where
   here : {x y : ℕ} {xs ys : List ℕ} → x < y → Earlier (x ∷ xs) (y ∷ ys)
@@ -24,7 +28,7 @@ pub record Optimal (job : Problem) (total : ℕ) (triangles : List ℕ) : Type 0
   pub tiles : Triangulates job set
   pub walk : triangles ≡ preorder job set
   pub weight : total ≡ totalWeight job set
-  pub lowest : (s : List ℕ) → Triangulates job s → total ≤ totalWeight job s
+  pub lowest : Cheapest job total
   pub first : (s : List ℕ) → Triangulates job s → s ≢ set → totalWeight job s ≡ total → Earlier triangles (preorder job s)
 
 -- an answer is right (rule 3.7): it is a patch exactly when there is a tiling, and 'none' exactly when there is none; and a patch is right

@@ -1,6 +1,6 @@
 pub mod Triangulations
 pub mod Problems
 pub mod Demand3
-pub mod Least
+pub mod LeastTotal
 pub mod Tiling
 pub mod Recursion

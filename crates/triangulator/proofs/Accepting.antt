@@ -1,4 +1,4 @@
--- A job on which no number is due has all that the dynamic programme needs, and demand 3 holds of its answer. Assumes nothing.
+-- A job on which no number is due has all that the dynamic programme needs. Assumes nothing.
 use Prim.Native.Nat.{ℕ, suc, _+_, _-_, _≤_, _<_}
 use mathlib.Core.Path.{_≡_}
 use mathlib.Core.Bool.{Bool, true, false, cond}
@@ -7,10 +7,7 @@ use native.Mathlib.Omega.{arith}
 use lib.ListN.{length}
 use lib.Dec.{eqb}
 use Rattle.lists.specs.Lists.{both}
-use Rattle.triangulation.specs.Triangulations.{best}
-use Rattle.triangulation.specs.Problems.{problemFrom, pairWeight}
-use Rattle.triangulation.specs.Demand3.{Demand3}
-use Rattle.triangulation.proofs.Demand3.{demand3}
+use Rattle.triangulation.specs.Problems.{pairWeight}
 use Rattle.terms.specs.Limits.{maxVertices, maxWeight}
 use Rattle.terms.specs.Entries.{entryAt, vertexA, vertexB, outer, inner, rowWeight, rowBefore}
 use Rattle.jobs.specs.Job.{Job, jobCode}
@@ -76,8 +73,3 @@ module _ (job : Job) where
   accepted-well-formed places work-places e =
       let a = fitting job places work-places e in
       (well-formed (a .at-least) (a .at-most) (a .lists), a .work-room, omega (arith, a .triangle-room))
-
-  -- Demand 3 for every direct job on which no number is due.
-  pub accepted-demand3 : (places work-places : ℕ) → jobCode job places work-places ≡ 0 →
-      Demand3 (problemFrom n candidates weights rows) (best (problemFrom n candidates weights rows))
-  accepted-demand3 places work-places e = demand3 (problemFrom n candidates weights rows) (accepted-well-formed places work-places e .0 .valid)

@@ -1,4 +1,4 @@
--- Demands 1 and 3 for direct jobs, of the call's outcome and tables. Assumes nothing.
+-- What is stated and handed back with an answer, and what is left beside it. Assumes nothing.
 use Prim.Native.Nat.{ℕ}
 use mathlib.Core.Path.{_≡_, refl, sym, ap, _∙_}
 use mathlib.Core.List.{List}
@@ -27,9 +27,10 @@ pub settled-taken : (a : Answer) (count : ℕ) (triangles work : List ℕ) → T
 settled-taken none count triangles work = a-none
 settled-taken (patch total l) count triangles work = a-patch
 
-not-taken : {o : Outcome} {k : ℕ} → o ≡ Refused (refusal k) → Taken o → ⊥
-not-taken e a-patch = let z : _≡_ {A = ℕ} 0 1 = cc in omega arith
-not-taken e a-none = let z : _≡_ {A = ℕ} 0 1 = cc in omega arith
+-- a patch and 'none' are no refusals
+pub never-refused : {o : Outcome} {k : ℕ} → o ≡ Refused (refusal k) → Taken o → ⊥
+never-refused e a-patch = let z : _≡_ {A = ℕ} 0 1 = cc in omega arith
+never-refused e a-none = let z : _≡_ {A = ℕ} 0 1 = cc in omega arith
 
 -- the part handed back with that outcome and table is as promised
 pub settled-handed : (job : Problem) → ValidProblem job → (count : ℕ) (triangles work : List ℕ) →

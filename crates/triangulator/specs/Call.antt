@@ -1,4 +1,4 @@
--- What a call of the tiler answers, and what it leaves in every place of its tables. Definitions only.
+-- What a call that patches answers, and what it leaves in every place of the triangle and work tables. Definitions only.
 use Prim.Native.Nat.{ℕ, zero, suc, _-_}
 use mathlib.Core.List.{List}
 use lib.ListN.{length, replicate}

@@ -28,8 +28,8 @@ pub data Handed (job : Problem) (part : List ℕ) : Outcome → Type 0 where
   with-none : part ≡ [] → Handed job part None
   with-refusal : {r : Refusal} → part ≡ [] → Handed job part (Refused r)
 
--- what a call that is taken leaves beside the patch (rules 3.8, 3.9): 0 in a place of the work table for each candidate, and in every further place of the
--- work and triangle tables what it held
+-- what a call on an accepted job leaves beside the patch, with 23 too (rules 3.8, 3.9, 4.23): 0 in a place of the work table for each candidate, and in
+-- every further place of the work and triangle tables what it held
 pub record RestLeft (count : ℕ) (triangles work : List ℕ) (after : Result) : Type 0 where
   pub zeros : take count (after .work) ≡ replicate count 0
   pub further-work : drop count (after .work) ≡ drop count work

@@ -13,7 +13,7 @@ use Rattle.validation.specs.Validation.{listCode}
 use Rattle.judge.specs.Call.{judgeCode, judged}
 use Rattle.judge.specs.Demands.{Acceptable}
 use Rattle.judge.proofs.Tilings.{zero-acceptable}
-use Rattle.judge.proofs.Least.{excess-by-cost}
+use Rattle.judge.proofs.Excess.{excess-by-cost}
 use Rattle.judge.proofs.Settling.{settle-refused, settle-accepted}
 use borrow.Author.Needs.{needs}
 use Rattle.judge.proofs.judge.Statement.{statement}

@@ -1,19 +1,20 @@
--- `pricing::agreed::solve` meets its contract, step by step. Assumes nothing.
+-- `pricing::agreed::solve_at` meets its contract, step by step. Assumes nothing.
 use Prim.Native.Nat.{ℕ}
-use mathlib.Core.Path.{sym, _∙_}
+use mathlib.Core.Path.{_≡_, sym, _∙_}
 use mathlib.Core.Logic.{inl, inr, ⊎-elim}
 use mathlib.Core.List.{List}
 use native.Mathlib.Omega.{arith}
 use borrow.Author.Tests.{eqb-true, eqb-false, not-true, not-false}
 use Rattle.triangulation.specs.Triangulations.{bestKey}
 use Rattle.triangulation.specs.Problems.{problemFrom}
+use Rattle.triangulation.specs.Recursion.{costOf}
 use Rattle.blocks.proofs.Starts.{starts-of}
 use Rattle.minimum_weight.proofs.Answer.{no-key}
 use Rattle.minimum_weight.proofs.Filling.{filled-long, filled-ready, cleared}
 use Rattle.pricing.proofs.Settling.{listed, not-listed}
 use borrow.Author.Needs.{needs}
-use Rattle.pricing.proofs.agreed.solve.Statement.{statement}
-use Rattle.pricing.proofs.agreed.solve.Tie as tie
+use Rattle.pricing.proofs.agreed.solve_at.Statement.{statement}
+use Rattle.pricing.proofs.agreed.solve_at.Tie as tie
 
 -- after the totals: the call, and the totals
 module _ (g : tie.After-slice-known3) where
@@ -47,8 +48,10 @@ returns c =
     let e = totals g .least-total .ensures in (
       e .0,
       (
-        ⊎-elim (λ h. not-listed {agreed = s .args .agreed} (key g) (s .args .triangles .now) (inl (no-key (s .args .n) _ _ _ (s .pre .0) (omega (arith, e .0, h .taken)))))
-            (λ h. not-listed {agreed = s .args .agreed} (key g) (s .args .triangles .now) (inr (λ q. eqb-false _ _ (not-true _ (h .1 .taken)) (e .0 ∙ sym q)))) (c .before .before .before .before .if1 .came),
+        not-listed (key g) (s .args .triangles .now)
+            (⊎-elim (λ h. inl (no-key (s .args .n) _ _ _ (s .pre .0) (omega (arith, e .0, h .taken))))
+            (λ h. inr (λ (q : s .args .agreed ≡ costOf (key g)). eqb-false _ _ (not-true _ (h .1 .taken)) (e .0 ∙ sym q)))
+            (c .before .before .before .before .if1 .came)),
         cleared _ (s .args .work .now) (e .1) (c .before .before .clear .ensures),
       ),
     )
@@ -86,8 +89,8 @@ returns-2 c =
       ),
     )
 
-pub solve-spec : {M : Type 1} → statement M
-solve-spec =
+pub solve-at-spec : {M : Type 1} → statement M
+solve-at-spec =
     tie.close
     (tie.spec
     block-starts-requires

@@ -1,13 +1,9 @@
 -- The least total of a problem. Definitions only.
-use Prim.Native.Nat.{ℕ, _≤_}
+use Prim.Native.Nat.{ℕ}
 use mathlib.Core.Path.{_≡_}
 use mathlib.Core.List.{List}
 use Rattle.triangulation.specs.Triangulations.{Problem, totalWeight}
-use Rattle.triangulation.specs.Demand3.{Triangulates}
-
--- no tiling costs less (rule 3.14)
-abbrev pub Cheapest : Problem → ℕ → Type 0
-Cheapest job total = (s : List ℕ) → Triangulates job s → total ≤ totalWeight job s
+use Rattle.triangulation.specs.Demand3.{Triangulates, Cheapest}
 
 -- this is the least total: that of a tiling, and no tiling costs less (rules 3.14, 3.15)
 pub record Least (job : Problem) (total : ℕ) : Type 0 where
