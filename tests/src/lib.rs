@@ -7,6 +7,7 @@
 #![forbid(unsafe_code)]
 
 pub mod calls;
+pub mod closing;
 pub mod comparison;
 pub mod damage;
 pub mod damaged_jobs;

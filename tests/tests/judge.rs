@@ -2,6 +2,7 @@
 //! and 4.36), and the excess over the least total, whatever the order of the list (3.13, 3.14).
 
 use outside_tests::calls::{Calls, Job, JudgeAnswer, Patch, Tables, Triangle};
+use outside_tests::closing::{rims_at_random, rims_of_the_examples};
 use outside_tests::comparison::compare_judge;
 use outside_tests::damaged_jobs::{damaged, disturb, each_pair, undamaged, Lending, OF_JOBS};
 use outside_tests::jobs::{
@@ -13,11 +14,8 @@ use outside_tests::library::under_test;
 use outside_tests::patches::{
     all_of, every_set, least_total, numbers, spoilt, totals, worked, SLIPS,
 };
-use outside_tests::planes;
 use outside_tests::random::{seeds, Random};
-use outside_tests::rims::{RimFile, Shape};
 use std::fmt::Debug;
-use std::path::Path;
 
 const ACCEPTED: JudgeAnswer = JudgeAnswer { number: 0, excess: 0 };
 
@@ -252,35 +250,13 @@ fn judge_rim(file: &[u8], random: &mut Random) -> bool {
 
 #[test]
 fn patches_of_rims() {
-    for seed in seeds("patches of rims") {
-        let mut random = Random::new(seed);
-        let mut patches = 0;
-        for case in 0..400 {
-            let n = random.between(3, if case % 10 == 0 { 64 } else { 16 }) as usize;
-            let points = match random.once_in(3) {
-                true => planes::any_rim_or_one_off(n, &mut random),
-                false => random.one_of(&Shape::GENERAL).points(n, 1000, &mut random),
-            };
-            let file = RimFile::varied(&points, [1, 1], &mut random).bytes();
-            patches += judge_rim(&file, &mut random) as usize;
-        }
-        assert!(patches > 60, "{patches} patches");
-    }
+    rims_at_random("patches of rims", judge_rim);
 }
 
 #[test]
 fn patches_of_the_examples() {
     let mut random = Random::new(1);
-    let folder = Path::new(env!("CARGO_MANIFEST_DIR")).join("../examples");
-    let mut patches = 0;
-    for file in std::fs::read_dir(folder).expect("examples") {
-        let path = file.expect("a file").path();
-        if path.extension().is_some_and(|end| end == "rim") {
-            let file = std::fs::read(path).expect("a rim file");
-            patches += judge_rim(&file, &mut random) as usize;
-        }
-    }
-    assert!(patches >= 15, "{patches} patches");
+    rims_of_the_examples(|file| judge_rim(file, &mut random));
 }
 
 /// No candidate is on one of the rim edges: every list gets 21, the empty one too.

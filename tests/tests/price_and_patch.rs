@@ -2,6 +2,7 @@
 //! every place, whatever the tables held; and the patch of the one call, which never gives 23.
 
 use outside_tests::calls::{Calls, Job, JudgeAnswer, PatchAnswer, Places, Tables};
+use outside_tests::closing::{rims_at_random, rims_of_the_examples};
 use outside_tests::comparison::{compare_patch, compare_price};
 use outside_tests::damage;
 use outside_tests::interval;
@@ -9,10 +10,8 @@ use outside_tests::jobs::{job_of, random_job};
 use outside_tests::law::tilings::{self, Tiling};
 use outside_tests::law::BY_SETS;
 use outside_tests::library::{each, under_test};
-use outside_tests::planes;
 use outside_tests::random::{seeds, Random};
 use outside_tests::rims::{RimFile, Shape};
-use std::path::Path;
 
 fn random_job_of(n: usize, random: &mut Random) -> Job {
     let keep = random.one_of(&[100, 80, 60, 40]);
@@ -180,33 +179,12 @@ fn expect_rim_in_turn(file: &[u8]) -> bool {
 
 #[test]
 fn lists_of_rims() {
-    for seed in seeds("lists of rims in turn") {
-        let mut random = Random::new(seed);
-        let mut patches = 0;
-        for case in 0..400 {
-            let n = random.between(3, if case % 10 == 0 { 64 } else { 16 }) as usize;
-            let points = match random.once_in(3) {
-                true => planes::any_rim_or_one_off(n, &mut random),
-                false => random.one_of(&Shape::GENERAL).points(n, 1000, &mut random),
-            };
-            let file = RimFile::varied(&points, [1, 1], &mut random).bytes();
-            patches += expect_rim_in_turn(&file) as usize;
-        }
-        assert!(patches > 60, "{patches} patches");
-    }
+    rims_at_random("lists of rims in turn", |file, _| expect_rim_in_turn(file));
 }
 
 #[test]
 fn lists_of_the_examples() {
-    let folder = Path::new(env!("CARGO_MANIFEST_DIR")).join("../examples");
-    let mut patches = 0;
-    for file in std::fs::read_dir(folder).expect("examples") {
-        let path = file.expect("a file").path();
-        if path.extension().is_some_and(|end| end == "rim") {
-            patches += expect_rim_in_turn(&std::fs::read(path).expect("a rim file")) as usize;
-        }
-    }
-    assert!(patches >= 15, "{patches} patches");
+    rims_of_the_examples(expect_rim_in_turn);
 }
 
 /// A rim file at random, right or damaged.

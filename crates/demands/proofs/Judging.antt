@@ -47,7 +47,8 @@ agreed-patch-accepted job agreed triangles work work′ count total room e =
     (pricing.handed job agreed triangles work)))
 
 -- none of 13 to 17 is due on the lists of a rim beside a work table that is long enough (rule 4.36)
-pub rim-job-accepted : (p : Polygon) → ValidPolygon p → (workPlaces : ℕ) → length (candidatesOf p) ≤ workPlaces → AcceptedWithoutTriangles (jobIn p) workPlaces
+pub rim-job-accepted : (p : Polygon) → ValidPolygon p → (workPlaces : ℕ) → length (candidatesOf p) ≤ workPlaces
+    → AcceptedWithoutTriangles (jobIn p) workPlaces
 rim-job-accepted p v workPlaces h =
     fitting-accepted (jobIn p) (p .n - 2) workPlaces
     (record { at-least = v .least; at-most = v .most; triangle-room = omega arith; work-room = h; lists = lists-accepted p v })

@@ -45,7 +45,8 @@ module _ (job : Job) where
 
   -- of every patch at an agreed total
   pub job-turn-by-turn : (agreed : ℕ) (triangles work : List ℕ) → Accepted job (length triangles) (length work) → (total : ℕ) (l : List ℕ)
-      → stated (patchedAt job agreed triangles work .outcome) (patchedAt job agreed triangles work .triangles) ≡ patch total l → TurnByTurn (problemOf job) l
+      → stated (patchedAt job agreed triangles work .outcome) (patchedAt job agreed triangles work .triangles) ≡ patch total l
+      → TurnByTurn (problemOf job) l
   job-turn-by-turn agreed triangles work a total l e =
       right-answer (accepted-well-formed job (length triangles) (length work) (accepted-zero job (length triangles) (length work) a) .0)
       _ (right job agreed triangles work a

@@ -79,7 +79,8 @@ module _ (m k : ℕ) (above : 0 < m * k) where
   bend-most (suc a) h =
       let e : dividendScale * suc a ≡ suc (dividendScale * a + (dividendScale - 1)) = omega arith in
       ap (λ (n : ℕ). natAbs (pos 1000 -ℤ clamped (negsuc 999) (pos 1000) (floorDiv (negℤ (pos n)) (m * k)))) e
-      ∙ ap (λ (z : ℤ). natAbs (pos 1000 -ℤ z)) (held-low ((dividendScale * a + (dividendScale - 1)) / (m * k)) (le-div-iff-mul-le above .1 (omega arith)))
+      ∙ ap (λ (z : ℤ). natAbs (pos 1000 -ℤ z))
+      (held-low ((dividendScale * a + (dividendScale - 1)) / (m * k)) (le-div-iff-mul-le above .1 (omega arith)))
 
 pub bend-perpendicular : (m k : ℕ) → bendOf (pos 0) m k ≡ 1000
 unfolding bendOf ratioOf

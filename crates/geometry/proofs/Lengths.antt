@@ -53,7 +53,8 @@ pub has-one-length : (n : Vector) → Within maxNormal n → (m : ℕ) × IsLeng
 has-one-length n h = (lengthOf n, length-is h, length-unique h)
 
 -- it is four times the whole root, or up to 3 more
-pub about-four-times : (n : Vector) (m r : ℕ) → IsLength n m → IsFloorRoot (natAbs (squareOf n)) r → (lengthScale * r ≤ m) × (m < lengthScale * (r + 1))
+pub about-four-times : (n : Vector) (m r : ℕ) → IsLength n m → IsFloorRoot (natAbs (squareOf n)) r
+    → (lengthScale * r ≤ m) × (m < lengthScale * (r + 1))
 about-four-times n m r i j = (
   root-at-most (lengthScale * r) m (fourfold (natAbs (squareOf n)) (j .low)) (i .high),
   next (root-at-most m (lengthScale * r + 3) (i .low) (square (natAbs (squareOf n)) (j .high))),
@@ -85,7 +86,8 @@ longer-is-more n k h l m i j =
     commuted : (x : ℕ) → l * l ≤ squareScale * x → l * l ≤ x * squareScale
     commuted x h = omega arith
 
-    quarters : (x : ℕ) → (lengthScale * l + lengthScale) * (lengthScale * l + lengthScale) ≤ squareScale * x * squareScale → (l + 1) * (l + 1) ≤ squareScale * x
+    quarters : (x : ℕ) → (lengthScale * l + lengthScale) * (lengthScale * l + lengthScale) ≤ squareScale * x * squareScale
+        → (l + 1) * (l + 1) ≤ squareScale * x
     quarters x h = omega arith
 
 -- a test by whole numbers: 16 |k|² is above 16 |n|² by c + 1, and c is at least 8 |n|

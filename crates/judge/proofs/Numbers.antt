@@ -53,7 +53,8 @@ module _ (job : Job) (list : List ℕ) (stated workPlaces : ℕ) where
       due-on (listCode problem list stated) (accepted-zero job (job .n - 2) workPlaces a)
       ∙ no _ _ (not-true-false _ (λ t. h (named problem list) (tiling-is problem list t)))
 
-  pub other-total-code : AcceptedWithoutTriangles job workPlaces → (set : List ℕ) → IsTiling problem list set → stated ≢ totalWeight problem set → code ≡ 22
+  pub other-total-code : AcceptedWithoutTriangles job workPlaces → (set : List ℕ) → IsTiling problem list set → stated ≢ totalWeight problem set
+      → code ≡ 22
   unfolding judgeCode listCode
   other-total-code a set t h =
       due-on (listCode problem list stated) (accepted-zero job (job .n - 2) workPlaces a)

@@ -11,8 +11,8 @@ use Rattle.terms.specs.Order.{NoneDue}
 use Rattle.terms.proofs.Order.{none-first, first-unique}
 use Rattle.triangulation.specs.Triangulations.{Problem, Answer, none, patch, best}
 use Rattle.triangulation.specs.Problems.{problemOf}
-use Rattle.triangulation.specs.Demand3.{Triangulates, Demand3}
-use Rattle.triangulation.specs.LeastTotal.{Least}
+use Rattle.triangulation.specs.Demand3.{Demand3}
+use Rattle.triangulation.specs.LeastTotal.{HasTiling, NoTiling, Least}
 use Rattle.triangulation.proofs.Demand3.{demand3, best-length}
 use Rattle.triangulation.proofs.LeastTotal.{least-unique}
 use Rattle.jobs.specs.Job.{Job}
@@ -70,18 +70,18 @@ module _ (job : Job) (agreed : ℕ) (triangles work : List ℕ) where
   pub taken-only-when : Taken (patchedAt job agreed triangles work .outcome) → NoneDue (AgreedDue job agreed (length triangles) (length work))
   taken-only-when t = by end
     where
-      none-with : Fits → ((s : List ℕ) → Triangulates problem s → (Least problem agreed → ⊥) → ⊥) → NoneDue Due
+      none-with : Fits → (HasTiling problem → (Least problem agreed → ⊥) → ⊥) → NoneDue Due
       none-with ok h = record { none = no-due }
         where
           no-due : (p : JobCallPlace) (k : ℕ) → Due p k → ⊥
           no-due _ k (of-job {p} d) = ok .none p k d
-          no-due _ _ (not-least s x y) = h s x y
+          no-due _ _ (not-least t x) = h t x
 
       by : End → NoneDue Due
       by (in-refusal k f e) = absurd (never-refused (outcome-of e) t)
       by (in-23 ok least h d e) = absurd (never-refused (outcome-of e) t)
-      by (in-none ok h b e) = none-with ok (λ s x y. h s x)
-      by (in-patch ok h l b e) = none-with ok (λ s x y. y h)
+      by (in-none ok h b e) = none-with ok (λ t x. h (t .0) (t .1))
+      by (in-patch ok h l b e) = none-with ok (λ t x. x h)
 
   -- every other call gets the first number due; one of the job changes no table (rule 4.30), 23 the work table alone (rule 4.23)
   pub refused-first : (k : ℕ) → job-due.FirstDue job (length triangles) (length work) k →
@@ -96,7 +96,8 @@ module _ (job : Job) (agreed : ℕ) (triangles work : List ℕ) where
       by (in-none ok h b e) = absurd (none-first ok f)
       by (in-patch ok h l b e) = absurd (none-first ok f)
 
-  pub first-given : (k : ℕ) → FirstDue job agreed (length triangles) (length work) k → patchedAt job agreed triangles work .outcome ≡ Refused (refusal k)
+  pub first-given : (k : ℕ) → FirstDue job agreed (length triangles) (length work) k →
+      patchedAt job agreed triangles work .outcome ≡ Refused (refusal k)
   first-given k f = by end
     where
       refused-with : {j : ℕ} {t w : List ℕ} → call ≡ result (Refused (refusal j)) t w → FirstDue job agreed (length triangles) (length work) j
@@ -112,7 +113,8 @@ module _ (job : Job) (agreed : ℕ) (triangles work : List ℕ) where
       by (in-none ok h b e) = taken e a-none
       by (in-patch ok h l b e) = taken e a-patch
 
-  pub given-first : (k : ℕ) → patchedAt job agreed triangles work .outcome ≡ Refused (refusal k) → FirstDue job agreed (length triangles) (length work) k
+  pub given-first : (k : ℕ) → patchedAt job agreed triangles work .outcome ≡ Refused (refusal k) →
+      FirstDue job agreed (length triangles) (length work) k
   given-first k q = by end
     where
       numbered : {j : ℕ} {t w : List ℕ} → call ≡ result (Refused (refusal j)) t w → j ≡ k
@@ -125,21 +127,21 @@ module _ (job : Job) (agreed : ℕ) (triangles work : List ℕ) where
       by (in-patch ok h l b e) = absurd (never-refused (sym (outcome-of e) ∙ q) a-patch)
 
   -- 23 exactly when the job is accepted, has a tiling, and the agreed total is not the least (rules 4.23, 4.37)
-  pub gives-23 : Accepted job (length triangles) (length work) → (s : List ℕ) → Triangulates (problemOf job) s → (Least (problemOf job) agreed → ⊥) →
+  pub gives-23 : Accepted job (length triangles) (length work) → HasTiling (problemOf job) → (Least (problemOf job) agreed → ⊥) →
       patchedAt job agreed triangles work ≡ result (Refused (refusal 23)) triangles (filled (replicate (length (job .candidates)) 0) work)
-  gives-23 ok s t n = by end
+  gives-23 ok t n = by end
     where
       by : End → call ≡ result (Refused (refusal 23)) triangles cleared
       by (in-refusal k f e) = absurd (none-first ok f)
       by (in-23 _ least h d e) = e
-      by (in-none _ h b e) = absurd (h s t)
+      by (in-none _ h b e) = absurd (h (t .0) (t .1))
       by (in-patch _ h l b e) = absurd (n h)
 
   pub given-23 : patchedAt job agreed triangles work .outcome ≡ Refused (refusal 23) →
-      Accepted job (length triangles) (length work) × ((s : List ℕ) × Triangulates (problemOf job) s) × (Least (problemOf job) agreed → ⊥)
+      Accepted job (length triangles) (length work) × HasTiling (problemOf job) × (Least (problemOf job) agreed → ⊥)
   given-23 q = by end
     where
-      by : End → Fits × ((s : List ℕ) × Triangulates problem s) × (Least problem agreed → ⊥)
+      by : End → Fits × HasTiling problem × (Least problem agreed → ⊥)
       by (in-refusal k f e) =
           let j : suc k ≡ 23 = ap numberOf (sym (outcome-of e) ∙ q) in
           absurd (omega (arith, at-most-17 job (length triangles) (length work) (f .is-due), j))
@@ -158,7 +160,7 @@ module _ (job : Job) (agreed : ℕ) (triangles work : List ℕ) where
       by (in-patch _ h l b e) = absurd (n h)
 
   -- 'none' before the agreed total is looked at (rule 4.37)
-  pub none-whatever : Accepted job (length triangles) (length work) → ((s : List ℕ) → Triangulates (problemOf job) s → ⊥) →
+  pub none-whatever : Accepted job (length triangles) (length work) → NoTiling (problemOf job) →
       patchedAt job agreed triangles work ≡ result None triangles (filled (replicate (length (job .candidates)) 0) work)
   none-whatever ok n = by end
     where

@@ -13,8 +13,7 @@ use Rattle.lists.proofs.Choice.{Truth, truth, holds, fails, yes, no}
 use Rattle.terms.specs.Order as order
 use Rattle.triangulation.specs.Triangulations.{Problem, ValidProblem, Answer, none, patch, best}
 use Rattle.triangulation.specs.Problems.{problemOf}
-use Rattle.triangulation.specs.Demand3.{Triangulates}
-use Rattle.triangulation.specs.LeastTotal.{Least}
+use Rattle.triangulation.specs.LeastTotal.{NoTiling, Least}
 use Rattle.triangulation.proofs.LeastTotal.{least-unique, Known, known, without, answer-known}
 use Rattle.jobs.specs.Job.{Job, jobCode}
 use Rattle.jobs.specs.Due.{JobPlace, JobDue, Accepted, JobCallPlace, job-at, after-job, JobCallBefore}
@@ -45,8 +44,9 @@ module _ (job : Job) (agreed : ℕ) (triangles work : List ℕ) where
 
   -- how a call ends
   pub data PatchEnd (r : Result) : Type 0 where
-    in-refusal : (k : ℕ) → job-due.FirstDue job (length triangles) (length work) (suc k) → r ≡ result (Refused (refusal (suc k))) triangles work → PatchEnd r
-    in-none : Accepted job (length triangles) (length work) → ((s : List ℕ) → Triangulates (problemOf job) s → ⊥) → best (problemOf job) ≡ none
+    in-refusal : (k : ℕ) → job-due.FirstDue job (length triangles) (length work) (suc k)
+        → r ≡ result (Refused (refusal (suc k))) triangles work → PatchEnd r
+    in-none : Accepted job (length triangles) (length work) → NoTiling (problemOf job) → best (problemOf job) ≡ none
         → r ≡ settled none (length (job .candidates)) triangles work → PatchEnd r
     in-23 : Accepted job (length triangles) (length work) → (least : ℕ) → Least (problemOf job) least → agreed ≢ least
         → r ≡ result (Refused (refusal 23)) triangles (filled (replicate (length (job .candidates)) 0) work) → PatchEnd r
@@ -100,10 +100,10 @@ module _ (job : Job) (agreed : ℕ) (triangles work : List ℕ) where
       → FirstDue job agreed (length triangles) (length work) 23
   first-23 ok least h d = record {
     place = after-job;
-    is-due = not-least (h .set) (h .tiles) (λ (l : Least problem agreed). d (least-unique l h));
+    is-due = not-least (h .set, h .tiles) (λ (l : Least problem agreed). d (least-unique l h));
     none-before = none-before;
   }
     where
       none-before : (q : JobCallPlace) (j : ℕ) → order.Precedes JobCallBefore q j after-job 23 → Due q j → ⊥
       none-before _ j l (of-job {p} x) = ok .none p j x
-      none-before _ _ (order.by-number l) (not-least s t x) = omega arith
+      none-before _ _ (order.by-number l) (not-least t x) = omega arith

@@ -9,8 +9,7 @@ use Rattle.lists.specs.Lists.{filled}
 use Rattle.terms.proofs.Order.{none-first}
 use Rattle.triangulation.specs.Triangulations.{Problem, ValidProblem, Answer, best}
 use Rattle.triangulation.specs.Problems.{problemOf}
-use Rattle.triangulation.specs.Demand3.{Triangulates}
-use Rattle.triangulation.specs.LeastTotal.{Least}
+use Rattle.triangulation.specs.LeastTotal.{HasTiling, NoTiling, Least}
 use Rattle.triangulation.proofs.LeastTotal.{Known, known, without, answer-known}
 use Rattle.jobs.specs.Job.{Job, codeWithoutTriangles}
 use Rattle.jobs.specs.Due.{AcceptedWithoutTriangles}
@@ -46,7 +45,7 @@ module _ (job : Job) (work : List ℕ) where
     in-refusal : (k : ℕ) → job-due.FirstDue job (job .n - 2) (length work) (suc k) → r ≡ result (Refused (refusal (suc k))) work → PriceEnd r
     in-total : (total : ℕ) → AcceptedWithoutTriangles job (length work) → Least (problemOf job) total
         → r ≡ result (Total (job .n - 2) total) (filled (replicate (length (job .candidates)) 0) work) → PriceEnd r
-    in-none : AcceptedWithoutTriangles job (length work) → ((s : List ℕ) → Triangulates (problemOf job) s → ⊥)
+    in-none : AcceptedWithoutTriangles job (length work) → NoTiling (problemOf job)
         → r ≡ result None (filled (replicate (length (job .candidates)) 0) work) → PriceEnd r
 
   abbrev at : ℕ → Answer → Result
@@ -102,14 +101,14 @@ module _ (job : Job) (work : List ℕ) where
       by (in-none a h e) = absurd (not-refused (sym (ap (λ (r : Result). r .quote) e) ∙ q) a-none)
 
   -- ---- demand 3 as to total and 'none' (rules 3.7, 3.15): a total exactly when there is a tiling, and it is the least; 'none' exactly when there is none
-  pub total-when : AcceptedWithoutTriangles job (length work) → (s : List ℕ) → Triangulates (problemOf job) s
+  pub total-when : AcceptedWithoutTriangles job (length work) → HasTiling (problemOf job)
       → (total : ℕ) × (priced job work .quote ≡ Total (job .n - 2) total)
-  total-when a s t = by price-end
+  total-when a t = by price-end
     where
       by : PriceEnd (priced job work) → (total : ℕ) × (priced job work .quote ≡ Total (job .n - 2) total)
       by (in-refusal k f e) = absurd (none-first a f)
       by (in-total total _ h e) = (total, ap (λ (r : Result). r .quote) e)
-      by (in-none _ h e) = absurd (h s t)
+      by (in-none _ h e) = absurd (h (t .0) (t .1))
 
   pub total-is : (count total : ℕ) → priced job work .quote ≡ Total count total → (count ≡ job .n - 2) × Least (problemOf job) total
   total-is count total q = by price-end
@@ -121,7 +120,7 @@ module _ (job : Job) (work : List ℕ) where
           (ap trianglesOf p, subst (Least (problemOf job)) (sym (ap totalOf p)) h)
       by (in-none a h e) = absurd (not-none (sym q ∙ ap (λ (r : Result). r .quote) e))
 
-  pub none-when : AcceptedWithoutTriangles job (length work) → ((s : List ℕ) → Triangulates (problemOf job) s → ⊥) → priced job work .quote ≡ None
+  pub none-when : AcceptedWithoutTriangles job (length work) → NoTiling (problemOf job) → priced job work .quote ≡ None
   none-when a n = by price-end
     where
       by : PriceEnd (priced job work) → priced job work .quote ≡ None
@@ -129,10 +128,10 @@ module _ (job : Job) (work : List ℕ) where
       by (in-total total _ h e) = absurd (n (h .set) (h .tiles))
       by (in-none _ h e) = ap (λ (r : Result). r .quote) e
 
-  pub none-only-when : priced job work .quote ≡ None → (s : List ℕ) → Triangulates (problemOf job) s → ⊥
+  pub none-only-when : priced job work .quote ≡ None → NoTiling (problemOf job)
   none-only-when q = by price-end
     where
-      by : PriceEnd (priced job work) → (s : List ℕ) → Triangulates (problemOf job) s → ⊥
+      by : PriceEnd (priced job work) → NoTiling (problemOf job)
       by (in-refusal k f e) = absurd (not-refused (sym q ∙ ap (λ (r : Result). r .quote) e) a-none)
       by (in-total total a h e) = absurd (not-none (sym (ap (λ (r : Result). r .quote) e) ∙ q))
       by (in-none a h e) = h

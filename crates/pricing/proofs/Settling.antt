@@ -1,12 +1,10 @@
 -- What the two calls answer and leave, from what the dynamic programme returns and leaves. Assumes nothing.
 use Prim.Native.Nat.{ℕ, zero, suc, _-_, _≤_, _<_}
 use mathlib.Core.Path.{_≡_, refl, sym, ap, ap₂, _∙_}
-use mathlib.Core.Bool.{Bool, true, false, cond}
 use mathlib.Core.Logic.{_≢_, _⊎_, inl, inr}
 use mathlib.Core.List.{List, [], _∷_}
 use native.Mathlib.Omega.{arith}
 use lib.ListN.{length, replicate}
-use lib.Dec.{eqb}
 use borrow.Author.Tests.{eq-eqb, ne-eqb}
 use Rattle.codes.specs.declared.Refusal.{Refusal}
 use Rattle.codes.specs.Refusals.{refusal}
@@ -21,7 +19,9 @@ use Rattle.triangulator.specs.Call.{values, dueValues}
 use Rattle.pricing.specs.declared.Quote.the-variants.{Total, None, Refused}
 use Rattle.pricing.specs.Quote.{valuesOf, result, quoteOf, settled}
 use Rattle.pricing.specs.Patch.{refusedOr, settledAt, valuesAt, dueValuesAt}
-use Rattle.pricing.specs.Steps.{listedAt}
+use Rattle.triangulator.specs.declared.solver.Figure.the-variants.{Agreed}
+use Rattle.triangulator.specs.Steps.{listedBy}
+use Rattle.triangulator.proofs.Settling.{listed, not-listed}
 
 -- ---- the price, by the exits of the code
 module _ (n count number : ℕ) (work : List ℕ) where
@@ -58,22 +58,10 @@ module _ (n count number : ℕ) (work : List ℕ) where
           ap (values 0 (n - 2)) e ∙ ap (λ (j : ℕ). dueValues j n (answerOf (x ∷ l))) (sym z),
         )
 
--- ---- the triangle table, listed and not listed
-pub listed : {agreed : ℕ} (k triangles : List ℕ) → agreed ≡ costOf k → filled (restOf k) triangles ≡ listedAt agreed k triangles
-listed k triangles e = sym (yes _ _ (eq-eqb _ (costOf k) e))
-
-pub not-listed : {agreed : ℕ} (k triangles : List ℕ) → (k ≡ []) ⊎ (agreed ≢ costOf k) → triangles ≡ listedAt agreed k triangles
-not-listed {agreed} k triangles (inl e) =
-    same (eqb agreed (costOf k)) ∙ ap (λ (l : List ℕ). cond (eqb agreed (costOf k)) (filled (restOf l) triangles) triangles) (sym e)
-  where
-    same : (b : Bool) → triangles ≡ cond b triangles triangles
-    same true = refl
-    same false = refl
-not-listed {agreed} k triangles (inr d) = sym (no _ _ (ne-eqb agreed (costOf k) d))
-
 -- ---- the patch, by the exits of the code
 -- a number of the job
-pub patch-refused : {r : Refusal} (k number agreed n : ℕ) (a : Answer) (triangles work : List ℕ) (x : tiler.Result) → r ≡ refusal k → k ≡ number → k ≢ 0
+pub patch-refused : {r : Refusal} (k number agreed n : ℕ) (a : Answer) (triangles work : List ℕ) (x : tiler.Result)
+    → r ≡ refusal k → k ≡ number → k ≢ 0
     → (tiler.result (outcome.Refused r) triangles work ≡ refusedOr number triangles work x)
     × (tiler.valuesOf (outcome.Refused r) ≡ dueValuesAt number agreed n a)
 patch-refused {r} k number agreed n a triangles work x m e d = by number e
@@ -107,7 +95,7 @@ module _ (n count agreed : ℕ) (triangles work : List ℕ) where
 
 -- no number of the job: what the totals say
 module _ (n count number agreed : ℕ) (z : number ≡ 0) (triangles work k : List ℕ) {listed-in cleared-in : List ℕ}
-    (e : listed-in ≡ listedAt agreed k triangles) (f : cleared-in ≡ filled (replicate count 0) work) where
+    (e : listed-in ≡ listedBy (Agreed agreed) k triangles) (f : cleared-in ≡ filled (replicate count 0) work) where
   abbrev Right : Outcome → Type 0
   Right o = (tiler.result o listed-in cleared-in ≡ refusedOr number triangles work (settledAt agreed (answerOf k) count triangles work))
       × (tiler.valuesOf o ≡ dueValuesAt number agreed n (answerOf k))
@@ -123,7 +111,7 @@ module _ (n count number agreed : ℕ) (z : number ≡ 0) (triangles work k : Li
   pub patch-none : noTotal ≤ costOf k → (k ≡ []) ⊎ (costOf k < noTotal) → Right outcome.None
   patch-none h (inr q) = absurd (omega arith)
   patch-none h (inl q) = accepted outcome.None
-      (ap₂ (tiler.result outcome.None) (e ∙ sym (not-listed k triangles (inl q))) f
+      (ap₂ (tiler.result outcome.None) (e ∙ sym (not-listed (Agreed agreed) k triangles (inl q))) f
       ∙ ap (λ (l : List ℕ). settledAt agreed (answerOf l) count triangles work) (sym q))
       (ap (λ (l : List ℕ). valuesAt agreed n (answerOf l)) (sym q))
 
@@ -131,7 +119,7 @@ module _ (n count number agreed : ℕ) (z : number ≡ 0) (triangles work k : Li
   patch-not-least {r} m h d =
       let o = other-total n count agreed triangles work k h d in
       accepted (outcome.Refused r)
-      (ap₂ (tiler.result (outcome.Refused r)) (e ∙ sym (not-listed k triangles (inr d))) f
+      (ap₂ (tiler.result (outcome.Refused r)) (e ∙ sym (not-listed (Agreed agreed) k triangles (inr (ne-eqb agreed (costOf k) d)))) f
       ∙ ap (λ (y : Refusal). tiler.result (outcome.Refused y) triangles (filled (replicate count 0) work)) m ∙ sym (o .0))
       (ap (λ (y : Refusal). tiler.valuesOf (outcome.Refused y)) m ∙ sym (o .1))
 
@@ -140,6 +128,6 @@ module _ (n count number agreed : ℕ) (z : number ≡ 0) (triangles work k : Li
   patch-whole total g h a m =
       let o = same-total n count agreed triangles work k (omega (arith, g)) (a ∙ g) m in
       accepted (outcome.Patch (n - 2) total)
-      (ap₂ (tiler.result (outcome.Patch (n - 2) total)) (e ∙ sym (listed k triangles (a ∙ g))) f
+      (ap₂ (tiler.result (outcome.Patch (n - 2) total)) (e ∙ sym (listed (Agreed agreed) k triangles (eq-eqb agreed (costOf k) (a ∙ g)))) f
       ∙ ap (λ (t : ℕ). tiler.result (outcome.Patch (n - 2) t) (filled (restOf k) triangles) (filled (replicate count 0) work)) g ∙ sym (o .0))
       (ap (values 0 (n - 2)) g ∙ sym (o .1))

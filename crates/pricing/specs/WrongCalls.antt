@@ -74,7 +74,8 @@ wrongPatches =
     -- a refusal that clears the work table
     ∷ patchCall (ties (triple 1 0 1 ∷ [])) 2 (result (Refused (refusal 16)) (9 ∷ 9 ∷ 9 ∷ []) cleared)
     -- a hole taken for a patch
-    ∷ patchCall (jobOf 5 (triple 0 1 2 ∷ triple 0 2 4 ∷ []) (1 ∷ 1 ∷ []) []) 2 (result (Patch 3 2) (1 ∷ 0 ∷ 9 ∷ 9 ∷ []) (0 ∷ 0 ∷ 9 ∷ []))
+    ∷ patchCall (jobOf 5 (triple 0 1 2 ∷ triple 0 2 4 ∷ []) (1 ∷ 1 ∷ []) []) 2
+    (result (Patch 3 2) (1 ∷ 0 ∷ 9 ∷ 9 ∷ []) (0 ∷ 0 ∷ 9 ∷ []))
     -- the patch of the job as it was priced, after edits: its total is no longer the least, and another patch has it
     ∷ patchCall (editedP 320 257) 943 (twoTriangles 943 1 3)
     ∷ patchCall (editedP 262 256) 943 (twoTriangles 943 1 3)

@@ -1,9 +1,9 @@
 // The tiler's two calls on a direct job: the price first, then the patch at the agreed total. Each speaks of the job as it is handed to that call.
-mod agreed;
-
 use codes::Refusal;
 use minimum_weight::NONE;
 use triangulator::Outcome;
+use triangulator::solver;
+use triangulator::solver::Figure;
 ghost use mathlib.Core.Path.{_≡_};
 ghost use lib.ListN.{length};
 ghost use Rattle.jobs.specs.Job.{jobOf};
@@ -79,7 +79,7 @@ pub fn price(
     if due != 0 {
         return Quote::Refused(Refusal::new(due));
     }
-    let total = triangulator::solver::least(n, candidates, weights, rows, work);
+    let total = solver::least(n, candidates, weights, rows, work);
     if NONE <= total {
         return Quote::None;
     }
@@ -107,7 +107,8 @@ pub fn patch(
     if number != 0 {
         return Outcome::Refused(Refusal::new(number));
     }
-    let least = agreed::solve_at(n, candidates, weights, rows, agreed, triangles, work);
+    let figure = Figure::Agreed(agreed);
+    let least = solver::solve(n, candidates, weights, rows, figure, triangles, work);
     if NONE <= least {
         return Outcome::None;
     }

@@ -13,6 +13,8 @@ use Rattle.reader.proofs.Accepted as accepted
 use Rattle.reader.proofs.HalfSteps as half-steps
 use Rattle.jobs.specs.Job.{Job}
 use Rattle.triangulation.proofs.Tiling as tiling
+use Rattle.pricing.specs.Quote.{priced}
+use Rattle.pricing.specs.Patch.{patchedAt}
 use Rattle.pricing.proofs.Pricing as pricing
 use Rattle.pricing.proofs.Patching as patching
 use Rattle.pricing.proofs.Demands as agreed-patch
@@ -133,7 +135,7 @@ sizes-of-files limit file t = record {
   enough-taken = λ e. sizes.enough-taken limit file t e;
 }
 
-prices-jobs : (job : Job) (work : List ℕ) → Prices job work
+prices-jobs : (job : Job) (work : List ℕ) → Prices job work (priced job work)
 prices-jobs job work = record {
   priced-when = pricing.priced-when job work;
   priced-only-when = pricing.priced-only-when job work;
@@ -147,7 +149,7 @@ prices-jobs job work = record {
   valid = pricing.priced-valid job work;
 }
 
-patches-jobs : (job : Job) (agreed : ℕ) (triangles work : List ℕ) → Patches job agreed triangles work
+patches-jobs : (job : Job) (agreed : ℕ) (triangles work : List ℕ) → Patches job agreed triangles work (patchedAt job agreed triangles work)
 patches-jobs job agreed triangles work = record {
   taken-when = agreed-patch.taken-when job agreed triangles work;
   taken-only-when = agreed-patch.taken-only-when job agreed triangles work;

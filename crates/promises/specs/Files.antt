@@ -60,7 +60,8 @@ pub record Editions (file : List ℕ) : Type 0 where
   pub layout-1 : (u16At file 0 ≡ 65535 → ⊥) → Edition1 file
   pub layout-2 : u16At file 0 ≡ 65535 → Edition2 file
   pub answer-1 : isEdition2 file ≡ false → (limit : ℕ) (t : Tables) → patchFile limit file t ≡ baseFile limit file t
-  pub answer-2 : {two : List ℕ} → isEdition2 file ≡ false → SameRim two file → (limit : ℕ) (t : Tables) → patchFile limit two t ≡ baseFile limit file t
+  pub answer-2 : {two : List ℕ} → isEdition2 file ≡ false → SameRim two file → (limit : ℕ) (t : Tables) →
+      patchFile limit two t ≡ baseFile limit file t
 
 -- a file carried to the other edition, of the converter's call (rules 1.15, 1.16, 4.35)
 pub record ConverterCall (file out : List ℕ) : Type 0 where
@@ -84,8 +85,8 @@ pub record HalfSteps : Type 0 where
   pub none-nearer : (v : Float) → finite v ≡ true → (h : ℤ) → distance (roundEighths v) v ≤ distance h v
   pub only-number : (v : Float) → finite v ≡ true → (g : ℤ) → HalfStep v g → EvenHalf v g → g ≡ roundEighths v
   -- so the file alone fixes the vertices (rules 1.6 to 1.10)
-  pub vertices-rounded : (limit : ℕ) (file : List ℕ) → readingOf limit file .status ≡ Complete → (i : ℕ) → i < readingOf limit file .polygon .n →
-      Rounded file i (polygon.vertexAt (readingOf limit file .polygon .vertices) i)
+  pub vertices-rounded : (limit : ℕ) (file : List ℕ) → readingOf limit file .status ≡ Complete →
+      (i : ℕ) → i < readingOf limit file .polygon .n → Rounded file i (polygon.vertexAt (readingOf limit file .polygon .vertices) i)
   pub vertices-fixed : (limit : ℕ) (file : List ℕ) → readingOf limit file .status ≡ Complete → (i : ℕ) → i < readingOf limit file .polygon .n →
       (p : GridPoint) → Rounded file i p → p ≡ polygon.vertexAt (readingOf limit file .polygon .vertices) i
   -- and the patch, whatever tables of sufficient length are lent (rule 3.10)
@@ -97,9 +98,10 @@ pub record Limits (file : List ℕ) : Type 0 where
   -- a limit that is not from 3 to 64 is refused with 14 (rule 4.14)
   pub limit-refused : (limit : ℕ) → Bytes file → (t : Tables) → countFits limit ≡ false → patchFile limit file t ≡ refused 14 t
   -- a chain within the smaller of two limits has one answer under both (rule 3.11); a rim that the larger takes and that has more vertices gets 20
-  pub one-answer : {small large : ℕ} → minVertices ≤ small → small ≤ large → large ≤ maxVertices → ChainAtMost file small → OneAnswer small large file
-  pub more-vertices : {small large : ℕ} → minVertices ≤ small → small ≤ large → large ≤ maxVertices → readingOf large file .status ≡ Complete →
-      small < readingOf large file .polygon .n → (t : Tables) → patchFile small file t ≡ refused 20 t
+  pub one-answer : {small large : ℕ} → minVertices ≤ small → small ≤ large → large ≤ maxVertices →
+      ChainAtMost file small → OneAnswer small large file
+  pub more-vertices : {small large : ℕ} → minVertices ≤ small → small ≤ large → large ≤ maxVertices →
+      readingOf large file .status ≡ Complete → small < readingOf large file .polygon .n → (t : Tables) → patchFile small file t ≡ refused 20 t
   -- 5 is given under 64 alone, 20 under smaller limits alone, each to a chain of one record more (rules 4.5, 4.20)
   pub five-given : (limit : ℕ) → Bytes file → (t : Tables) → numberOf (patchFile limit file t .outcome) ≡ 5 →
       HasRecords file (suc limit) × (limit ≡ maxVertices)

@@ -19,7 +19,9 @@ use Rattle.triangulation.specs.Triangulations.{Problem}
 use Rattle.triangulator.specs.declared.Outcome.the-variants.{None, Refused}
 use Rattle.triangulator.specs.Call.{values, valuesOf}
 use Rattle.pricing.specs.declared.Quote.the-variants as quote
+use Rattle.pricing.specs.Quote.{priced}
 use Rattle.pricing.specs.Quote as price
+use Rattle.pricing.specs.Patch.{patchedAt}
 use Rattle.pipeline.specs.Finding.{findFile}
 use Rattle.pipeline.specs.Patching.{Tables, patchPolygon, patchFile}
 use Rattle.demands.specs.Demand1.{polygonIn, CallDue}
@@ -44,8 +46,8 @@ pub record Promises : Type 0 where
   pub polygon-sizes : (p : Polygon) → TellsSizes p
   pub file-sizes : (limit : ℕ) (file : List ℕ) (t : Tables) → TellsFileSizes limit file t
   -- the tiler's two calls on a direct job, each alone and one after the other
-  pub prices : (job : Job) (work : List ℕ) → Prices job work
-  pub patches : (job : Job) (agreed : ℕ) (triangles work : List ℕ) → Patches job agreed triangles work
+  pub prices : (job : Job) (work : List ℕ) → Prices job work (priced job work)
+  pub patches : (job : Job) (agreed : ℕ) (triangles work : List ℕ) → Patches job agreed triangles work (patchedAt job agreed triangles work)
   pub in-turn : (job : Job) (triangles work : List ℕ) → InTurn job triangles work
   pub tilings : (problem : Problem) → Tilings problem
   pub editions : (file : List ℕ) → Editions file
@@ -75,7 +77,7 @@ pub record Promises : Type 0 where
 --   `QuartersLeft`, `RightOfTables`, `HandedOfTables`, `RestOfTables`, demands/Quarters `InQuarters`, `IsNormal`, geometry/Quarters `IsLength`,
 --   `IsBendBetween`, `LongerByQuarter`, integers/Rounding `IsFloorRoot`, planar/Planes `OnOneLine`, planar/Circles `collinear`, weights/Weights `ownWeight`
 -- tilings and answers: jobs/Job `Job`, triangulation/Triangulations `Problem`, `totalWeight`, `preorder`, Problems `problemOf`, Tiling `Tiling`, Demand3
---   `Demand3`, `HandedBack`, LeastTotal `Least`, triangulator/Demands `Taken`, `Handed`, `RestLeft`, pricing/Demands `Quoted`, preorder/Preorder `TurnByTurn`,
---   judge/Demands `IsTiling`, `Acceptable`, `SameNumbers`, `Excess`
+--   `Demand3`, `HandedBack`, LeastTotal `HasTiling`, `NoTiling`, `Least`, triangulator/Demands `Taken`, `Handed`, `RestLeft`, pricing/Demands `Quoted`,
+--   preorder/Preorder `TurnByTurn`, judge/Demands `IsTiling`, `Acceptable`, `SameNumbers`, `Excess`
 -- answers alike: demands/Base `baseFile`, Conversion `SameAnswers`, OnePatch `SamePatch`, `LongEnough`, Limits `OneAnswer`
 -- lines: patch_program/Run `emptyTables`, Demands `LinesHold`

@@ -68,7 +68,8 @@ pub record TellsSizes (p : Polygon) : Type 0 where
   pub given-first : (k : ℕ) → sizesOf p ≡ sizes.Refused (refusal k) → polygon-due.First (SizesDue p) k
 
 -- ---- patches, of a call that takes a polygon through finding and tiling: by the numbers due on it, the polygon, the tables, and what it answered and left
-pub record Closes {Place : Type 0} (Before : Place → Place → Type 0) (Due : Place → ℕ → Type 0) (p : Polygon) (t : Tables) (x : Patching) : Type 0 where
+pub record Closes {Place : Type 0} (Before : Place → Place → Type 0) (Due : Place → ℕ → Type 0)
+    (p : Polygon) (t : Tables) (x : Patching) : Type 0 where
   -- demand 1: the call ends in a patch or 'none' exactly when no number is due (rules 4.31, 4.33, 4.34)
   pub taken-when : NoneDue Due → Taken (x .outcome)
   pub taken-only-when : Taken (x .outcome) → NoneDue Due
@@ -95,7 +96,8 @@ pub record Closes {Place : Type 0} (Before : Place → Place → Type 0) (Due : 
 pub record TellsFileSizes (limit : ℕ) (file : List ℕ) (t : Tables) : Type 0 where
   pub sizes-refused : (k : ℕ) → sizesFile limit file ≡ sizes.Refused (refusal k) → patchFile limit file t ≡ refused k t
   pub shorter-13 : {needed : Places} → sizesFile limit file ≡ sizes.Known needed → TooShort needed t → patchFile limit file t ≡ refused 13 t
-  pub enough-taken : {needed : Places} → sizesFile limit file ≡ sizes.Known needed → (TooShort needed t → ⊥) → Taken (patchFile limit file t .outcome)
+  pub enough-taken : {needed : Places} → sizesFile limit file ≡ sizes.Known needed → (TooShort needed t → ⊥) →
+      Taken (patchFile limit file t .outcome)
 
 -- ---- flat rims
 pub record FlatRims : Type 0 where
@@ -103,14 +105,15 @@ pub record FlatRims : Type 0 where
   pub flat-candidate : (p : Polygon) → Flat p → (a b c : ℕ) → Candidate p a b c → CountsInPlane p a b c
   pub solid-candidate : (p : Polygon) → (Flat p → ⊥) → (a b c : ℕ) → Candidate p a b c → Face p a b c
   -- 12 exactly where the circle of a three that counts has a fourth vertex on it (rule 4.12)
-  pub circle-gets-12 : (limit : ℕ) (file : List ℕ) → Bytes file → (t : Tables) → NoneDue (FileDue limit file) → Cocircular (polygonIn limit file) →
-      patchFile limit file t ≡ refused 12 t
+  pub circle-gets-12 : (limit : ℕ) (file : List ℕ) → Bytes file → (t : Tables) → NoneDue (FileDue limit file) →
+      Cocircular (polygonIn limit file) → patchFile limit file t ≡ refused 12 t
   pub twelve-by-circle : (limit : ℕ) (file : List ℕ) → Bytes file → (t : Tables) → numberOf (patchFile limit file t .outcome) ≡ 12 →
       Flat (polygonIn limit file) → Cocircular (polygonIn limit file)
   -- a rim with all vertices on one line gets 'none', and every other triangle itself (rule 2.19)
   pub line-gets-none : (limit : ℕ) (file : List ℕ) → Bytes file → (t : Tables) → NoneDue (CallDue limit file t) →
       OnOneLine (vertex (polygonIn limit file)) (polygonIn limit file .n) → patchFile limit file t .outcome ≡ None
-  pub triangle-gets-patch : (limit : ℕ) (file : List ℕ) → Bytes file → (t : Tables) → NoneDue (CallDue limit file t) → polygonIn limit file .n ≡ 3 →
+  pub triangle-gets-patch : (limit : ℕ) (file : List ℕ) → Bytes file → (t : Tables) → NoneDue (CallDue limit file t) →
+      polygonIn limit file .n ≡ 3 →
       collinear (vertex (polygonIn limit file) 0) (vertex (polygonIn limit file) 1) (vertex (polygonIn limit file) 2) ≡ false →
       patchFile limit file t .outcome ≡ Patch 1 (ownWeight (polygonIn limit file) (triple 0 1 2))
 

@@ -4,8 +4,8 @@ use mathlib.Core.Path.{_≡_, refl}
 use mathlib.Core.List.{List}
 use native.Mathlib.Omega.{arith}
 use Rattle.triangulation.specs.Triangulations.{Problem, ValidProblem, Answer, none, patch, best}
-use Rattle.triangulation.specs.Demand3.{Triangulates, Optimal}
-use Rattle.triangulation.specs.LeastTotal.{Least}
+use Rattle.triangulation.specs.Demand3.{Optimal}
+use Rattle.triangulation.specs.LeastTotal.{NoTiling, Least}
 use Rattle.triangulation.proofs.Demand3.{demand3}
 
 pub least-unique : {job : Problem} {x y : ℕ} → Least job x → Least job y → x ≡ y
@@ -17,7 +17,7 @@ optimal-least o = record { set = o .set; tiles = o .tiles; weight = o .weight; l
 -- what an answer says of the least total
 pub data Known (job : Problem) : Answer → Type 0 where
   known : (least : ℕ) (triangles : List ℕ) → Least job least → Known job (patch least triangles)
-  without : ((s : List ℕ) → Triangulates job s → ⊥) → Known job none
+  without : NoTiling job → Known job none
 
 pub answer-known : (job : Problem) → ValidProblem job → Known job (best job)
 answer-known job good = go (best job) refl

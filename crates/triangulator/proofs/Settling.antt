@@ -1,7 +1,7 @@
 -- What a call answers and leaves, from what the dynamic programme returns and leaves. Assumes nothing.
 use Prim.Native.Nat.{ℕ, zero, suc, _-_, _≤_, _<_}
 use mathlib.Core.Path.{_≡_, refl, sym, ap, ap₂, _∙_}
-use mathlib.Core.Bool.{cond}
+use mathlib.Core.Bool.{Bool, true, false, cond}
 use mathlib.Core.Logic.{_⊎_, inl, inr}
 use mathlib.Core.List.{List, [], _∷_}
 use native.Mathlib.Omega.{arith}
@@ -11,11 +11,13 @@ use lib.Seq.{take-at}
 use borrow.Author.Tests.{le-leb}
 use Rattle.codes.specs.Refusals.{refusal}
 use Rattle.lists.specs.Lists.{filled}
-use Rattle.lists.proofs.Choice.{yes}
+use Rattle.lists.proofs.Choice.{yes, no}
 use Rattle.triangulation.specs.Triangulations.{Answer, answerOf}
 use Rattle.triangulation.specs.Recursion.{costOf, restOf, noTotal}
 use Rattle.triangulator.specs.declared.Outcome.{Outcome}
 use Rattle.triangulator.specs.declared.Outcome.the-variants.{Patch, None, Refused}
+use Rattle.triangulator.specs.declared.solver.Figure.{Figure}
+use Rattle.triangulator.specs.Steps.{lists, listedBy}
 use Rattle.triangulator.specs.Call.{trianglesOf, values, valuesOf, answerValues, dueValues, result, settled, partOf}
 
 module _ (n count : ℕ) (t w : List ℕ) {t′ w′ : List ℕ} where
@@ -51,3 +53,16 @@ part-patch l t total =
 -- and nothing where no triangle is counted
 pub part-empty : (o : Outcome) (t : List ℕ) → trianglesOf o ≡ 0 → partOf o t ≡ []
 part-empty o t e = ap (λ k. cond (leb k (length t)) (take k t) []) e ∙ yes [] [] (le-leb 0 (length t) (omega arith))
+
+-- the triangle table, listed and not listed
+pub listed : (figure : Figure) (k triangles : List ℕ) → lists figure (costOf k) ≡ true → filled (restOf k) triangles ≡ listedBy figure k triangles
+listed figure k triangles e = sym (yes _ _ e)
+
+pub not-listed : (figure : Figure) (k triangles : List ℕ) → (k ≡ []) ⊎ (lists figure (costOf k) ≡ false) → triangles ≡ listedBy figure k triangles
+not-listed figure k triangles (inl e) =
+    same (lists figure (costOf k)) ∙ ap (λ (l : List ℕ). cond (lists figure (costOf k)) (filled (restOf l) triangles) triangles) (sym e)
+  where
+    same : (b : Bool) → triangles ≡ cond b triangles triangles
+    same true = refl
+    same false = refl
+not-listed figure k triangles (inr d) = sym (no _ _ d)

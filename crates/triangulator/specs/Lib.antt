@@ -1,2 +1,3 @@
 pub mod Call
+pub mod Steps
 pub mod Demands

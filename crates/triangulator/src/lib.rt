@@ -2,6 +2,7 @@
 pub mod solver;
 
 use codes::Refusal;
+use solver::Figure;
 ghost use mathlib.Core.Path.{_≡_};
 ghost use Prim.Native.Nat.{_+_, _≤_};
 ghost use lib.ListN.{length};
@@ -70,13 +71,14 @@ pub fn best_triangulation(
     triangles: &mut [u16],
     work: &mut [u64],
 ) -> Outcome
-    requires { ⌜ WellFormed n (now candidates) (now weights) (now rows) × (length (now candidates) ≤ length (now work)) × (n ≤ length (now triangles) + 2) ⌝ }
+    requires { ⌜ WellFormed n (now candidates) (now weights) (now rows) × (length (now candidates) ≤ length (now work))
+        × (n ≤ length (now triangles) + 2) ⌝ }
     ensures { λ r. ⌜ result r (now (triangles .exit)) (now (work .exit))
         ≡ settled (best (problemFrom n (now (candidates .entry)) (now (weights .entry)) (now (rows .entry))))
         (length (now (candidates .entry))) (now (triangles .entry)) (now (work .entry)) ⌝ }
     ensures { λ r. ⌜ valuesOf r ≡ answerValues n (best (problemFrom n (now (candidates .entry)) (now (weights .entry)) (now (rows .entry)))) ⌝ }
 {
-    let least = solver::solve(n, candidates, weights, rows, triangles, work);
+    let least = solver::solve(n, candidates, weights, rows, Figure::Any, triangles, work);
     if minimum_weight::NONE <= least {
         return Outcome::None;
     }

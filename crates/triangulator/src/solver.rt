@@ -9,30 +9,52 @@ ghost use lib.ListN.{length, replicate};
 ghost use Rattle.lists.specs.Lists.{filled};
 ghost use Rattle.triangulation.specs.Triangulations.{bestKey};
 ghost use Rattle.triangulation.specs.Problems.{problemFrom};
-ghost use Rattle.triangulation.specs.Recursion.{costOf, restOf};
+ghost use Rattle.triangulation.specs.Recursion.{costOf};
 ghost use Rattle.minimum_weight.specs.Tables.{WellFormed};
+ghost use Rattle.triangulator.specs.Steps.{lists, listedBy};
 
-// The least total, or NONE, with the triangles of the first such triangulation written in preorder; the work table is zero in one place per candidate.
+// At which least total the triangles are listed: at any, or at the agreed one alone.
+pub enum Figure {
+    Any,
+    Agreed(u64),
+}
+
+impl Figure {
+    pub fn lists(self, total: u64) -> bool
+        ensures { λ r. ⌜ r ≡ lists self total ⌝ }
+    {
+        match self {
+            Figure::Any => true,
+            Figure::Agreed(agreed) => agreed == total,
+        }
+    }
+}
+
+// The least total, or NONE. Where the figure lists it, the triangles of the first triangulation with that total are written in preorder. The work table is
+// zero in one place per candidate.
 pub fn solve(
     n: usize,
     candidates: &[[u8; 3]],
     weights: &[u32],
     rows: &[[u32; 3]],
+    figure: Figure,
     triangles: &mut [u16],
     work: &mut [u64],
 ) -> u64
-    requires { ⌜ WellFormed n (now candidates) (now weights) (now rows) × (length (now candidates) ≤ length (now work)) × (n ≤ length (now triangles) + 2) ⌝ }
+    requires { ⌜ WellFormed n (now candidates) (now weights) (now rows) × (length (now candidates) ≤ length (now work))
+        × (n ≤ length (now triangles) + 2) ⌝ }
     ensures total { λ r. ⌜ r ≡ costOf (bestKey (problemFrom n (now (candidates .entry)) (now (weights .entry)) (now (rows .entry)))) ⌝ }
     ensures triangles { λ _. ⌜ now (triangles .exit)
-        ≡ filled (restOf (bestKey (problemFrom n (now (candidates .entry)) (now (weights .entry)) (now (rows .entry))))) (now (triangles .entry)) ⌝ }
+        ≡ listedBy figure (bestKey (problemFrom n (now (candidates .entry)) (now (weights .entry)) (now (rows .entry)))) (now (triangles .entry)) ⌝ }
     ensures work { λ _. ⌜ now (work .exit) ≡ filled (replicate (length (now (candidates .entry))) 0) (now (work .entry)) ⌝ }
 {
     let count = candidates.len();
     let starts = blocks::block_starts(candidates);
     let least = least_total(n, &starts, candidates, weights, rows, work);
-    if NONE <= least {
+    let listed = figure.lists(least);
+    if NONE <= least || !listed {
         clear(work, count);
-        return NONE;
+        return least;
     }
     write_preorder(n, &starts, candidates, weights, rows, work, triangles);
     clear(work, count);

@@ -51,8 +51,8 @@ module _ (g : tie.Else1) where
   formed : WellFormed (call .args .n) (call .args .candidates .now) (call .args .weights .now) (call .args .rows .now)
   formed = accepted-well-formed (job call) (length (call .args .triangles .now)) (length (call .args .work .now)) zero .0
 
-solve-at-requires : tie.Need-solve-at-requires
-solve-at-requires c κs =
+solve-requires : tie.Need-solve-requires
+solve-requires c κs =
     let g = c .before .before in
     accepted-well-formed (job (call g)) (length (call g .args .triangles .now)) (length (call g .args .work .now)) (zero g)
 
@@ -67,7 +67,7 @@ unfolding patchedAt
 returns-2 c =
     let g = c .before .before .before .before .before .before .before .before in
     let s = call g in
-    let e = c .before .before .before .before .before .solve-at .ensures in
+    let e = c .before .before .before .before .before .solve .ensures in
     patch-none (s .args .n) _ (due s) (s .args .agreed) (zero g) (s .args .triangles .now) (s .args .work .now) (key g) (e .1 .0) (e .1 .1)
     (omega (arith, e .0, c .if2 .taken)) (answer-light (s .args .n) _ _ _ (formed g))
 
@@ -86,12 +86,12 @@ returns-3 c =
     let h = c .before .before in
     let g = h .before .before .before .before .before .before .before .before in
     let s = call g in
-    let e = h .before .before .before .before .before .solve-at .ensures in
+    let e = h .before .before .before .before .before .solve .ensures in
     patch-not-least (s .args .n) _ (due s) (s .args .agreed) (zero g) (s .args .triangles .now) (s .args .work .now) (key g) (e .1 .0) (e .1 .1)
     (c .new2 .ensures) (omega (arith, e .0, h .if2 .left)) (λ q. omega (arith, e .0, q, c .before .if3 .taken))
 
-sub-t10 : tie.Need-sub-t10
-sub-t10 c = omega (arith, formed (c .before .before .before .before .before .before .before .before .before) .valid .n3)
+sub-t11 : tie.Need-sub-t11
+sub-t11 c = omega (arith, formed (c .before .before .before .before .before .before .before .before .before) .valid .n3)
 
 same-length-5 : tie.Need-same-length-5
 same-length-5 c = search needs
@@ -105,7 +105,7 @@ returns-4 c =
     let h = c .before in
     let g = h .before .before .before .before .before .before .before .before in
     let s = call g in
-    let e = h .before .before .before .before .before .solve-at .ensures in
+    let e = h .before .before .before .before .before .solve .ensures in
     patch-whole (s .args .n) _ (due s) (s .args .agreed) (zero g) (s .args .triangles .now) (s .args .work .now) (key g) (e .1 .0) (e .1 .1)
     _ (e .0) (h .if2 .left) (omega (arith, c .if3 .left)) (λ x l q. best-length (problemOf (job s)) (formed g .valid) x l (ap answerOf q))
 
@@ -116,7 +116,7 @@ patch-spec =
     job-code-requires
     new-requires
     returns
-    solve-at-requires
+    solve-requires
     same-length
     same-length-2
     returns-2
@@ -124,7 +124,7 @@ patch-spec =
     same-length-3
     same-length-4
     returns-3
-    sub-t10
+    sub-t11
     same-length-5
     same-length-6
     returns-4)

@@ -27,8 +27,8 @@ returns c =
     settle-none (J .n) (J .size) _ _ (bestKey J) (omega (arith, e .0, c .if1 .taken))
     (answer-light (s .args .n) _ _ _ (s .pre .0)) (e .1 .0) (e .1 .1)
 
-sub-t13 : tie.Need-sub-t13
-sub-t13 c = search needs
+sub-t14 : tie.Need-sub-t14
+sub-t14 c = search needs
 
 same-length-3 : tie.Need-same-length-3
 same-length-3 c = search needs
@@ -52,7 +52,7 @@ best-triangulation-spec =
     same-length
     same-length-2
     returns
-    sub-t13
+    sub-t14
     same-length-3
     same-length-4
     returns-2)
