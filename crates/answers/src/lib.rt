@@ -1,5 +1,7 @@
 // What hosts are given. An enum cannot cross the boundary to C, so an answer is a struct of numbers: the number due, 0 where none is, and counts, total,
 // excess, edition or length, which are 0 in a refusal.
+#![tactic(auto)]
+
 ghost use Rattle.std.specs.Prelude.{◌≡◌};
 ghost use Rattle.answers.specs.Answers.{patch_answer_of, price_answer_of, judge_answer_of, read_answer_of, find_answer_of, sizes_answer_of, convert_answer_of};
 

@@ -1,4 +1,6 @@
 // The bench program (rule 5.3), which has the largest limit.
+#![tactic(auto)]
+
 ghost use Rattle.std.specs.Prelude.{◌≡◌};
 ghost use Rattle.terms.specs.Limits.{max_vertices};
 ghost use Rattle.pipeline.specs.Patching.{patch_file};

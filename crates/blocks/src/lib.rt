@@ -1,4 +1,6 @@
 // Where the candidates of each first vertex stand: they ascend by it.
+#![tactic(auto)]
+
 ghost use Rattle.std.specs.Prelude.{◌≡◌, length, ltb};
 ghost use Rattle.lists.specs.Lists.{both};
 ghost use Rattle.terms.specs.Entries.{entry_at, vertex_a};

@@ -1,5 +1,7 @@
 // Refusals: what a call answers where a number is due, and the numbers of rules 4.1 to 4.23, by who causes them,
 // each with the text that hosts are given.
+#![tactic(auto)]
+
 ghost use Rattle.std.specs.Prelude.{◌≡◌};
 ghost use Rattle.codes.specs.Refusals.{refusal};
 

@@ -1,5 +1,7 @@
 // A rim file's bytes in the other edition: the layout that it goes to, the bytes written there, and the test for a normal that would be lost.
 // Nothing here is for hosts: the functions serve the converter, which meets what they ask.
+#![tactic(auto)]
+
 pub mod normals;
 pub mod writing;
 

@@ -1,4 +1,6 @@
 // The program convert (rule 5.8): the rim file on standard input goes to standard output in the other edition.
+#![tactic(auto)]
+
 ghost use Rattle.std.specs.Prelude.{◌≡◌};
 ghost use Rattle.converter.specs.Call.{converting, convert_call};
 

@@ -1,4 +1,6 @@
 // The converter's open call: a rim file that the reader takes, carried to the other edition where the table has room and no normal is lost.
+#![tactic(auto)]
+
 ghost use Rattle.std.specs.Prelude.{◌≡◌, false};
 ghost use Rattle.rim_file.specs.File.{length_wrong};
 ghost use Rattle.converter.specs.Call.{number_of, edition_of, converted_length, values_of, conversion_code, conversion_number};
@@ -89,8 +91,8 @@ fn carry(file: &[u8], out: &mut [u8]) -> Conversion
 
 // The file in the other edition, in the first places of the output table. Numbers 1 to 11 and 18, then 13, then 19.
 pub fn convert(file: &[u8], out: &mut [u8]) -> Conversion
-    ensures out_after { converting result out.new ≡ convert_call file.now out.old }
-    ensures result_value { values_of result ≡ due_values (number_due file.now out.old) file.now }
+    ensures tables { converting result out.new ≡ convert_call file.now out.old }
+    ensures values { values_of result ≡ due_values (number_due file.now out.old) file.now }
 {
     let reading = reader::read_polygon(terms::MAX_VERTICES, file);
     let status = reading.status;

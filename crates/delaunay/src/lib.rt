@@ -1,4 +1,6 @@
 // The candidates of a polygon: the faces of its Delaunay tetrahedra or, where it is flat, its Delaunay triangles.
+#![tactic(auto)]
+
 ghost use Rattle.std.specs.Prelude.{◌≡◌, length};
 ghost use Rattle.faces.specs.Masks.{pair_count};
 ghost use Rattle.polygon.specs.Polygon.{ValidPolygon};

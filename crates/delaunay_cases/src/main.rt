@@ -1,4 +1,6 @@
 // The candidate finder on stored cases. Each prints the answer and every place of every table; 9 is what a place held before.
+#![tactic(auto)]
+
 ghost use Rattle.std.specs.Prelude.{◌≤◌, length};
 
 use finder::Found;

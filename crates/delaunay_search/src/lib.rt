@@ -1,4 +1,6 @@
 // What the two searches share: the vertices as seen from one of them, and the turns of a scan over them.
+#![tactic(auto)]
+
 ghost use Rattle.std.specs.Prelude.{◌≡◌, not, ◌<◌};
 ghost use Rattle.lists.specs.Lists.{both};
 ghost use Rattle.faces.specs.Faces.{is_one_of};

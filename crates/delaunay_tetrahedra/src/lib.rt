@@ -1,4 +1,6 @@
 // The Delaunay tetrahedra of a polygon that is not flat: the fours that count, and their faces.
+#![tactic(auto)]
+
 ghost use Rattle.std.specs.Prelude.{◌≡◌, not, true, ◌≤◌, ◌<◌, eqb, length};
 ghost use Rattle.terms.specs.Limits.{max_vertices};
 ghost use Rattle.geometry.specs.Bounds.{LiftedBounds, PencilBounds};

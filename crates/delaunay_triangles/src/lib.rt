@@ -1,4 +1,6 @@
 // The Delaunay triangles of a flat polygon: the threes that count.
+#![tactic(auto)]
+
 ghost use Rattle.std.specs.Prelude.{◌≡◌, length};
 ghost use Rattle.faces.specs.Masks.{pair_count};
 ghost use Rattle.polygon.specs.Polygon.{ValidPolygon, vertex};

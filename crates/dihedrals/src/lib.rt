@@ -1,4 +1,6 @@
 // The lengths of the candidates' normals, and the rows of hanging pairs with the weight of the bend at their common edge.
+#![tactic(auto)]
+
 ghost use Rattle.std.specs.Prelude.{◌≡◌, [], ◌∷◌, ◌<◌, ◌≤◌, length};
 ghost use Rattle.terms.specs.Limits.{max_triples, max_bend_factor};
 ghost use Rattle.lists.specs.Lists.{filled};

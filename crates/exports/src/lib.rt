@@ -1,5 +1,7 @@
 // The calls that hosts in C and Rust link: each makes one call of the library, and gives the host its numbers. Each call on a rim file but the conversion
 // stands twice: with the limit that the host asks for, and with the largest.
+#![tactic(auto)]
+
 ghost use Rattle.std.specs.Prelude.{◌≡◌};
 ghost use Rattle.jobs.specs.Job.{job_of};
 ghost use Rattle.terms.specs.Limits.{max_vertices};

@@ -1,4 +1,6 @@
 // A set of triangles (a, b, c): a mask of the vertices c for each pair (a, b).
+#![tactic(auto)]
+
 ghost use Rattle.std.specs.Prelude.{◌≡◌, ◌<◌, ◌≤◌, length};
 ghost use Rattle.terms.specs.Limits.{max_vertices};
 ghost use Rattle.lists.specs.Lists.{filled};

@@ -1,4 +1,6 @@
 // The candidate finder: from a polygon to its candidates, their weights and the rows of hanging pairs.
+#![tactic(auto)]
+
 ghost use Rattle.std.specs.Prelude.{◌≡◌, false, ◌≤◌};
 ghost use Rattle.terms.specs.Limits.{min_vertices, max_vertices};
 ghost use Rattle.faces.specs.Faces.{triples_of};
@@ -104,8 +106,8 @@ fn count_places(n: usize, masks: &[u64; faces::PAIRS]) -> Places
 
 // The places that the lent tables need for this polygon, or the number due on it: 2, 5, 9, 18, 10, 11 or 12.
 pub fn table_sizes(p: Polygon) -> Sizes
-    ensures value { result ≡ sizes_of p }
-    ensures result_value { (sizes.number_of result ≡ number_due false p) × (places_in result ≡ due_places (number_due false p) p) }
+    ensures sizes { result ≡ sizes_of p }
+    ensures values { (sizes.number_of result ≡ number_due false p) × (places_in result ≡ due_places (number_due false p) p) }
 {
     let mut masks = [0u64; faces::PAIRS];
     let number = search(p, &mut masks);
@@ -189,9 +191,9 @@ pub fn find_beside(
     weights: &mut [u32],
     rows: &mut [[u32; 3]],
 ) -> Found
-    ensures rows_after { finding result candidates.new weights.new rows.new
+    ensures tables { finding result candidates.new weights.new rows.new
         ≡ find_beside_call p triangle_places work_places candidates.old weights.old rows.old }
-    ensures result_value { values_of result
+    ensures values { values_of result
         ≡ due_values (beside_number p triangle_places work_places candidates.old weights.old rows.old) p }
 {
     let mut masks = [0u64; faces::PAIRS];
@@ -217,9 +219,9 @@ pub fn find(
     weights: &mut [u32],
     rows: &mut [[u32; 3]],
 ) -> Found
-    ensures rows_after { finding result candidates.new weights.new rows.new
+    ensures tables { finding result candidates.new weights.new rows.new
         ≡ find_call p candidates.old weights.old rows.old }
-    ensures result_value { values_of result ≡ due_values (find_number p candidates.old weights.old rows.old) p }
+    ensures values { values_of result ≡ due_values (find_number p candidates.old weights.old rows.old) p }
 {
     let n = p.n;
     find_beside(p, n, faces::TRIPLES, candidates, weights, rows)

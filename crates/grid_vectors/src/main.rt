@@ -1,5 +1,7 @@
 // The grid number at every half from -999.5 to 999.5, and at the floats next to each. A line has 8v, where v is the float in millimetres, and the
 // grid numbers of the next float below v, of v, and of the next float above it. What `stdout` holds was worked out from rule 1.10 in exact fractions.
+#![tactic(auto)]
+
 use grid::{GridNumber, GridPoint};
 
 const STANDARD_OUTPUT: i32 = 1;

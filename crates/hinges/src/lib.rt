@@ -1,4 +1,6 @@
 // Hinges: pairs of candidates that share an edge, the inner hanging on the outer (rule 2.9).
+#![tactic(auto)]
+
 ghost use Rattle.std.specs.Prelude.{◌≡◌, ◌<◌, ◌≤◌, length};
 ghost use Rattle.terms.specs.Limits.{max_vertices};
 ghost use Rattle.faces.specs.Faces.{triples_of};

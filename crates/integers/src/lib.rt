@@ -1,4 +1,6 @@
 // Roots and quotients cut to whole numbers, and the clamp to a range (rules 2.7 and 2.10).
+#![tactic(auto)]
+
 ghost use Rattle.std.specs.Prelude.{◌≡◌, ◌<◌, ◌^◌, pos, nat_abs, ◌<ℤ◌};
 ghost use Rattle.integers.specs.Bounds.{AtMost, max_dividend};
 ghost use Rattle.integers.specs.Rounding.{floor_root, floor_div, clamped};

@@ -43,6 +43,7 @@ module _ (job : Job) (tp wp : ℕ) where
   -- ---- what fails before each number, where the tests before it hold
   before_14 : (q : JobPlace) (j : ℕ) → Precedes JobBefore q j count 14 → Fails job tp wp q j → ⊥
   before_14 _ _ (by_number l) (fails_14 e) = omega arith
+  before_14 q j (by_place x10) _ = elim x10 [ ]
 
   module _ (c : count_fits n ≡ true) where
     before_13 : (q : JobPlace) (j : ℕ) → Precedes JobBefore q j tables 13 → Fails job tp wp q j → ⊥

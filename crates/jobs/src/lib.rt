@@ -1,4 +1,6 @@
 // The tests of a direct job: 14, 13, 15, 16, 17, each over the whole job before the next (rule 4.32).
+#![tactic(auto)]
+
 mod candidates;
 pub mod pairs;
 mod rows;

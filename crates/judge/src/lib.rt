@@ -1,4 +1,6 @@
 // The judge of patches from other programs: is a list of candidates a triangulation with the stated total, and how far is that above the least?
+#![tactic(auto)]
+
 ghost use Rattle.std.specs.Prelude.{◌≡◌, length};
 ghost use Rattle.jobs.specs.Job.{job_of};
 ghost use Rattle.judge.specs.Call.{number_of, excess_of, values_of, result_of, judged_values, judged};
@@ -15,7 +17,7 @@ pub enum Judgement {
 impl Judgement {
     // The number of a refusal, 0 for an acceptance.
     pub fn number(self) -> u32
-        ensures* { λ r. ⌜ r ≡ number_of self ⌝ }
+        ensures { result ≡ number_of self }
     {
         match self {
             Judgement::Accepted { excess: _ } => 0,
@@ -25,7 +27,7 @@ impl Judgement {
 
     // The excess over the least total, 0 for a refusal.
     pub fn excess(self) -> u64
-        ensures* { λ r. ⌜ r ≡ excess_of self ⌝ }
+        ensures { result ≡ excess_of self }
     {
         match self {
             Judgement::Accepted { excess } => excess,
@@ -44,11 +46,11 @@ pub fn judge(
     stated: u64,
     work: &mut [u64],
 ) -> Judgement
-    ensures* work_after { λ r. ⌜ result_of r work.new
-        ≡ judged (job_of n candidates.now weights.now rows.now) list.now stated work.old ⌝ }
-    ensures* r_value { λ r. ⌜ values_of r
+    ensures tables { result_of result work.new
+        ≡ judged (job_of n candidates.now weights.now rows.now) list.now stated work.old }
+    ensures values { values_of result
         ≡ judged_values (job_of n candidates.now weights.now rows.now) list.now stated
-        (length work.old) ⌝ }
+        (length work.old) }
 {
     let job_number = jobs::code_without_triangles(n, candidates, weights, rows, work.len());
     if job_number != 0 {

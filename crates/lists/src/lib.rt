@@ -1,1 +1,3 @@
 // Mathematics only: lists made in the order of loops, and tables whose first places are filled. No function.
+#![tactic(auto)]
+

@@ -1,5 +1,7 @@
 // The least total of all triangulations, by dynamic programming over the candidates.
 // work[t] is the least total of a part that starts with candidate t. From it the crate `preorder` lists the triangles; `clear` leaves zeros in its place.
+#![tactic(auto)]
+
 pub mod choice;
 mod costs;
 

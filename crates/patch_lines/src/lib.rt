@@ -1,4 +1,6 @@
 // The numbers on the lines of a patch (rule 5.4). The functions serve the programs that print them, and what one of them asks its callers meet.
+#![tactic(auto)]
+
 ghost use Rattle.std.specs.Prelude.{◌≡◌, ◌≤◌, get_or, length};
 ghost use Rattle.terms.specs.Entries.{triple};
 ghost use Rattle.triangulator.specs.Call.{triangles_of};

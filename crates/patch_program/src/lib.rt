@@ -1,5 +1,7 @@
 // What the programs bench and trim do with the rim file that they read, of either edition: they close its gap and print the patch, and differ in their
 // limit (rules 5.3, 5.4, 5.9).
+#![tactic(auto)]
+
 mod output;
 
 ghost use Rattle.std.specs.Prelude.{◌≡◌};

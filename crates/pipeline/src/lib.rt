@@ -1,4 +1,6 @@
 // The one call over the three stages, reader, candidate finder and tiler; and the calls on a rim file that stop before the tiler.
+#![tactic(auto)]
+
 ghost use Rattle.std.specs.Prelude.{◌≡◌, ◌+◌, ◌≤◌, length, take};
 ghost use Rattle.reader.specs.Reading.{polygon_of};
 ghost use Rattle.finder.specs.Finding.{finding};
@@ -32,9 +34,9 @@ fn triangulate_first(
     requires count_in_bounds { (count ≤ length candidates.now) × (count ≤ length weights.now) × (row_count ≤ length rows.now)
         × (count ≤ length work.old) × (n ≤ length triangles.old + 2) }
     requires well_formed { WellFormed n (take count candidates.now) (take count weights.now) (take row_count rows.now) }
-    ensures* { λ r. ⌜ result_of r triangles.new work.new
+    ensures { result_of result triangles.new work.new
         ≡ settled (best (problem_from n (take count candidates.now) (take count weights.now) (take row_count rows.now)))
-        count triangles.old work.old ⌝ }
+        count triangles.old work.old }
 {
     triangulator::best_triangulation(
         n,
@@ -55,10 +57,10 @@ pub fn patch_polygon(
     rows: &mut [[u32; 3]],
     work: &mut [u64],
 ) -> Outcome
-    ensures* work_after { λ r. ⌜ patching r (tables triangles.new candidates.new weights.new rows.new work.new)
-        ≡ patch_polygon p (tables triangles.old candidates.old weights.old rows.old work.old) ⌝ }
-    ensures* r_value { λ r. ⌜ values_of r
-        ≡ polygon_values p (tables triangles.old candidates.old weights.old rows.old work.old) ⌝ }
+    ensures tables { patching result (tables triangles.new candidates.new weights.new rows.new work.new)
+        ≡ patch_polygon p (tables triangles.old candidates.old weights.old rows.old work.old) }
+    ensures values { values_of result
+        ≡ polygon_values p (tables triangles.old candidates.old weights.old rows.old work.old) }
 {
     let n = p.n;
     let found = finder::find_beside(p, triangles.len(), work.len(), candidates, weights, rows);
@@ -83,12 +85,12 @@ pub fn patch_file(
     rows: &mut [[u32; 3]],
     work: &mut [u64],
 ) -> Outcome
-    ensures* work_after { λ r. ⌜ patching r (tables triangles.new candidates.new weights.new rows.new work.new)
+    ensures tables { patching result (tables triangles.new candidates.new weights.new rows.new work.new)
         ≡ patch_file limit file.now
-        (tables triangles.old candidates.old weights.old rows.old work.old) ⌝ }
-    ensures* r_value { λ r. ⌜ values_of r
+        (tables triangles.old candidates.old weights.old rows.old work.old) }
+    ensures values { values_of result
         ≡ file_values limit file.now
-        (tables triangles.old candidates.old weights.old rows.old work.old) ⌝ }
+        (tables triangles.old candidates.old weights.old rows.old work.old) }
 {
     let reading = reader::read_polygon(limit, file);
     let status = reading.status;
@@ -107,9 +109,9 @@ pub fn find_file(
     weights: &mut [u32],
     rows: &mut [[u32; 3]],
 ) -> Found
-    ensures* rows_after { λ r. ⌜ finding r candidates.new weights.new rows.new
-        ≡ find_file limit file.now candidates.old weights.old rows.old ⌝ }
-    ensures* r_value { λ r. ⌜ found.values_of r ≡ find_file_values limit file.now candidates.old weights.old rows.old ⌝ }
+    ensures tables { finding result candidates.new weights.new rows.new
+        ≡ find_file limit file.now candidates.old weights.old rows.old }
+    ensures values { found.values_of result ≡ find_file_values limit file.now candidates.old weights.old rows.old }
 {
     let reading = reader::read_polygon(limit, file);
     let status = reading.status;
@@ -122,9 +124,9 @@ pub fn find_file(
 
 // The places that the lent tables need for a rim file of at most so many vertices, or the number due on it: one of the reader's, or 12.
 pub fn table_sizes(limit: usize, file: &[u8]) -> Sizes
-    ensures* r_value { λ r. ⌜ r ≡ sizes_file limit file.now ⌝ }
-    ensures* fact { λ r. ⌜ (sizes.number_of r ≡ sizes_number limit file.now)
-        × (places_in r ≡ due_places (sizes_number limit file.now) (polygon_of file.now)) ⌝ }
+    ensures sizes { result ≡ sizes_file limit file.now }
+    ensures values { (sizes.number_of result ≡ sizes_number limit file.now)
+        × (places_in result ≡ due_places (sizes_number limit file.now) (polygon_of file.now)) }
 {
     let reading = reader::read_polygon(limit, file);
     let status = reading.status;

@@ -1,5 +1,7 @@
 // The circle through three points in their plane. It is seen along an axis that is not in the plane, with the squared lengths in space: a sphere of
 // `geometry::sphere` whose fourth corner is the direction of the axis. So the same functions compute it, and place points.
+#![tactic(auto)]
+
 ghost use Rattle.std.specs.Prelude.{◌≡◌};
 ghost use Rattle.geometry.specs.Bounds.{max_normal, Within, LiftedBounds};
 ghost use Rattle.planar.specs.Seen.{Across, circle_of};

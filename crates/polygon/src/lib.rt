@@ -1,4 +1,6 @@
 // Polygons on the grid: the boundary polygon of a gap is its rim.
+#![tactic(auto)]
+
 use grid::GridPoint;
 use normal::Normal;
 

@@ -1,4 +1,6 @@
 // Writing the triangles of the best triangulation in preorder: a loop over the parts still to be listed.
+#![tactic(auto)]
+
 ghost use Rattle.std.specs.Prelude.{◌≡◌, ◌+◌, ◌<◌, ◌≤◌, length};
 ghost use Rattle.lists.specs.Lists.{filled};
 ghost use Rattle.triangulation.specs.Triangulations.{best_key};

@@ -1,8 +1,10 @@
 // The tiler's two calls on a direct job: the price first, then the patch at the agreed total. Each speaks of the job as it is handed to that call.
+#![tactic(auto)]
+
 ghost use Rattle.std.specs.Prelude.{◌≡◌, length};
 ghost use Rattle.jobs.specs.Job.{job_of};
 ghost use Rattle.triangulator.specs.Call as tiler;
-ghost use Rattle.pricing.specs.Quote.{number_of, triangles_of, total_of, values_of, result, priced_values, priced};
+ghost use Rattle.pricing.specs.Quote.{number_of, triangles_of, total_of, values_of, result_of, priced_values, priced};
 ghost use Rattle.pricing.specs.Patch.{patched_at_values, patched_at};
 
 use codes::Refusal;
@@ -21,7 +23,7 @@ pub enum Quote {
 impl Quote {
     // The number of a refusal; 0 for a total and for 'none'.
     pub fn number(self) -> u32
-        ensures* { λ r. ⌜ r ≡ number_of self ⌝ }
+        ensures { result ≡ number_of self }
     {
         match self {
             Quote::Total {
@@ -35,7 +37,7 @@ impl Quote {
 
     // How many triangles the patch has, which are the places that it needs in the triangle table.
     pub fn triangles(self) -> usize
-        ensures* { λ r. ⌜ r ≡ triangles_of self ⌝ }
+        ensures { result ≡ triangles_of self }
     {
         match self {
             Quote::Total {
@@ -49,7 +51,7 @@ impl Quote {
 
     // The least total, else 0.
     pub fn total(self) -> u64
-        ensures* { λ r. ⌜ r ≡ total_of self ⌝ }
+        ensures { result ≡ total_of self }
     {
         match self {
             Quote::Total {
@@ -70,10 +72,10 @@ pub fn price(
     rows: &[[u32; 3]],
     work: &mut [u64],
 ) -> Quote
-    ensures* work_after { λ r. ⌜ result r work.new
-        ≡ priced (job_of n candidates.now weights.now rows.now) work.old ⌝ }
-    ensures* r_value { λ r. ⌜ values_of r
-        ≡ priced_values (job_of n candidates.now weights.now rows.now) (length work.old) ⌝ }
+    ensures tables { result_of result work.new
+        ≡ priced (job_of n candidates.now weights.now rows.now) work.old }
+    ensures values { values_of result
+        ≡ priced_values (job_of n candidates.now weights.now rows.now) (length work.old) }
 {
     let due = jobs::code_without_triangles(n, candidates, weights, rows, work.len());
     if due != 0 {
@@ -97,11 +99,11 @@ pub fn patch(
     triangles: &mut [u16],
     work: &mut [u64],
 ) -> Outcome
-    ensures* work_after { λ r. ⌜ tiler.result_of r triangles.new work.new
-        ≡ patched_at (job_of n candidates.now weights.now rows.now) agreed triangles.old work.old ⌝ }
-    ensures* r_value { λ r. ⌜ tiler.values_of r
+    ensures tables { tiler.result_of result triangles.new work.new
+        ≡ patched_at (job_of n candidates.now weights.now rows.now) agreed triangles.old work.old }
+    ensures values { tiler.values_of result
         ≡ patched_at_values (job_of n candidates.now weights.now rows.now) agreed
-        (length triangles.old) (length work.old) ⌝ }
+        (length triangles.old) (length work.old) }
 {
     let number = jobs::job_code(n, candidates, weights, rows, triangles.len(), work.len());
     if number != 0 {

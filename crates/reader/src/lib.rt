@@ -1,4 +1,6 @@
 // The rim reader: from the bytes of a rim file to its polygon, of no more vertices than a limit, or the first number due.
+#![tactic(auto)]
+
 mod walk;
 
 ghost use Rattle.std.specs.Prelude.{◌≡◌, true};

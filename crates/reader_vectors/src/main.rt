@@ -1,6 +1,8 @@
 // The reader on stored files. The cases stand on standard input, with the answers that the rules of the rim
 // file and of the numbers ask for (parts 1 and 4 of docs/SPECIFICATION.md), worked out by hand. Each case is
 // printed with the answer that came: a number, or ok.
+#![tactic(auto)]
+
 mod answers;
 mod cases;
 mod compare;

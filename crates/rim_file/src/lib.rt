@@ -1,5 +1,7 @@
 // The rim file: its bytes, its layout in each edition, and one record of it, decoded and put on the grid, with its normal.
 // Nothing here is for hosts: the functions serve the crates that follow a file, and what one of them asks for its callers meet.
+#![tactic(auto)]
+
 pub mod bytes;
 pub mod edition;
 pub mod normal;

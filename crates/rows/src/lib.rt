@@ -1,4 +1,6 @@
 // Rows found by bisection: they ascend by outer, then inner.
+#![tactic(auto)]
+
 ghost use Rattle.std.specs.Prelude.{◌≡◌, ◌+◌, ◌<◌};
 ghost use Rattle.terms.specs.Limits.{max_triples};
 ghost use Rattle.triangulation.specs.Problems.{pair_weight};

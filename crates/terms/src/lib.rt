@@ -1,4 +1,6 @@
 // What every stage speaks of: the limits. The words of the lists are in specs/.
+#![tactic(auto)]
+
 ghost use Rattle.std.specs.Prelude.{◌≡◌};
 ghost use Rattle.terms.specs.Limits.{count_fits};
 

@@ -1,4 +1,6 @@
 // The best triangulation of a job on which no number is due, and what a call that patches answers.
+#![tactic(auto)]
+
 pub mod solver;
 
 ghost use Rattle.std.specs.Prelude.{◌≡◌, ◌+◌, ◌≤◌, length};
@@ -21,7 +23,7 @@ pub enum Outcome {
 impl Outcome {
     // The number of a refusal; 0 for a patch and for 'none'.
     pub fn number(self) -> u32
-        ensures* { λ r. ⌜ r ≡ number_of self ⌝ }
+        ensures { result ≡ number_of self }
     {
         match self {
             Outcome::Patch {
@@ -35,7 +37,7 @@ impl Outcome {
 
     // How many triangles were written.
     pub fn triangles(self) -> usize
-        ensures* { λ r. ⌜ r ≡ triangles_of self ⌝ }
+        ensures { result ≡ triangles_of self }
     {
         match self {
             Outcome::Patch {
@@ -49,7 +51,7 @@ impl Outcome {
 
     // The total of a patch, else 0.
     pub fn total(self) -> u64
-        ensures* { λ r. ⌜ r ≡ total_of self ⌝ }
+        ensures { result ≡ total_of self }
     {
         match self {
             Outcome::Patch {
@@ -73,10 +75,10 @@ pub fn best_triangulation(
 ) -> Outcome
     requires { WellFormed n candidates.now weights.now rows.now × (length candidates.now ≤ length work.old)
         × (n ≤ length triangles.old + 2) }
-    ensures* work_after { λ r. ⌜ result_of r triangles.new work.new
+    ensures tables { result_of result triangles.new work.new
         ≡ settled (best (problem_from n candidates.now weights.now rows.now))
-        (length candidates.now) triangles.old work.old ⌝ }
-    ensures* r_value { λ r. ⌜ values_of r ≡ answer_values n (best (problem_from n candidates.now weights.now rows.now)) ⌝ }
+        (length candidates.now) triangles.old work.old }
+    ensures values { values_of result ≡ answer_values n (best (problem_from n candidates.now weights.now rows.now)) }
 {
     let least = solver::solve(n, candidates, weights, rows, Figure::Any, triangles, work);
     if minimum_weight::NONE <= least {
@@ -90,7 +92,7 @@ pub fn best_triangulation(
 
 // The filled part of the triangle table after a call with this outcome.
 pub fn part(triangles: &[u16], outcome: Outcome) -> &[u16]
-    ensures* { λ r. ⌜ r.now ≡ part_of outcome triangles.now ⌝ }
+    ensures { result.now ≡ part_of outcome triangles.now }
 {
     let count = outcome.triangles();
     if count <= triangles.len() {

@@ -1,4 +1,6 @@
 // The trim program (rule 5.9): the bench program for rims of at most 24 points.
+#![tactic(auto)]
+
 ghost use Rattle.std.specs.Prelude.{◌≡◌};
 ghost use Rattle.terms.specs.Limits.{trim_vertices};
 ghost use Rattle.pipeline.specs.Patching.{patch_file};

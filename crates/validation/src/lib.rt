@@ -1,4 +1,6 @@
 // Whether a list of candidates from elsewhere is a triangulation without repeats, with the total stated for it: 21 and 22.
+#![tactic(auto)]
+
 mod edges;
 mod names;
 mod order;

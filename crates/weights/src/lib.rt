@@ -1,4 +1,6 @@
 // The own weights of candidates: their area, and their bends against the surface outside the rim.
+#![tactic(auto)]
+
 mod outside;
 
 ghost use Rattle.std.specs.Prelude.{◌≡◌, ◌≤◌};

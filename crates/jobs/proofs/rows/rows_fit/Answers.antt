@@ -1,0 +1,21 @@
+-- `jobs::rows::rows_fit` meets its contract. Assumes nothing.
+use mathlib.Core.Path.{sym, ◌∙◌}
+use native.Mathlib.Omega.{arith}
+use Prim.Native.Nat.{◌-◌}
+use Rattle.lists.proofs.Ranges.{every_on, every_stop, every_end}
+use Rattle.jobs.specs.Job.{row_fits}
+use Rattle.jobs.proofs.rows.rows_fit.Goals as goal
+
+pub returns-then-not-row_fits : goal.returns-then-not-row_fits
+returns-then-not-row_fits c =
+    sym (sym c.loop-i.invariant.1
+    ∙ every_stop _ _ _ (omega arith) (sym c.row_fits.ensures ∙ c.if-not-row_fits.true))
+
+pub loop-i-preserved : goal.loop-i-preserved
+loop-i-preserved c = (
+  c.loop-i.invariant.0,
+  sym (every_on _ _ _ (omega arith) (sym c.row_fits.ensures ∙ c.if-not-row_fits.false)) ∙ c.loop-i.invariant.1,
+)
+
+pub returns : goal.returns
+returns c = sym (sym c.loop-i.invariant.1 ∙ every_end _ _ _ (omega arith))
