@@ -89,9 +89,10 @@ class Names:
 
     def goal(self, old):
         w = norm(old)
-        for pre in ("", "overflow-"):
-            if w.startswith(pre) and w[len(pre):] in self.goals:
-                return self.goals[w[len(pre):]]
+        for _ in range(3):
+            if w in self.goals:
+                return self.goals[w]
+            w = w.partition("-")[2]
         return None
 
     def step(self, old):
@@ -144,12 +145,23 @@ def turn_paths(names, text):
     return PATH.sub(put, text)
 
 
+def placed(names, goal, typed, text):
+    """Writes the way back to the place that a helper takes."""
+    for name, place in typed.items():
+        text = re.sub(
+            r"(?<![\w.'-])" + re.escape(name) + r" (?:\(?c(?:\.before)*\)?)(?![\w.'-])",
+            lambda m: f"{name} (goal.at.{goal} c).{place}",
+            text,
+        )
+    return text
+
+
 def turn_body(names, text):
     text = turn_paths(names, text)
     text = re.sub(r"not-true _ ([\w.'-]+)\.true-raw", r"\1.true", text)
     text = re.sub(r"not-false _ ([\w.'-]+)\.false-raw", r"\1.false", text)
     text = re.sub(r"\btie\.Need-([^\s()]+)", lambda m: "goal." + (names.goal(m.group(1)) or "LOST-" + m.group(1)), text)
-    text = re.sub(r"\btie\.([A-Z][^\s()]*)", lambda m: "goal.at." + names.places.get(norm(m.group(1)), "LOST-" + m.group(1)), text)
+    text = re.sub(r"\btie\.([A-Z][^\s()]*)", lambda m: "goal." + names.places.get(norm(m.group(1)), "LOST-" + m.group(1)), text)
     return text
 
 
@@ -206,6 +218,16 @@ def turn(crate, folder, names, fors):
     title = [l for l in head if l.startswith("--")]
     uses = [l for l in head if l.startswith(("use ", "pub use ")) and not l.startswith(("use " + base + ".Tie", "use " + base + ".Statement"))]
     invariants, answers, helpers = [], [], []
+    typed = {}
+    for _, lines in decls:
+        joined = "\n".join(lines)
+        m = re.match(r"module _ \(\w+ : (?:At )?tie\.([^\s()]+)", joined)
+        if m and norm(m.group(1)) in names.places:
+            for n in re.findall(r"(?m)^  (?:abbrev )?(\S+) :", joined):
+                typed[n] = names.places[norm(m.group(1))]
+        m = re.match(r"(?:abbrev )?(\S+) : tie\.([A-Z][^\s()]*) →", joined) or re.match(r"(?:abbrev )?(\S+) : \(\w+ : tie\.([A-Z][^\s()]*)\)", joined)
+        if m and norm(m.group(2)) in names.places:
+            typed[m.group(1)] = names.places[norm(m.group(2))]
     for comments, lines in decls:
         joined = "\n".join(lines)
         name = name_of(lines[0])
@@ -246,7 +268,7 @@ def turn(crate, folder, names, fors):
             if new is None:
                 answers.append("\n".join(comments + ["-- LOST " + lines[0]] + lines[1:]))
                 continue
-            body = turn_body(names, body)
+            body = turn_body(names, placed(names, new, typed, body))
             if re.search(r"\bκs\b", body):
                 body = re.sub(r" κs\b", "", body)
             new_params = " ".join(params)
@@ -298,6 +320,8 @@ def turn(crate, folder, names, fors):
         if cited:
             more = ["use " + base + ".Invariants.{" + ", ".join(cited) + "}"]
         with open(os.path.join(folder, "Answers.antt"), "w", encoding="utf-8") as f:
+            back = sorted(p for p in set(typed.values()) if re.search(r" c\)\." + re.escape(p) + r"(?![\w-])", body))
+            more += ["use " + base + ".Goals.{" + ", ".join(back) + "}"] if back else []
             f.write("\n".join(title[:1] + used(uses, body) + more + ["use " + base + ".Goals as goal", "", body, ""]))
         made.append("Answers")
     if not made:

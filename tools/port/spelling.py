@@ -98,6 +98,13 @@ def in_ticks(text, new):
 
 def turn_antt(path, text, new, camel):
     own, imported = None, set()
+    crates = set(os.listdir("crates"))
+    foreign = set()
+    for m in re.finditer(r"(?m)^\s*(?:pub )?use ([^\s{]+?)\.\{([^}]*)\}", text):
+        parts = m.group(1).split(".")
+        if parts[0] != "Rattle" or parts[1] not in crates:
+            foreign |= {w.strip() for w in m.group(2).split(",")}
+    new = {a: b for a, b in new.items() if a not in foreign}
     if not is_lemma_file(path):
         own = {m.group(2) for m in map(HEAD.match, text.split("\n")) if m and " tie." not in m.string and "goal." not in m.string}
         own -= {m.group(2) for m in map(HEAD.match, text.split("\n")) if m and re.search(r":\s*(tie|goal)\.", m.string)}

@@ -2,7 +2,7 @@
 use mathlib.Core.Path.{◌≡◌, refl, sym, ◌∙◌, ap}
 use mathlib.Core.Bool.{Bool, true, false}
 use Prim.Native.Nat.{ℕ, zero, suc, ◌+◌, ◌-◌, ◌*◌, ◌/◌, ◌%◌, ◌^◌, ◌<◌}
-use native.Mathlib.Nat.{mod-lt, mod-eq_of_lt, div-eq_of_lt, div_self, one_mul}
+use native.Mathlib.Nat.{mod-lt, mod-eq_of_lt, div-eq_of_lt, div_self, one-mul}
 use native.Mathlib.Omega.{arith}
 use borrow.Author.Tests.{eqb-true, eqb-false}
 use lib.Bits.{bit_or, or_shr, or_mod, or_zero_l, shifted_even}
@@ -23,7 +23,7 @@ other_bit c z h = go (c - z) refl
     go (suc d) e =
         let s : c ≡ suc d + z = omega arith in
         ap (λ (n : ℕ). n / 2 ^ z % 2) (ap (λ (n : ℕ). 2 ^ n) s ∙ pow-add 2 (suc d) z) ∙ ap (λ (n : ℕ). n % 2) (shl-shr (2 ^ suc d) z)
-        ∙ ap (λ (n : ℕ). n % 2) (sym (one_mul (2 ^ suc d))) ∙ shifted_even 1 d
+        ∙ ap (λ (n : ℕ). n % 2) (sym (one-mul (2 ^ suc d))) ∙ shifted_even 1 d
 
 or_bits : (p q : ℕ) → p < 2 → (b : Bool) → (b ≡ true → q ≡ 1) → (b ≡ false → q ≡ 0) → eqb (bit_or p q) 1 ≡ either b (eqb p 1)
 or_bits zero q h true e f = ap (λ (n : ℕ). eqb n 1) (or_zero_l q ∙ e refl)
@@ -46,4 +46,4 @@ bit_none z = ap (λ (n : ℕ). eqb (n % 2) 1) (div-eq_of_lt (pow_pos z))
 
 -- the machine's 1 << c
 pub one_shifted : (c : ℕ) → c < 64 → 1 * 2 ^ c % 2 ^ 64 ≡ 2 ^ c
-one_shifted c h = ap (λ (n : ℕ). n % 2 ^ 64) (one_mul (2 ^ c)) ∙ mod-eq_of_lt (pow-lt {i = c} {j = 64} h)
+one_shifted c h = ap (λ (n : ℕ). n % 2 ^ 64) (one-mul (2 ^ c)) ∙ mod-eq_of_lt (pow-lt {i = c} {j = 64} h)

@@ -2,7 +2,7 @@
 use mathlib.Core.Path.{◌≡◌, refl, sym, ap, ◌∙◌, subst}
 use mathlib.Core.Logic.{◌⊎◌, inl, inr}
 use Prim.Native.Nat.{ℕ, zero, suc, ◌+◌, ◌-◌, ◌*◌, ◌/◌, ◌%◌, ◌≤◌, ◌<◌}
-use native.Mathlib.Nat.{div-add-mod', mod-lt, suc-mul, mul_one, le_trans, le_of_eq, zero-lt-suc}
+use native.Mathlib.Nat.{div-add-mod', mod-lt, suc-mul, mul-one, le_trans, le_of_eq, zero-lt-suc}
 use native.Mathlib.Numerals.{add-one}
 use native.Mathlib.Omega.{arith}
 use mathlib.Core.Bool.{Bool, true, false, cond}
@@ -149,7 +149,7 @@ in_range_on_grid v h =
     let r : a ≤ 1000 * b = leb-true a (1000 * b) h in
     record {
       size = le_trans (le_of_eq (nat_abs_signed (negative v) (nearest_even a b)))
-          (nearest_mono a b 1000 1 (denominator_pos v) (zero-lt-suc 0) (le_trans (le_of_eq (mul_one a)) r));
+          (nearest_mono a b 1000 1 (denominator_pos v) (zero-lt-suc 0) (le_trans (le_of_eq (mul-one a)) r));
     }
 
 -- rule 1.10: that of minus zero is 0

@@ -10,10 +10,8 @@ pattern c = c.args.bits % 2147483648
 
 pub returns-then-pattern-lt1056964608 : goal.returns-then-pattern-lt1056964608
 returns-then-pattern-lt1056964608 c = below_half _ c.if-pattern-lt1056964608.true
-
 -- LOST div-whole : tie.Need-nonzero-div-whole
 div-whole c = one_pos _ c.if1.false
-
 -- LOST rem-twice : tie.Need-nonzero-rem-twice
 rem-twice c = one_pos _ c.if1.false
 

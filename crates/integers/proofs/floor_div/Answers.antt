@@ -23,10 +23,8 @@ module _ (s : goal.at.Start) where
 
 one! : Holds 1 (pos 1) (pos 1)
 one! = record { value = refl; bound = record { size = lib.Dec.lit≤ tt } }
-
 -- LOST div-q : tie.Need-nonzero-div-q
 div-q c = (above c, fits tt (quotient_held (n! c) (k! c)))
-
 -- LOST rem-if1 : tie.Need-nonzero-rem-if1
 rem-if1 c = (above c, fits tt (quotient_held (n! c) (k! c)))
 

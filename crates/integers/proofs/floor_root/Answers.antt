@@ -1,7 +1,7 @@
 -- `integers::floor_root` meets its contract. The loop's invariant: the guess is at least the root, and its square fits. The measure is
 use mathlib.Core.Path.{◌≡◌, sym, ◌∙◌, subst}
 use Prim.Native.Nat.{ℕ, ◌+◌, ◌*◌, ◌/◌, ◌%◌, ◌^◌, ◌≤◌, ◌<◌}
-use native.Mathlib.Nat.{le_trans, lt_of_le_of_lt, mul-le-mul_left, mul-le-mul_right, div-le_self, one_mul}
+use native.Mathlib.Nat.{le_trans, lt_of_le_of_lt, mul-le-mul_left, mul-le-mul_right, div-le_self, one-mul}
 use native.Mathlib.Omega.{arith}
 use lib.Count.{leading_le}
 use lib.Dec.{lit<}
@@ -26,7 +26,7 @@ module _ (x : ℕ) (h : x < 2 ^ 52) where
   k_small = exponent_small x (below h)
 
   power_is : 1 * 2 ^ k % 2 ^ 64 ≡ 2 ^ k
-  power_is = shl_exact 1 k 64 (lit< tt) (omega (arith, k_small)) ∙ one_mul (2 ^ k)
+  power_is = shl_exact 1 k 64 (lit< tt) (omega (arith, k_small)) ∙ one-mul (2 ^ k)
 
   power_small : 2 ^ k ≤ 4294967296
   power_small = pow_mono {j = 32} k_small
@@ -75,7 +75,6 @@ overflow_mul-r c = record { fits = square_fits c.loop-r.r c.loop-r.invariant.sma
 
 pub loop-r-smaller : goal.loop-r-smaller
 loop-r-smaller c = next_below c.args.x c.loop-r.r c.loop-r-test.true
-
 -- LOST div-r : tie.Need-nonzero-div-r invariant-loop decreases-loop
 div-r c = guess_above_0 c.before.before.args.x c.before.loop.r c.loop-test.true
 
