@@ -54,7 +54,7 @@ def blocks(text):
 
 def name_of(line):
     words = line.split()
-    while words and words[0] in ("abbrev", "pub", "unfoldable", "opaque"):
+    while words and words[0] in ("abbrev", "pub", "unfoldable", "opaque", "record", "data"):
         words = words[1:]
     return words[0] if words else ""
 
@@ -110,13 +110,12 @@ def path_in(names, head, fields):
     while i < len(fields) and fields[i] == "before":
         i += 1
     if i == len(fields):
-        return head + "".join("." + f for f in fields)
+        return head
     dropped = i
     f = fields[i]
     step = names.step(f)
-    if f in KEEP or f == "pre":
-        if f == "pre":
-            f = "requires"
+    if f in KEEP or f in ("pre", "fits"):
+        f = {"pre": "requires", "fits": "ranges"}.get(f, f)
         out = [f] + list(fields[i + 1:])
         if f == "args" and len(out) > 1:
             out[1] = names.args.get(out[1], out[1])
@@ -147,9 +146,13 @@ def turn_paths(names, text):
 
 def placed(names, goal, typed, text):
     """Writes the way back to the place that a helper takes."""
+    for v in set(re.findall(r"\blet (\w+) = \w+(?:\.before)* in", text)):
+        places = {p for n, p in typed.items() if re.search(r"(?<![\w.'-])" + re.escape(n) + r" " + v + r"(?![\w'-])", text)}
+        if len(places) == 1:
+            text = re.sub(r"\blet " + v + r" = \w+(?:\.before)* in", f"let {v} = (goal.at.{goal} c).{places.pop()} in", text)
     for name, place in typed.items():
         text = re.sub(
-            r"(?<![\w.'-])" + re.escape(name) + r" (?:\(?c(?:\.before)*\)?)(?![\w.'-])",
+            r"(?<![\w.'-])" + re.escape(name) + r" (?:c(?:\.before)*|\(c(?:\.before)*\))(?![\w.'-])",
             lambda m: f"{name} (goal.at.{goal} c).{place}",
             text,
         )
@@ -160,6 +163,7 @@ def turn_body(names, text):
     text = turn_paths(names, text)
     text = re.sub(r"not-true _ ([\w.'-]+)\.true-raw", r"\1.true", text)
     text = re.sub(r"not-false _ ([\w.'-]+)\.false-raw", r"\1.false", text)
+    text = re.sub(r"(\btie\.[A-Z][^\s()]*)((?:\s+(?:invariant|decreases)-[\w-]+)+)", r"\1", text)
     text = re.sub(r"\btie\.Need-([^\s()]+)", lambda m: "goal." + (names.goal(m.group(1)) or "LOST-" + m.group(1)), text)
     text = re.sub(r"\btie\.([A-Z][^\s()]*)", lambda m: "goal." + names.places.get(norm(m.group(1)), "LOST-" + m.group(1)), text)
     return text
@@ -266,7 +270,7 @@ def turn(crate, folder, names, fors):
             if re.fullmatch(r"\s*(search rules|omega arith|refl|tt|\(refl, refl\)|\(omega arith, refl\))\s*", body):
                 continue
             if new is None:
-                answers.append("\n".join(comments + ["-- LOST " + lines[0]] + lines[1:]))
+                print(f"{folder}: no goal for {name}: {' '.join(lines)[:200]}")
                 continue
             body = turn_body(names, placed(names, new, typed, body))
             if re.search(r"\bκs\b", body):

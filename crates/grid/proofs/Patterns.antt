@@ -3,7 +3,7 @@ use mathlib.Core.Path.{◌≡◌, refl, sym, ap, ◌∙◌, subst}
 use mathlib.Core.Logic.{inl, inr}
 use Prim.Native.Nat.{ℕ, zero, suc, ◌+◌, ◌*◌, ◌/◌, ◌%◌, ◌^◌, ◌≤◌, ◌<◌}
 use native.Mathlib.Nat.{le_of_lt, le_trans, le_of_eq, lt_of_lt_of_le, lt_of_le_of_lt, lt_of_not-le, eq-or-lt_of_le}
-use native.Mathlib.Nat.{mul-one, mul-assoc, mul-le-mul_left, mul-le-mul_right, mul-lt-mul_of_pos_right, pow-succ'}
+use native.Mathlib.Nat.{mul-one, mul_assoc, mul-le-mul_left, mul-le-mul_right, mul-lt-mul_of_pos_right, pow-succ'}
 use native.Mathlib.Omega.{arith}
 use mathlib.Core.Bool.{Bool, true, false, cond}
 use lib.Dec.{T, leb, eqb}
@@ -32,7 +32,7 @@ bigger zero t (suc k) u h l =
     head u = omega arith
 bigger (suc j) t (suc k) u h l =
     lt_of_lt_of_le (mul-lt-mul_of_pos_right (head2 t h) (pow_pos j))
-    (le_trans (le_of_eq (mul-assoc 8388608 2 (2 ^ j) ∙ ap (λ (x : ℕ). 8388608 * x) (sym (pow-succ' 2 j))))
+    (le_trans (le_of_eq (mul_assoc 8388608 2 (2 ^ j) ∙ ap (λ (x : ℕ). 8388608 * x) (sym (pow-succ' 2 j))))
     (le_trans (mul-le-mul_left 8388608 (pow_mono (back j k l))) (mul-le-mul_right (2 ^ k) (head u))))
   where
     head2 : (t : ℕ) → t < 8388608 → 8388608 + t < 8388608 * 2

@@ -1,7 +1,7 @@
 -- The product of a finite f32 by 8.0: exact, or an infinity; and the range and the grid number from its pattern. Assumes nothing.
 use mathlib.Core.Path.{◌≡◌, refl, sym, ap, ◌∙◌, subst}
 use Prim.Native.Nat.{ℕ, zero, suc, ◌+◌, ◌-◌, ◌*◌, ◌/◌, ◌%◌, ◌^◌, ◌≤◌, ◌<◌, compare}
-use native.Mathlib.Nat.{le_of_lt, le_trans, le_of_eq, lt_of_le_of_lt, lt_of_lt_of_le, mul-one, mul_comm, mul-assoc, mul_right_comm, mul-le-mul_left}
+use native.Mathlib.Nat.{le_of_lt, le_trans, le_of_eq, lt_of_le_of_lt, lt_of_lt_of_le, mul-one, mul_comm, mul_assoc, mul_right_comm, mul-le-mul_left}
 use native.Mathlib.Nat.{mul-le-mul_right, mul-lt-mul_of_pos_left, mul-pos, zero-lt-suc, le-div_iff_mul-le, div-le_of_le-mul, mul-div_cancel}
 use native.Mathlib.Omega.{arith}
 use mathlib.Core.Bool.{Bool, true, false, not, cond}
@@ -42,12 +42,12 @@ product_is (fin t m e) s u h =
     ap (λ (t : Bool). mul binary32 (fin t m e) eight) h.0
     ∙ times s m e
     ∙ round_same binary32 s (n * 8) (d * 1) (8 * u) (2 ^ 149) (subst (λ (k : ℕ). 0 < k) (sym (mul-one d)) (down_pos e)) (pow_pos 149)
-    (mul_right_comm n 8 (2 ^ 149) ∙ ap (λ (k : ℕ). k * 8) h.1 ∙ mul_comm (u * d) 8 ∙ sym (mul-assoc 8 u d) ∙ ap (λ (k : ℕ). 8 * u * k) (sym (mul-one d)))
+    (mul_right_comm n 8 (2 ^ 149) ∙ ap (λ (k : ℕ). k * 8) h.1 ∙ mul_comm (u * d) 8 ∙ sym (mul_assoc 8 u d) ∙ ap (λ (k : ℕ). 8 * u * k) (sym (mul-one d)))
 
 -- ---- below the overflow it is exact: 24 digits, q, that were moved up by j places are moved up by three more
 exact : (s : Bool) (q j : ℕ) → q < 2 ^ 24 → 8 * (q * 2 ^ j) < 2 ^ 277 → HasValue (round binary32 s (8 * (q * 2 ^ j)) (2 ^ 149)) s (8 * (q * 2 ^ j)) (2 ^ 149)
 exact s q j Q B =
-    let p : 8 * (q * 2 ^ j) ≡ q * 2 ^ (j + 3) = mul_comm 8 (q * 2 ^ j) ∙ mul-assoc q (2 ^ j) 8 ∙ ap (λ (x : ℕ). q * x) (sym (pow-add 2 j 3)) in
+    let p : 8 * (q * 2 ^ j) ≡ q * 2 ^ (j + 3) = mul_comm 8 (q * 2 ^ j) ∙ mul_assoc q (2 ^ j) 8 ∙ ap (λ (x : ℕ). q * x) (sym (pow-add 2 j 3)) in
     round_exact binary32 s (8 * (q * 2 ^ j)) (2 ^ 149) q (j + 3) (pow_pos 149) Q (lt_of_le_of_lt (le_of_eq (sym p)) B) (ap (λ (x : ℕ). x * 2 ^ 149) p)
 
 -- ---- from 2 ^ 277 units on it is an infinity
@@ -62,7 +62,7 @@ core_over s p k K h =
     let whole : 2 ^ (277 - k) * 2 ^ k ≡ 2 ^ 277 = sym (pow-add 2 (277 - k) k) ∙ ap (λ (j : ℕ). 2 ^ j) (back 277 k K) in
     let most : 2 ^ (277 - k) ≤ q =
     (le-div_iff_mul-le (mul-pos (pow_pos 149) (pow_pos k))).1
-    (le_trans (le_of_eq (ap (λ (n : ℕ). 2 ^ (277 - k) * n) (mul_comm (2 ^ 149) (2 ^ k)) ∙ sym (mul-assoc (2 ^ (277 - k)) (2 ^ k) (2 ^ 149))
+    (le_trans (le_of_eq (ap (λ (n : ℕ). 2 ^ (277 - k) * n) (mul_comm (2 ^ 149) (2 ^ k)) ∙ sym (mul_assoc (2 ^ (277 - k)) (2 ^ k) (2 ^ 149))
     ∙ ap (λ (n : ℕ). n * 2 ^ 149) whole)) (mul-le-mul_right (2 ^ 149) h)) in
     let o = compare (p * 2 ^ 149 % u * 2) u in
     units_over s (nearest q o) k (le_trans (le_of_eq (sym whole)) (mul-le-mul_right (2 ^ k) (le_trans most (nearest-ge q o))))

@@ -1,7 +1,7 @@
 -- The number nearest to what a pattern below 1024 stands for. Assumes nothing.
 use mathlib.Core.Path.{◌≡◌, sym, ap, ◌∙◌, subst}
 use Prim.Native.Nat.{ℕ, zero, suc, ◌+◌, ◌-◌, ◌*◌, ◌/◌, ◌%◌, ◌^◌, ◌≤◌, ◌<◌}
-use native.Mathlib.Nat.{mul-assoc, mul-le-mul_left, mul-lt-mul_of_pos_right, lt_of_lt_of_le, zero-lt-suc, mod-lt, mod-eq_of_lt, div-eq_of_lt, div-le_self}
+use native.Mathlib.Nat.{mul_assoc, mul-le-mul_left, mul-lt-mul_of_pos_right, lt_of_lt_of_le, zero-lt-suc, mod-lt, mod-eq_of_lt, div-eq_of_lt, div-le_self}
 use native.Mathlib.Omega.{arith}
 use lib.Pow.{pow_pos, pow_mono, pow-add}
 use Rattle.grid.specs.Number.{nearest_even}
@@ -50,7 +50,7 @@ scaled zero t h k = absurd (no_field h)
 scaled (suc e) t h k =
     ap (λ (n : ℕ). (8388608 + t) * 2 ^ n) (sym (sum_is e k))
     ∙ ap (λ (n : ℕ). (8388608 + t) * n) (pow-add 2 e (150 - suc e))
-    ∙ sym (mul-assoc (8388608 + t) (2 ^ e) (2 ^ (150 - suc e)))
+    ∙ sym (mul_assoc (8388608 + t) (2 ^ e) (2 ^ (150 - suc e)))
 
 field_ge : (c : ℕ) → 1056964608 ≤ c → 126 ≤ c / 8388608
 field_ge c h = omega arith

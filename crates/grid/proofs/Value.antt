@@ -1,7 +1,7 @@
 -- What the fields of an f32's pattern say of its exact value. Assumes nothing.
 use mathlib.Core.Path.{◌≡◌, refl, sym, ap, ◌∙◌, subst}
 use Prim.Native.Nat.{ℕ, zero, suc, ◌+◌, ◌*◌, ◌/◌, ◌%◌, ◌^◌, ◌≤◌, ◌<◌}
-use native.Mathlib.Nat.{mul-assoc, mul_right_comm, eq_of_mul-eq-mul_right, mul-le-mul_right, le_of_mul-le-mul_right, le_trans, le_of_eq}
+use native.Mathlib.Nat.{mul_assoc, mul_right_comm, eq_of_mul-eq-mul_right, mul-le-mul_right, le_of_mul-le-mul_right, le_trans, le_of_eq}
 use native.Mathlib.Omega.{arith}
 use mathlib.Core.Bool.{Bool, true, false, cond}
 use lib.Dec.{T, leb, eqb, not_T, eqb→eq, leb→le, le→leb}
@@ -80,4 +80,4 @@ grid_value nan s a c C h = absurd h
 grid_value (inf t) s a c C h = absurd h
 grid_value (fin t m e) s a c C h =
     ap (λ (u : Bool). grid_fraction u (8 * (m * up e)) (down e)) h.0
-    ∙ step_same s (8 * (m * up e)) (down e) (8 * a) c (down_pos e) C (mul-assoc 8 (m * up e) c ∙ ap (λ (n : ℕ). 8 * n) h.1 ∙ sym (mul-assoc 8 a (down e)))
+    ∙ step_same s (8 * (m * up e)) (down e) (8 * a) c (down_pos e) C (mul_assoc 8 (m * up e) c ∙ ap (λ (n : ℕ). 8 * n) h.1 ∙ sym (mul_assoc 8 a (down e)))

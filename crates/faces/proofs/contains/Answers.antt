@@ -8,5 +8,5 @@ use Rattle.faces.proofs.contains.Goals as goal
 pub returns : goal.returns
 unfolding has
 returns c =
-    let s = c.before.before.before in
+    let s = c in
     c.has_vertex.ensures ∙ ap (λ (i : ℕ). has_vertex (get_or s.args.masks.now i 0) s.args.c) c.pair_index-index.ensures

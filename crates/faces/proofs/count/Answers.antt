@@ -18,21 +18,21 @@ loop-j-init c = count_turn (into2 _ _ _ (omega arith)) c.loop-i.invariant
 
 pub loop-k-init : goal.loop-k-init
 loop-k-init c =
-    let m = c.before in
-    let u = m.before.before in
+    let m = c in
+    let u = m in
     count_turn (into3 u.args.n (listed (has u.args.masks.now)) u.loop-i.i m.loop-j.j (omega arith)) m.loop-j.invariant
 
 pub overflow_add-count : goal.overflow_add-count
 overflow_add-count c =
-    let l = c.before.before.before in
-    let u = l.before.before.before.before.before in
+    let l = c in
+    let u = l in
     omega (arith, l.loop-k.invariant.sum, triples_bound u.args.n (has u.args.masks.now) u.requires)
 
 pub loop-k-preserved : goal.loop-k-preserved
 loop-k-preserved c =
-    let l = c.before.before.before in
-    let m = l.before.before in
-    let u = m.before.before in
+    let l = c in
+    let m = l in
+    let u = m in
     let n = u.args.n in
     let P = has u.args.masks.now in
     ⊎_elim
@@ -44,9 +44,9 @@ loop-k-preserved c =
 
 pub loop-j-preserved : goal.loop-j-preserved
 loop-j-preserved c =
-    let l = c.before in
-    let m = l.before.before in
-    let u = m.before.before in
+    let l = c in
+    let m = l in
+    let u = m in
     count_turn (out3 u.args.n (listed (has u.args.masks.now)) u.loop-i.i m.loop-j.j l.loop-k.k (omega arith)) l.loop-k.invariant
 
 pub loop-i-preserved : goal.loop-i-preserved

@@ -14,23 +14,23 @@ use Rattle.faces.proofs.Triples.{left3, listed, next_listed}
 use Rattle.faces.proofs.list.Goals as goal
 
 -- the triple that is written next
-next : (c : goal.at.Then-contains invariant-loop3 decreases-loop3 invariant-loop2 decreases-loop2 invariant-loop decreases-loop) →
-    let l = c.before.before.before in
-    let m = l.before.before in
-    let u = m.before.before in
+next : (c : goal.Then-contains) →
+    let l = c in
+    let m = l in
+    let u = m in
     let n = u.args.n in
     let P = has u.args.masks.now in
     Writing (triples_of n P) (triple u.loop-a.a m.loop-b.b l.loop-c.c ∷ left3 n (listed P) u.loop-a.a m.loop-b.b (l.loop-c.c + 1))
     m.loop-b.out m.loop-b.count l.loop-c.out l.loop-c.count
 next c =
-    let l = c.before.before.before in
-    let m = l.before.before in
-    let u = m.before.before in
+    let l = c in
+    let m = l in
+    let u = m in
     turn (next_listed u.args.n (has u.args.masks.now) u.loop-a.a m.loop-b.b l.loop-c.c
     {t = true} (omega arith) (sym c.if-contains.true ∙ c.contains.ensures)) l.loop-c.invariant
 
 slice_set_from_out :
-    goal.bounds-out-count invariant-loop3 decreases-loop3 invariant-loop2 decreases-loop2 invariant-loop decreases-loop
+    goal.bounds-out-count
 slice_set_from_out c = place (next c)
 
 pub loop-a-init : goal.loop-a-init
@@ -47,11 +47,11 @@ overflow_add-count c = let h = place (next c) in omega arith
 
 pub loop-c-preserved : goal.loop-c-preserved
 loop-c-preserved c =
-    let l = c.before.before.before in
-    let m = l.before.before in
-    let u = m.before.before in
+    let l = c in
+    let m = l in
+    let u = m in
     ⊎_elim
-    (λ w. moved w.1 w.2 (push (next (record { before = c.before; if1 = w.0 }))))
+    (λ w. moved w.1 w.2 (push (next (record { before = c; if1 = w.0 }))))
     (λ w. moved w.1 w.2 (turn (next_listed u.args.n (has u.args.masks.now) u.loop-a.a m.loop-b.b
     l.loop-c.c {t = false} (omega arith) (sym w.0.left ∙ c.contains.ensures)) l.loop-c.invariant))
     c.if-contains.branch

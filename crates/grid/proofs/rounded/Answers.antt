@@ -3,26 +3,29 @@ use mathlib.Core.Path.{◌∙◌}
 use Prim.Native.Nat.{ℕ, ◌%◌}
 use Rattle.grid.proofs.Nearest.{down, up, even_stays, odd_moves}
 use Rattle.grid.proofs.Round.{below_half, one_pos, twice_fits, next_fits, from_half}
+use Rattle.grid.proofs.rounded.Goals.{Start}
 use Rattle.grid.proofs.rounded.Goals as goal
 
-abbrev pattern : goal.at.Start → ℕ
+abbrev pattern : goal.Start → ℕ
 pattern c = c.args.bits % 2147483648
 
 pub returns-then-pattern-lt1056964608 : goal.returns-then-pattern-lt1056964608
 returns-then-pattern-lt1056964608 c = below_half _ c.if-pattern-lt1056964608.true
--- LOST div-whole : tie.Need-nonzero-div-whole
-div-whole c = one_pos _ c.if1.false
--- LOST rem-twice : tie.Need-nonzero-rem-twice
-rem-twice c = one_pos _ c.if1.false
+
+pub nonzero_div-whole : goal.nonzero_div-whole
+nonzero_div-whole c = one_pos _ c.if-pattern-lt1056964608.false
+
+pub nonzero_rem-twice : goal.nonzero_rem-twice
+nonzero_rem-twice c = one_pos _ c.if-pattern-lt1056964608.false
 
 pub overflow_mul-twice : goal.overflow_mul-twice
 overflow_mul-twice c = record { fits = twice_fits _ c.if-pattern-lt1056964608.false }
 
 pub overflow_add-result : goal.overflow_add-result
-overflow_add-result c = record { fits = next_fits (pattern c.before.before.before) }
+overflow_add-result c = record { fits = next_fits (pattern (goal.at.overflow_add-result c).Start) }
 
 pub overflow_add-result-else-whole-eq0 : goal.overflow_add-result-else-whole-eq0
-overflow_add-result-else-whole-eq0 c = record { fits = next_fits (pattern c.before.before.before.before) }
+overflow_add-result-else-whole-eq0 c = record { fits = next_fits (pattern (goal.at.overflow_add-result-else-whole-eq0 c).Start) }
 
 pub returns-then-twice-one : goal.returns-then-twice-one
 returns-then-twice-one c = down _ _ c.if-twice-one.true ∙ from_half _ c.if-pattern-lt1056964608.false c.requires

@@ -8,11 +8,8 @@ use lib.Dec.{lit<}
 use lib.Pow.{pow_mono, pow_pos, shl_exact}
 use Rattle.integers.proofs.Newton.{next, next_above, next_below, guess_above_0, exponent, exponent_small, shifted_below}
 use Rattle.integers.proofs.Rounding.{is_floor_root}
+use Rattle.integers.proofs.floor_root.Invariants.{Inv}
 use Rattle.integers.proofs.floor_root.Goals as goal
-
-record Inv (x r : ℕ) : Type 0 where
-  over : x < (r + 1) * (r + 1)
-  small : r < 4294967296
 
 below : {x : ℕ} → x < 2 ^ 52 → x < 2 ^ 64
 below h = omega arith
@@ -75,8 +72,9 @@ overflow_mul-r c = record { fits = square_fits c.loop-r.r c.loop-r.invariant.sma
 
 pub loop-r-smaller : goal.loop-r-smaller
 loop-r-smaller c = next_below c.args.x c.loop-r.r c.loop-r-test.true
--- LOST div-r : tie.Need-nonzero-div-r invariant-loop decreases-loop
-div-r c = guess_above_0 c.before.before.args.x c.before.loop.r c.loop-test.true
+
+pub nonzero_div-r-in-loop-r : goal.nonzero_div-r-in-loop-r
+nonzero_div-r-in-loop-r c = guess_above_0 c.args.x c.loop-r.r c.loop-r-test.true
 
 pub overflow_add-r-in-loop-r : goal.overflow_add-r-in-loop-r
 overflow_add-r-in-loop-r c = omega (arith, c.loop-r.invariant.small, c.requires, div-le_self c.args.x c.loop-r.r)

@@ -30,17 +30,17 @@ says_z c = c.coordinate_on_grid-3.ensures ∙ ap coordinate_on_grid (to_z-of_z c
 pub returns-then-not-coordinate_on_grid : goal.returns-then-not-coordinate_on_grid
 returns-then-not-coordinate_on_grid c =
     let a = c.args in
-    out_by_x (point a.x a.y a.z) (says_x c.before) (c.if-not-coordinate_on_grid.true)
+    out_by_x (point a.x a.y a.z) (says_x c) (c.if-not-coordinate_on_grid.true)
 
 pub returns-then-not-coordinate_on_grid-2 : goal.returns-then-not-coordinate_on_grid-2
 returns-then-not-coordinate_on_grid-2 c =
-    let past = c.before.before in
+    let past = c in
     let a = past.args in
-    out_by_y (point a.x a.y a.z) (says_x past.before) (past.if-not-coordinate_on_grid.false) (says_y c.before) (c.if-not-coordinate_on_grid-2.true)
+    out_by_y (point a.x a.y a.z) (says_x past) (past.if-not-coordinate_on_grid.false) (says_y c) (c.if-not-coordinate_on_grid-2.true)
 
 pub returns : goal.returns
 returns c =
-    let past = c.before.before.before in
+    let past = c in
     let a = past.args in
-    by_z (point a.x a.y a.z) (says_x past.before) (past.if-not-coordinate_on_grid.false) (says_y c.before.before)
+    by_z (point a.x a.y a.z) (says_x past) (past.if-not-coordinate_on_grid.false) (says_y c)
     (c.if-not-coordinate_on_grid-2.false) (says_z c)
