@@ -14,7 +14,7 @@ use triangulator::Outcome;
 
 // A patch where the number is 0 and there are triangles, 'none' where both are 0.
 #[repr(C)]
-#[derive(Drop)]
+#[derive(Clone, Copy)]
 pub struct PatchAnswer {
     pub number: u32,
     pub triangles: usize,
@@ -23,7 +23,7 @@ pub struct PatchAnswer {
 
 // The least total where the number is 0 and its patch has triangles, 'none' where both are 0.
 #[repr(C)]
-#[derive(Drop)]
+#[derive(Clone, Copy)]
 pub struct PriceAnswer {
     pub number: u32,
     pub triangles: usize,
@@ -32,21 +32,21 @@ pub struct PriceAnswer {
 
 // Accepted where the number is 0.
 #[repr(C)]
-#[derive(Drop)]
+#[derive(Clone, Copy)]
 pub struct JudgeAnswer {
     pub number: u32,
     pub excess: u64,
 }
 
 #[repr(C)]
-#[derive(Drop)]
+#[derive(Clone, Copy)]
 pub struct ReadAnswer {
     pub number: u32,
     pub vertices: usize,
 }
 
 #[repr(C)]
-#[derive(Drop)]
+#[derive(Clone, Copy)]
 pub struct FindAnswer {
     pub number: u32,
     pub candidates: usize,
@@ -55,7 +55,7 @@ pub struct FindAnswer {
 
 // How many places each lent table needs.
 #[repr(C)]
-#[derive(Drop)]
+#[derive(Clone, Copy)]
 pub struct SizesAnswer {
     pub number: u32,
     pub triangles: usize,
@@ -67,7 +67,7 @@ pub struct SizesAnswer {
 
 // The edition and the length of the converted file.
 #[repr(C)]
-#[derive(Drop)]
+#[derive(Clone, Copy)]
 pub struct ConvertAnswer {
     pub number: u32,
     pub edition: u32,

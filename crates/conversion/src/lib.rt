@@ -11,7 +11,7 @@ ghost use Rattle.conversion.specs.Steps.{target_of};
 use rim_file::{Layout, edition};
 
 // The edition that a file is carried to, and where that has its numbers.
-#[derive(Drop)]
+#[derive(Clone, Copy)]
 pub struct Target {
     pub edition: u32,
     pub layout: Layout,

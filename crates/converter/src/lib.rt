@@ -12,7 +12,7 @@ use reader::Status;
 use rim_file::edition;
 
 // The converted file's edition and length, or a refusal.
-#[derive(Drop)]
+#[derive(Clone, Copy)]
 pub enum Conversion {
     Converted { edition: u32, length: usize },
     Refused(Refusal),

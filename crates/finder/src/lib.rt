@@ -16,7 +16,7 @@ use codes::Refusal;
 use polygon::Polygon;
 
 // What the finder answers.
-#[derive(Drop)]
+#[derive(Clone, Copy)]
 pub enum Found {
     Lists { candidates: usize, rows: usize },
     Refused(Refusal),
@@ -62,7 +62,7 @@ impl Found {
 }
 
 // How many places the lent tables need: `candidates` is for the candidate, weight and work tables.
-#[derive(Drop)]
+#[derive(Clone, Copy)]
 pub struct Places {
     pub triangles: usize,
     pub candidates: usize,
@@ -70,7 +70,7 @@ pub struct Places {
 }
 
 // The places that a polygon needs, or a refusal.
-#[derive(Drop)]
+#[derive(Clone, Copy)]
 pub enum Sizes {
     Known(Places),
     Refused(Refusal),

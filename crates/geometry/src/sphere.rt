@@ -11,27 +11,27 @@ use crate::{Vector, cross, difference, dot};
 use grid::GridPoint;
 
 // A point as seen from the base, with its squared distance: the lifting map of Delaunay triangulation.
-#[derive(Drop)]
+#[derive(Clone, Copy)]
 pub struct Lifted {
     pub vector: Vector,
     pub square: i64,
 }
 
 // What all spheres through the base, u and v share: u × v, and |u|² v - |v|² u.
-#[derive(Drop)]
+#[derive(Clone, Copy)]
 pub struct Pencil {
     pub normal: Vector,
     pub weighted: Vector,
 }
 
 // A sphere through the base and three more points: their orientation, not negative, and the centre times twice that.
-#[derive(Drop)]
+#[derive(Clone, Copy)]
 pub struct Sphere {
     pub orient: i64,
     pub centre: Vector,
 }
 
-#[derive(Drop)]
+#[derive(Clone, Copy)]
 pub enum Position {
     Inside,
     On,

@@ -9,7 +9,7 @@ ghost use Rattle.grid.specs.Pattern.{units};
 ghost use Rattle.grid.specs.Point.{point, OnGrid, coordinate_on_grid, point_on_grid};
 
 // A point in grid steps.
-#[derive(Drop)]
+#[derive(Clone, Copy)]
 pub struct GridPoint {
     pub x: i64,
     pub y: i64,
@@ -62,7 +62,7 @@ impl GridPoint {
 }
 
 // What a float is on the grid.
-#[derive(Drop)]
+#[derive(Clone, Copy)]
 pub enum GridNumber {
     Value(i64),
     NotFinite,

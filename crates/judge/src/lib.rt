@@ -8,7 +8,7 @@ ghost use Rattle.judge.specs.Call.{number_of, excess_of, values_of, result_of, j
 use codes::Refusal;
 
 // Accepted with the excess over the least total, or a refusal.
-#[derive(Drop)]
+#[derive(Clone, Copy)]
 pub enum Judgement {
     Accepted { excess: u64 },
     Refused(Refusal),

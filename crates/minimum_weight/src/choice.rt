@@ -11,7 +11,7 @@ ghost use Rattle.minimum_weight.specs.Tables.{better_of, pick_under, pick_at_edg
 use crate::NONE;
 
 // A total and the candidate that starts it.
-#[derive(Drop)]
+#[derive(Clone, Copy)]
 pub struct Pick {
     pub cost: u64,
     pub at: usize,

@@ -15,7 +15,7 @@ use triangulator::Outcome;
 pub const TRIANGLES: usize = 62;
 
 // A triangle's vertices, its own weight, and the row weight of the pair that it is the inner of.
-#[derive(Drop)]
+#[derive(Clone, Copy)]
 pub struct Line {
     pub a: u8,
     pub b: u8,

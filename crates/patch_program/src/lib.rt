@@ -18,7 +18,7 @@ const CANDIDATES: usize = 1024;
 const ROWS: usize = 4096;
 
 // What is printed: the outcome; for a patch also the number of its vertices, and a line in each of as many first places as it has triangles.
-#[derive(Drop)]
+#[derive(Clone, Copy)]
 pub struct Printout {
     pub outcome: Outcome,
     pub vertices: usize,

@@ -14,7 +14,7 @@ use minimum_weight::choice::best_in_block;
 
 // The part of the polygon from vertex `first` to vertex `last`, under the triangle `outer`. It has a vertex between them: a rim edge
 // (i, i + 1) is no part.
-#[derive(Drop)]
+#[derive(Clone, Copy)]
 pub struct Part {
     pub outer: usize,
     pub first: u8,

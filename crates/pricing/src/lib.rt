@@ -13,7 +13,7 @@ use triangulator::solver::Figure;
 use triangulator::{Outcome, solver};
 
 // The least total with the number of triangles of its patch, 'none', or a refusal.
-#[derive(Drop)]
+#[derive(Clone, Copy)]
 pub enum Quote {
     Total { triangles: usize, total: u64 },
     None,

@@ -17,7 +17,7 @@ use rim_file::{Height, bytes, edition};
 const MARKS: usize = rim_file::MAX_RECORDS + 1;
 
 // How far the walk along the chain has come, carried by value from position to position. Vertices and normals are listed beside it: no step copies them.
-#[derive(Drop)]
+#[derive(Clone, Copy)]
 struct Progress {
     // The number that stops the walk, 0 while none does.
     pub code: u32,
@@ -34,7 +34,7 @@ struct Progress {
 }
 
 // The chain followed to its end: its vertices and their normals, or a number and none.
-#[derive(Drop)]
+#[derive(Clone, Copy)]
 struct Chain {
     pub code: u32,
     pub n: usize,
@@ -42,7 +42,7 @@ struct Chain {
     pub normals: [Normal; terms::MAX_VERTICES],
 }
 
-#[derive(Drop)]
+#[derive(Clone, Copy)]
 pub enum Status {
     Complete,
     Refused(Refusal),
@@ -61,7 +61,7 @@ impl Status {
 }
 
 // The reader's answer. The polygon is the empty one where the file is refused.
-#[derive(Drop)]
+#[derive(Clone, Copy)]
 pub struct Reading {
     pub status: Status,
     pub polygon: Polygon,

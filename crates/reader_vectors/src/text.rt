@@ -7,7 +7,7 @@ pub const ROOM: usize = 24576;
 pub type Text = [u8; ROOM];
 
 // A number, whether a minus stands before it, and where it ends.
-#[derive(Drop)]
+#[derive(Clone, Copy)]
 pub struct Number {
     pub value: u32,
     pub minus: bool,

@@ -13,14 +13,14 @@ use grid::GridPoint;
 pub const MAX_RECORDS: usize = 256;
 
 // Where the header's four numbers start, and how many bytes a record has (rule 1.12).
-#[derive(Drop)]
+#[derive(Clone, Copy)]
 pub struct Layout {
     pub header: usize,
     pub record_size: usize,
 }
 
 // The coordinates of a point, in millimetres.
-#[derive(Drop)]
+#[derive(Clone, Copy)]
 pub struct Coordinates {
     pub x: f32,
     pub y: f32,
@@ -28,7 +28,7 @@ pub struct Coordinates {
 }
 
 // A record as it stands in the file: a point, a level point with no height of its own, or a number.
-#[derive(Drop)]
+#[derive(Clone, Copy)]
 pub enum Record {
     Point(Coordinates),
     Level(f32, f32),
@@ -36,14 +36,14 @@ pub enum Record {
 }
 
 // The grid height of the last point before, which a level point takes.
-#[derive(Drop)]
+#[derive(Clone, Copy)]
 pub enum Height {
     Unknown,
     Known(i64),
 }
 
 // A record's vertex, or a number.
-#[derive(Drop)]
+#[derive(Clone, Copy)]
 pub enum Vertex {
     At(GridPoint),
     Refused(u32),

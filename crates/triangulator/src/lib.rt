@@ -13,7 +13,7 @@ use codes::Refusal;
 use solver::Figure;
 
 // A patch with the number of its triangles and its total, 'none', or a refusal.
-#[derive(Drop)]
+#[derive(Clone, Copy)]
 pub enum Outcome {
     Patch { triangles: usize, total: u64 },
     None,

@@ -11,7 +11,7 @@ use minimum_weight::{NONE, clear, least_total};
 use preorder::write_preorder;
 
 // At which least total the triangles are listed: at any, or at the agreed one alone.
-#[derive(Drop)]
+#[derive(Clone, Copy)]
 pub enum Figure {
     Any,
     Agreed(u64),

@@ -19,7 +19,7 @@ fn vector(normal: Normal) -> Vector
 }
 
 // The normals outside the three edges of a candidate.
-#[derive(Drop)]
+#[derive(Clone, Copy)]
 pub(crate) struct EdgeNormals {
     pub ab: Normal,
     pub bc: Normal,

@@ -1,13 +1,13 @@
 -- `faces::count` meets its contract, by what is left to count at each loop's head. Assumes nothing.
 use mathlib.Core.Path.{sym, ◌∙◌}
 use mathlib.Core.Bool.{true, false}
-use mathlib.Core.Logic.{⊎_elim}
 use Prim.Native.Nat.{◌-◌}
 use native.Mathlib.Omega.{arith}
 use Rattle.lists.proofs.Counting.{count_start, count_turn, count_push, count_moved, count_all}
 use Rattle.faces.specs.Masks.{has}
 use Rattle.faces.proofs.Sets.{triples_bound}
 use Rattle.faces.proofs.Triples.{into2, into3, out1, out2, out3, listed, next_listed}
+use Rattle.faces.proofs.count.Goals.{then-contains, else-contains}
 use Rattle.faces.proofs.count.Goals as goal
 
 pub loop-i-init : goal.loop-i-init
@@ -35,12 +35,12 @@ loop-k-preserved c =
     let u = m in
     let n = u.args.n in
     let P = has u.args.masks.now in
-    ⊎_elim
-    (λ w. count_moved w.1 (count_push (count_turn (next_listed n P u.loop-i.i m.loop-j.j l.loop-k.k {t = true}
-    (omega arith) (sym w.0.taken ∙ c.contains.ensures)) l.loop-k.invariant)))
-    (λ w. count_moved w.1 (count_turn (next_listed n P u.loop-i.i m.loop-j.j l.loop-k.k {t = false}
-    (omega arith) (sym w.0.left ∙ c.contains.ensures)) l.loop-k.invariant))
-    c.if-contains.branch
+    elim c.if-contains.branch [
+        then-contains w ↦ count_moved w.count-is (count_push (count_turn (next_listed n P u.loop-i.i m.loop-j.j l.loop-k.k {t = true}
+        (omega arith) (sym w.if-contains.true ∙ c.contains.ensures)) l.loop-k.invariant))
+      | else-contains w ↦ count_moved w.count-is (count_turn (next_listed n P u.loop-i.i m.loop-j.j l.loop-k.k {t = false}
+        (omega arith) (sym w.if-contains.false ∙ c.contains.ensures)) l.loop-k.invariant)
+    ]
 
 pub loop-j-preserved : goal.loop-j-preserved
 loop-j-preserved c =
