@@ -235,7 +235,7 @@ def turn(crate, folder, names, fors):
     for comments, lines in decls:
         joined = "\n".join(lines)
         name = name_of(lines[0])
-        m = re.match(r"\s*(?:abbrev )?\S+ : (?:tie\.|At tie\.)(\S+)", joined)
+        m = re.match(r"\s*(?:abbrev )?\S+\s*:\s+(?:tie\.|At tie\.)(\S+)", joined)
         if name.endswith(("-spec", "_spec")) or "tie.close" in joined:
             continue
         if re.match(r"abbrev At :", joined):

@@ -84,6 +84,7 @@ module _ (p : Polygon) where
       least _ (area_factor h) = omega arith
       least _ (bend_factor h) = omega arith
       least _ (too_many h) = omega arith
+  two_first q j (by_place x10) d = elim x10 [ ]
 
   -- ---- 5
   module _ (area : ltb max_area_factor p.area_factor ≡ false) (bend : ltb max_bend_factor p.bend_factor ≡ false) where

@@ -1,0 +1,51 @@
+-- `geometry::sphere::locate` meets its contract: the sign of the power.
+use mathlib.Core.Path.{◌≡◌, sym, ◌∙◌, ap}
+use lib.IntN.{ℤ, pos, ◌-ℤ◌, ◌*ℤ◌}
+use lib.Signed.{lt_z}
+use Rattle.geometry.specs.Lifting.{power_of}
+use Rattle.integers.specs.Order.{equal}
+use Rattle.integers.proofs.Bounds.{Holds, bits, given, stored, returned, fits, ◌*!◌, ◌-!◌}
+use Rattle.integers.proofs.Order.{zero_bits, other_bits}
+use Rattle.geometry.proofs.Vectors.{at_most_dot, products_fit}
+use Rattle.geometry.proofs.sphere.locate.Goals.{After-dot-m}
+use Rattle.geometry.proofs.sphere.locate.Goals as goal
+
+module _ (c : goal.After-dot-m) where
+  abbrev start : goal.Start
+  start = c
+
+  abbrev computed : ℤ
+  computed = bits (bits start.args.sphere.orient *ℤ bits start.args.w.square) -ℤ bits c.dot-m.result
+
+  power : Holds 2304000000000000000 (power_of start.args.sphere start.args.w) computed
+  power =
+      stored tt (given tt start.requires.0.orient-in *! given tt start.requires.1.square-in)
+      -! returned tt c.dot-m.ensures (at_most_dot start.requires.0.centre-in start.requires.1.vector-in)
+
+  less : lt_z (bits computed) (pos 0) ≡ lt_z (power_of start.args.sphere start.args.w) (pos 0)
+  less = ap (λ (z : ℤ). lt_z z (pos 0)) (stored tt power).value
+
+  same : equal computed (pos 0) ≡ equal (power_of start.args.sphere start.args.w) (pos 0)
+  same = ap (λ (z : ℤ). equal z (pos 0)) power.value
+
+pub dot-m-requires : goal.dot-m-requires
+dot-m-requires c = let s = c in products_fit tt tt tt s.requires.0.centre-in s.requires.1.vector-in
+
+pub overflow_mul-power : goal.overflow_mul-power
+overflow_mul-power c = fits tt (given tt (start (goal.at.overflow_mul-power c).After-dot-m).requires.0.orient-in *! given tt (start (goal.at.overflow_mul-power c).After-dot-m).requires.1.square-in)
+
+pub overflow_sub-power : goal.overflow_sub-power
+overflow_sub-power c = fits tt (power (goal.at.overflow_sub-power c).After-dot-m)
+
+pub returns-then-power-lt0 : goal.returns-then-power-lt0
+returns-then-power-lt0 c = rw (sym (less (goal.at.returns-then-power-lt0 c).After-dot-m) ∙ c.if-power-lt0.true)
+
+pub returns-then-power-eq0 : goal.returns-then-power-eq0
+returns-then-power-eq0 c =
+    let d = (goal.at.returns-then-power-eq0 c).After-dot-m in
+    rw (sym (less d) ∙ c.if-power-lt0.false, sym (same d) ∙ zero_bits (computed d) (fits tt (power d)) c.if-power-eq0.true)
+
+pub returns : goal.returns
+returns c =
+    let d = (goal.at.returns c).After-dot-m in
+    rw (sym (less d) ∙ c.if-power-lt0.false, sym (same d) ∙ other_bits (computed d) c.if-power-eq0.false)
