@@ -42,8 +42,8 @@ module _ (file out : List ℕ) (taken : number_of (convert_call file out).answer
       ap handed_over (call_by file out 0 (sym (number_given file out) ∙ taken)) ∙ filled_first (converted file) out
 
   -- of the other edition
-  pub other_edition_lem : is_edition2 (handed_over (convert_call file out)) ≡ not (is_edition2 file)
-  other_edition_lem = ap is_edition2 handed_over_lem ∙ converted_edition file read
+  pub in_other_edition : is_edition2 (handed_over (convert_call file out)) ≡ not (is_edition2 file)
+  in_other_edition = ap is_edition2 handed_over_lem ∙ converted_edition file read
 
   -- with the same header, the same records at their places, spare ones too, and the same normals
   pub same_rim : SameRim (handed_over (convert_call file out)) file

@@ -20,7 +20,7 @@ use Rattle.planar.specs.Circles.{circumcentre_of, distance_in_plane, on_circle}
 use Rattle.planar.proofs.Circles.{distance_q, distance_r}
 use Rattle.polygon.specs.declared.Polygon.{Polygon}
 use Rattle.polygon.specs.Polygon.{vertex}
-use Rattle.demands.specs.Candidates.{Counts, abc, abd, acd, bcd, CountsInPlane, Candidate, face, three, Degenerate, on_sphere_lem, on_circle_lem}
+use Rattle.demands.specs.Candidates.{Counts, abc, abd, acd, bcd, CountsInPlane, Candidate, face, three, Degenerate, by_sphere, by_circle}
 use Rattle.demands.specs.Demand2.{Demand2}
 use Rattle.crossing.specs.Crossing.{IsCandidate, candidate, CandidatesApart}
 use Rattle.crossing.proofs.Corners.{member_or_not, three_cases, four_cases, distinct_three}
@@ -36,7 +36,7 @@ module _ (p : Polygon) (no_12 : Degenerate p → ⊥) where
 
     -- where 12 is not due, no fifth vertex is on their sphere
     no_fifth : (v : ℕ) → v < p.n → on_sphere (vertex p a) (vertex p b) (vertex p c) (vertex p d) (vertex p v) ≡ true → Memᴰ v four
-    no_fifth v h on = ⊎_elim (λ m. m) (λ n. absurd (no_12 (on_sphere_lem (record {
+    no_fifth v h on = ⊎_elim (λ m. m) (λ n. absurd (no_12 (by_sphere (record {
       a = a;
       b = b;
       c = c;
@@ -89,7 +89,7 @@ module _ (p : Polygon) (no_12 : Degenerate p → ⊥) where
   module _ (a b c : ℕ) (k : CountsInPlane p a b c) where
     -- where 12 is not due, no fourth vertex is on their circle
     no_fourth : (v : ℕ) → v < p.n → on_circle (vertex p a) (vertex p b) (vertex p c) (vertex p v) ≡ true → Memᴰ v (triple a b c)
-    no_fourth v h on = ⊎_elim (λ m. m) (λ n. absurd (no_12 (on_circle_lem (record {
+    no_fourth v h on = ⊎_elim (λ m. m) (λ n. absurd (no_12 (by_circle (record {
       a = a;
       b = b;
       c = c;

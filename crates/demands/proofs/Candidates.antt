@@ -23,7 +23,7 @@ use Rattle.delaunay_triangles.specs.Triangles.{inside_three, on_three, counts_in
 use Rattle.delaunay.specs.Candidates.{is_flat, is_candidate, degenerate}
 use Rattle.delaunay.proofs.Flat.{not_flat, flat_plane, plane_flat}
 use Rattle.demands.specs.Candidates.{Counts, Face, abc, abd, acd, bcd, CountsInPlane, Candidate, face}
-use Rattle.demands.specs.Candidates.{three, Cospherical, Cocircular, Degenerate, on_sphere_lem, on_circle_lem}
+use Rattle.demands.specs.Candidates.{three, Cospherical, Cocircular, Degenerate, by_sphere, by_circle}
 
 -- a statement about a triple holds of the same triple
 at : (P : ℕ → ℕ → ℕ → Type 0) {i j k x y z : ℕ} → (i ≡ x) × (j ≡ y) × (k ≡ z) → P i j k → P x y z
@@ -285,10 +285,10 @@ module _ (p : Polygon) where
   degenerate_true e = by (truth (is_flat p))
     where
       by : Truth (is_flat p) → Degenerate p
-      by (holds f) = on_circle_lem (fourth_true f (sym (yes (cocircular p) (cospherical p) f) ∙ e))
-      by (fails f) = on_sphere_lem (fifth_true (sym (no (cocircular p) (cospherical p) f) ∙ e))
+      by (holds f) = by_circle (fourth_true f (sym (yes (cocircular p) (cospherical p) f) ∙ e))
+      by (fails f) = by_sphere (fifth_true (sym (no (cocircular p) (cospherical p) f) ∙ e))
 
   pub true_degenerate : Degenerate p → degenerate p ≡ true
   unfolding degenerate
-  true_degenerate (on_sphere_lem r) = no (cocircular p) (cospherical p) (counts_solid p r.a r.b r.c r.d r.four) ∙ true_fifth r
-  true_degenerate (on_circle_lem r) = yes (cocircular p) (cospherical p) (plane_flat p r.three.flat) ∙ true_fourth r
+  true_degenerate (by_sphere r) = no (cocircular p) (cospherical p) (counts_solid p r.a r.b r.c r.d r.four) ∙ true_fifth r
+  true_degenerate (by_circle r) = yes (cocircular p) (cospherical p) (plane_flat p r.three.flat) ∙ true_fourth r

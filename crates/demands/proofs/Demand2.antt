@@ -41,7 +41,7 @@ module _ (p : Polygon) (v : ValidPolygon p) where
     hinge = λ k h. true_hangs (entry_at cs (inner (entry_at rows k))) (entry_at cs (outer (entry_at rows k))) ((rows_in_order p cs).named k h).hanging;
     hinge_outer = λ k h. ((rows_in_order p cs).named k h).outer_is;
     hinge_inner = λ k h. ((rows_in_order p cs).named k h).inner_is;
-    hinge_weight_lem = λ k h. weigh k h;
+    hinge_weights = λ k h. weigh k h;
     row = λ o i ho hi e. let f = member_entry rows [] (row_at p cs o i) (hinge_row p cs o i ho hi (hangs_true (entry_at cs i) (entry_at cs o) e)) in
         (f.at, record { below = f.below; outer_is = ap outer f.is; inner_is = ap inner f.is });
     one_row = λ o i j k a b. let l = same_row o i j k a b (k - j) refl in let m = same_row o i k j b a (j - k) refl in omega arith;

@@ -24,14 +24,14 @@ use Rattle.reader.proofs.Demand1.{read_only_when, refused_empty}
 use Rattle.reader.proofs.Accepted.{read_valid}
 use Rattle.delaunay.specs.Candidates.{degenerate}
 use Rattle.finder.specs.Finding.{number_due}
-use Rattle.demands.specs.Candidates.{Degenerate, on_sphere_lem, on_circle_lem}
+use Rattle.demands.specs.Candidates.{Degenerate, by_sphere, by_circle}
 use Rattle.demands.specs.Demand1.{polygon_in, FileCallDue, by_reader, twelve, thirteen}
 use Rattle.demands.proofs.Candidates.{degenerate_true, true_degenerate}
 
 -- nothing is asked of the polygon that stands for a file which the reader refuses
 nothing_12 : Degenerate empty_polygon → ⊥
-nothing_12 (on_sphere_lem r) = omega (arith, r.fifth<n)
-nothing_12 (on_circle_lem r) = omega (arith, r.fourth<n)
+nothing_12 (by_sphere r) = omega (arith, r.fifth<n)
+nothing_12 (by_circle r) = omega (arith, r.fourth<n)
 
 -- 12 comes after the reader's numbers
 pub twelve_first : (limit : ℕ) (file : List ℕ) (Short : Type 0) → NoneDue (FileDue limit file) → Degenerate (polygon_in limit file) →

@@ -39,7 +39,7 @@ use Rattle.pipeline.specs.Patching.{Tables, Patching, problem_in, refused, patch
 use Rattle.pipeline.proofs.Values.{valid_job}
 use Rattle.demands.specs.Demand1.{CallDue, by_reader, twelve, polygon_in}
 use Rattle.demands.specs.Candidates.{Counts, Face, abc, abd, acd, bcd, Flat, CountsInPlane, Candidate, face}
-use Rattle.demands.specs.Candidates.{three, Cospherical, Cocircular, Degenerate, on_sphere_lem, on_circle_lem}
+use Rattle.demands.specs.Candidates.{three, Cospherical, Cocircular, Degenerate, by_sphere, by_circle}
 use Rattle.demands.proofs.Candidates.{candidate_true, true_candidate}
 use Rattle.demands.proofs.FileNumbers.{twelve_first}
 use Rattle.demands.proofs.Demand1.{refused_first, given_first, accepted}
@@ -64,12 +64,12 @@ module _ (p : Polygon) where
 
   -- 12 is due on a flat rim only by a circle, and on any other only by a sphere (rule 4.12)
   pub flat_twelve : Flat p → Degenerate p → Cocircular p
-  flat_twelve f (on_circle_lem r) = r
-  flat_twelve f (on_sphere_lem r) = absurd (no_four f r.a r.b r.c r.d r.four)
+  flat_twelve f (by_circle r) = r
+  flat_twelve f (by_sphere r) = absurd (no_four f r.a r.b r.c r.d r.four)
 
   pub solid_twelve : (Flat p → ⊥) → Degenerate p → Cospherical p
-  solid_twelve s (on_sphere_lem r) = r
-  solid_twelve s (on_circle_lem r) = absurd (s r.three.flat)
+  solid_twelve s (by_sphere r) = r
+  solid_twelve s (by_circle r) = absurd (s r.three.flat)
 
 -- ---- rims on one line
 -- they have no candidates (rule 2.19)
@@ -95,8 +95,8 @@ module _ (p : Polygon) (is3 : p.n ≡ 3) where
   three_flat = fours_plane (vertex p) p.n (record { four = λ a b c d h i j k. absurd (omega arith) })
 
   pub three_no_12 : Degenerate p → ⊥
-  three_no_12 (on_sphere_lem r) = omega (arith, r.four.a<b, r.four.b<c, r.four.c<d, r.four.d<n)
-  three_no_12 (on_circle_lem r) = by r.fourth refl
+  three_no_12 (by_sphere r) = omega (arith, r.four.a<b, r.four.b<c, r.four.c<d, r.four.d<n)
+  three_no_12 (by_circle r) = by r.fourth refl
     where
       by : (v : ℕ) → r.fourth ≡ v → ⊥
       by zero e = r.not_a (omega (arith, e, r.three.a<b, r.three.b<c, r.three.c<n))
@@ -133,7 +133,7 @@ alone w rows = ap (λ (x : ℕ). patch x (0 ∷ [])) (sum w)
 -- where the reader takes the file: 12 where a three of a flat rim that counts has a fourth vertex on its circle
 pub circle_gets_12 : (limit : ℕ) (file : List ℕ) → Bytes file → (t : Tables) → NoneDue (FileDue limit file) → Cocircular (polygon_in limit file) →
     patch_file limit file t ≡ refused 12 t
-circle_gets_12 limit file bytes t none r = refused_first limit file bytes t 12 (twelve_first limit file _ none (on_circle_lem r))
+circle_gets_12 limit file bytes t none r = refused_first limit file bytes t 12 (twelve_first limit file _ none (by_circle r))
 
 -- and only there: 12 given on a flat rim is that of such a circle
 due_12 : (limit : ℕ) (file : List ℕ) (t : Tables) (p : FilePlace) → CallDue limit file t p 12 → Degenerate (polygon_in limit file)

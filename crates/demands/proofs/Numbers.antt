@@ -22,12 +22,12 @@ use Rattle.demands.proofs.Polygons as polygon-calls
 
 read_at_most_20 : {limit : ℕ} {file : List ℕ} {p : FilePlace} {k : ℕ} → FileDue limit file p k → k ≤ 20
 read_at_most_20 (reader.limit_wrong _) = omega arith
-read_at_most_20 (reader.length_wrong_lem _) = omega arith
+read_at_most_20 (reader.wrong_length _) = omega arith
 read_at_most_20 (reader.area_factor _ _) = omega arith
 read_at_most_20 (reader.link_over _ _ _) = omega arith
 read_at_most_20 (reader.met_again _ _ _ _ _) = omega arith
 read_at_most_20 (reader.too_many _ _) = omega arith
-read_at_most_20 (reader.over_limit_lem _ _) = omega arith
+read_at_most_20 (reader.above_limit _ _) = omega arith
 read_at_most_20 (reader.kind_unknown _ _ _ _) = omega arith
 read_at_most_20 (reader.no_height _ _ _ _) = omega arith
 read_at_most_20 (reader.not_finite _ _ _ _ _) = omega arith

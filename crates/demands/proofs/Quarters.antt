@@ -62,7 +62,7 @@ module _ (p : Polygon) (v : ValidPolygon p) {candidates : List (List ℕ)} {weig
         let f = face (inner (entry_at rows k)) (d.hinge_inner k h) in
         let g = face (outer (entry_at rows k)) (d.hinge_outer k h) in
         let w = hinge_in_quarters p t u f.0 g.0 f.1 g.1 in
-        (w.0, w.1, d.hinge_weight_lem k h ∙ w.2);
+        (w.0, w.1, d.hinge_weights k h ∙ w.2);
     told_apart = λ i j hi hj longer above same.
         let f = face i hi in
         let g = face j hj in

@@ -70,5 +70,5 @@ pub record Cocircular (p : Polygon) : Type 0 where
 
 -- 12 is due on the rim (rule 4.12)
 pub data Degenerate (p : Polygon) : Type 0 where
-  on_sphere_lem : Cospherical p → Degenerate p
-  on_circle_lem : Cocircular p → Degenerate p
+  by_sphere : Cospherical p → Degenerate p
+  by_circle : Cocircular p → Degenerate p

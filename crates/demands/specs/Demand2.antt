@@ -30,7 +30,7 @@ pub record Demand2 (p : Polygon) (candidates : List (List ℕ)) (weights : List 
   pub hinge : (k : ℕ) → k < length rows → hangs (entry_at candidates (inner (entry_at rows k))) (entry_at candidates (outer (entry_at rows k))) ≡ true
   pub hinge_outer : (k : ℕ) → k < length rows → outer (entry_at rows k) < length candidates
   pub hinge_inner : (k : ℕ) → k < length rows → inner (entry_at rows k) < length candidates
-  pub hinge_weight_lem : (k : ℕ) → k < length rows →
+  pub hinge_weights : (k : ℕ) → k < length rows →
       row_weight (entry_at rows k)
       ≡ bend_weight_of p.bend_factor
       (bend_between (face_normal p (entry_at candidates (inner (entry_at rows k)))) (face_normal p (entry_at candidates (outer (entry_at rows k)))))

@@ -62,7 +62,7 @@ pub record LiftedBounds (p : Lifted) : Type 0 where
   pub square_in : AtMost max_square p.square
 
 pub record PencilBounds (k : Pencil) : Type 0 where
-  pub normal_in_lem : Within max_normal k.normal
+  pub normal_in : Within max_normal k.normal
   pub weighted_in : Within max_weighted k.weighted
 
 pub record SphereBounds (s : Sphere) : Type 0 where

@@ -31,7 +31,7 @@ not_finite_is v f = ap (λ (t : Bool). cond t (cond (in_range v) (Value (round_e
 -- and back: what an answer tells
 pub record IsValue (v : Float) (i : ℤ) : Type 0 where
   pub finite : finite v ≡ true
-  pub in_range_lem : in_range v ≡ true
+  pub ranged : in_range v ≡ true
   pub value : round_eighths v ≡ i
 
 pub record IsOutOfRange (v : Float) : Type 0 where
@@ -64,7 +64,7 @@ not_finite_cases false r z h = refl
 
 pub value_told : (v : Float) (i : ℤ) → grid_number_of v ≡ Value i → IsValue v i
 unfolding grid_number_of answer
-value_told v i h = let k = value_cases (finite v) (in_range v) (round_eighths v) i h in record { finite = k.0; in_range_lem = k.1; value = k.2 }
+value_told v i h = let k = value_cases (finite v) (in_range v) (round_eighths v) i h in record { finite = k.0; ranged = k.1; value = k.2 }
 
 pub out_of_range_told : (v : Float) → grid_number_of v ≡ OutOfRange → IsOutOfRange v
 unfolding grid_number_of answer
@@ -76,4 +76,4 @@ not_finite_told v h = not_finite_cases (finite v) (in_range v) (round_eighths v)
 
 -- a grid number is on the grid
 pub value_on_grid : (v : Float) (i : ℤ) → grid_number_of v ≡ Value i → OnGrid i
-value_on_grid v i h = let t = value_told v i h in subst OnGrid t.value (in_range_on_grid v t.in_range_lem)
+value_on_grid v i h = let t = value_told v i h in subst OnGrid t.value (in_range_on_grid v t.ranged)

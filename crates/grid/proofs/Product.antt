@@ -182,13 +182,13 @@ module _ (x : Float) (f : T (fits binary32 x)) (finite : to_bits binary32 x % 21
         by true h k = h refl
         by false h k = absurd (none c (ap (λ (y : Float). to_bits binary32 y % 2147483648) (infinite (k refl)) ∙ infinity_bits s) r)
 
-    in_range_lem : units c ≤ 1000 * 2 ^ 149
-    in_range_lem = units_le c 1148846080 r
+    ranged : units c ≤ 1000 * 2 ^ 149
+    ranged = units_le c 1148846080 r
 
     pub grid_is : grid_number_of x ≡ Value (signed (leb 2147483648 (to_bits binary32 w)) (nearest_even (units c) (2 ^ 149)))
     grid_is =
         let e = product_same below_overflow in
         grid_value x s (units a) (2 ^ 149) (pow_pos 149) held
         ∙ ap (λ (n : ℕ). cond (leb n (1000 * 2 ^ 149)) (Value (signed s (nearest_even n (2 ^ 149)))) OutOfRange) (sym e.1)
-        ∙ ap (λ (t : Bool). cond t (Value (signed s (nearest_even (units c) (2 ^ 149)))) OutOfRange) (le-leb (units c) (1000 * 2 ^ 149) in_range_lem)
+        ∙ ap (λ (t : Bool). cond t (Value (signed s (nearest_even (units c) (2 ^ 149)))) OutOfRange) (le-leb (units c) (1000 * 2 ^ 149) ranged)
         ∙ ap (λ (t : Bool). Value (signed t (nearest_even (units c) (2 ^ 149)))) (sym e.0)

@@ -52,7 +52,7 @@ empty : (file : List ℕ) (o : Outcome) (left : Tables) → part_of o left.trian
 empty file o left e z n = record {
   line_count = length-map (part_of o left.triangles) (line_of left.candidates left.weights left.rows (part_of o left.triangles));
   corners = λ k h. absurd (none h);
-  own_weight_lem = λ k h. absurd (none h);
+  own_weights = λ k h. absurd (none h);
   one_outer = λ t u v m. absurd (Memᴰ.not-nil (subst (Memᴰ t) e m));
   row_is = λ k u h. absurd (none h);
   first = λ h. absurd (none h);
@@ -149,7 +149,7 @@ module _ (file : List ℕ) (v : ValidPolygon (polygon_of file)) (lent : Tables) 
           ap (λ (x : Line). triple x.a x.b x.c) (line_is k h)
           ∙ subst (λ (e : List ℕ). triple (vertex_a e) (vertex_b e) (vertex_c e) ≡ e) (sym (same_candidate (at k) (listed k h)))
           (three (entry_at (candidates_of p) (at k)) (entry_member (candidates_of p) [] (at k) (in_size (at k) (listed k h))));
-      own_weight_lem = λ k h.
+      own_weights = λ k h.
           ap (λ (x : Line). x.weight) (line_is k h)
           ∙ same_weight (at k) (listed k h)
           ∙ weight_at p (candidates_of p) (at k) (in_size (at k) (listed k h))

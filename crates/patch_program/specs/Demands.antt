@@ -40,7 +40,7 @@ pub record LinesHold (file : List ℕ) (r : Patching) : Type 0 where
   -- there is a line for each triangle of the patch, with its vertices and its whole own weight
   pub line_count : length (lines_after r) ≡ length (handed_back r)
   pub corners : (k : ℕ) → k < length (handed_back r) → triple (line_at r k).a (line_at r k).b (line_at r k).c ≡ candidate_at r k
-  pub own_weight_lem : (k : ℕ) → k < length (handed_back r) → (line_at r k).weight ≡ own_weight (polygon_of file) (candidate_at r k)
+  pub own_weights : (k : ℕ) → k < length (handed_back r) → (line_at r k).weight ≡ own_weight (polygon_of file) (candidate_at r k)
   -- a triangle of the patch hangs on one other at most, and the row weight on its line is that of the two
   pub one_outer : (t o u : ℕ) → Listed r t → Listed r o → Listed r u → HangsIn r t o → HangsIn r t u → o ≡ u
   pub row_is : (k o : ℕ) → k < length (handed_back r) → Listed r o → HangsIn r (triangle_at r k) o →

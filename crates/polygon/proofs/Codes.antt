@@ -75,13 +75,13 @@ module _ (vertices : List GridPoint) (normals : List Normal) where
 
   pub record Clear (i : ℕ) : Type 0 where
     pub on_grid : point_on_grid (vertex_at vertices i) ≡ true
-    pub in_range_lem : normal_in_range (normal_at normals i) ≡ true
+    pub ranged : normal_in_range (normal_at normals i) ≡ true
 
   pub clear : (i : ℕ) → vertex_code vertices normals i ≡ 0 → Clear i
   clear i h = by (point_on_grid (vertex_at vertices i)) (normal_in_range (normal_at normals i)) refl refl h
     where
       by : (g r : Bool) → point_on_grid (vertex_at vertices i) ≡ g → normal_in_range (normal_at normals i) ≡ r → ◌≡◌ {A = ℕ} (cond g (cond r 0 18) 9) 0 → Clear i
-      by true true e d z = record { on_grid = e; in_range_lem = d }
+      by true true e d z = record { on_grid = e; ranged = d }
       by true false e d z = absurd (omega arith)
       by false r e d z = absurd (omega arith)
 
@@ -91,7 +91,7 @@ module _ (vertices : List GridPoint) (normals : List Normal) where
     on_grid_at h i l = point_on_grid_lem (vertex_at vertices i) (clear i (clear_each 0 n h i (omega arith) (omega arith))).on_grid
 
     pub in_range_at : vertices_code vertices normals n ≡ 0 → (i : ℕ) → i < n → NormalInRange (normal_at normals i)
-    in_range_at h i l = normal_in_range_lem (normal_at normals i) (clear i (clear_each 0 n h i (omega arith) (omega arith))).in_range_lem
+    in_range_at h i l = normal_in_range_lem (normal_at normals i) (clear i (clear_each 0 n h i (omega arith) (omega arith))).ranged
 
     pub all_clear : ((i : ℕ) → i < n → PointOnGrid (vertex_at vertices i)) → ((i : ℕ) → i < n → NormalInRange (normal_at normals i)) →
         vertices_code vertices normals n ≡ 0

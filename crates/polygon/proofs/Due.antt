@@ -111,7 +111,7 @@ module _ (p : Polygon) where
         no_earlier i l _ (off_grid m h) =
             h (point_on_grid_lem (vertex_at p.vertices i) (clear p.vertices p.normals i (found.clear_before i (omega arith) l)).on_grid)
         no_earlier i l _ (normal_out_of_range m h) =
-            h (normal_in_range_lem (normal_at p.normals i) (clear p.vertices p.normals i (found.clear_before i (omega arith) l)).in_range_lem)
+            h (normal_in_range_lem (normal_at p.normals i) (clear p.vertices p.normals i (found.clear_before i (omega arith) l)).ranged)
 
         here_first : (m : ℕ) → PolygonDue p (vertex found.at) m → ((j : ℕ) → j < m → PolygonDue p (vertex found.at) j → ⊥) → First (PolygonDue p) m
         here_first m d number = record { place = vertex found.at; is_due = d; none_before = before }

@@ -66,7 +66,7 @@ pub record ConverterCall (file out : List ℕ) : Type 0 where
   pub refused_first : (k : ℕ) → First (ConvertDue file out) k → convert_call file out ≡ converting (conversion.Refused (refusal k)) out
   pub given_first : (k : ℕ) → converter.number_of (convert_call file out).answer ≡ suc k → First (ConvertDue file out) (suc k)
   -- the part handed over is of the other edition, has the same header and records at their places, and is answered alike by every call
-  pub other_edition_lem : converter.number_of (convert_call file out).answer ≡ 0 → is_edition2 (handed_over (convert_call file out)) ≡ not (is_edition2 file)
+  pub in_other_edition : converter.number_of (convert_call file out).answer ≡ 0 → is_edition2 (handed_over (convert_call file out)) ≡ not (is_edition2 file)
   pub same_rim : converter.number_of (convert_call file out).answer ≡ 0 → SameRim (handed_over (convert_call file out)) file
   pub same_answers : converter.number_of (convert_call file out).answer ≡ 0 → (limit : ℕ) → SameAnswers limit (handed_over (convert_call file out)) file
   -- converted again, wherever there is room, it is the first file, byte for byte

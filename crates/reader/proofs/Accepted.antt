@@ -26,7 +26,7 @@ use Rattle.reader.specs.Due.{HasRecords, HasVertex, HasNormal}
 use Rattle.reader.specs.Reading.{number_due, polygon_of, answer, reading_of}
 use Rattle.reader.specs.declared.Status.TheVariants.{Complete}
 use Rattle.reader.proofs.Answers.{count_within, limit_most}
-use Rattle.reader.proofs.Ends.{no_number, in_range_lem}
+use Rattle.reader.proofs.Ends.{no_number, ranged}
 use Rattle.reader.proofs.RimVertices.{has_vertex_lem, vertex_in_table}
 use Rattle.reader.proofs.Normals.{has_normal}
 use Rattle.reader.proofs.Tables.{table_at}
@@ -59,7 +59,7 @@ module _ (limit : ℕ) (s : List ℕ) (r : Read limit s) where
   vertex_on_grid i h = subst PointOnGrid (sym (vertex_in_table s (vertex_count s) i h)) (vertexed_at i h (height_on_grid i (omega arith))).on_grid
 
   normal_fine : (i : ℕ) → i < vertex_count s → normal_in_range (normal_at_position s i) ≡ true
-  normal_fine i h = in_range_lem limit s (vertex_count s) (read_end limit s r) (whole s r.right) i h
+  normal_fine i h = ranged limit s (vertex_count s) (read_end limit s r) (whole s r.right) i h
 
   normal_in_table : (i : ℕ) → i < vertex_count s → NormalInRange (polygon-normals.normal_at (normals_of s (vertex_count s)) i)
   normal_in_table i h =

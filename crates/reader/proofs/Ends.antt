@@ -15,7 +15,7 @@ use Rattle.rim_file.specs.Record.{number_of}
 use Rattle.rim_file.proofs.Lengths.{Whole}
 use Rattle.reader.specs.Chain.{vertex_at_position, normal_at_position, link_code, record_code, position_code, code_from, end_from, chain_code, vertex_count}
 use Rattle.reader.specs.Chain as chain
-use Rattle.reader.specs.Order.{link_to, record_at_lem}
+use Rattle.reader.specs.Order.{link_to, at_record}
 use Rattle.reader.specs.Due.{HasRecords, FileDue}
 use Rattle.reader.proofs.Answers.{code_step, end_step, past_limit, Passed, passed}
 use Rattle.reader.proofs.Walking.{positive}
@@ -29,7 +29,7 @@ record Clear (limit : ℕ) (s : List ℕ) (i : ℕ) : Type 0 where
 -- number c is given at a position, on the link that leads there or else on the record, and none before
 pub data Stops (limit : ℕ) (s : List ℕ) (c : ℕ) : Type 0 where
   on_link : (i : ℕ) → link_code limit s i ≡ c → FileDue limit s (link_to i) c → ((j : ℕ) → j < i → position_code limit s j ≡ 0) → Stops limit s c
-  on_record : (i : ℕ) → link_code limit s i ≡ 0 → record_code s i ≡ c → FileDue limit s (record_at_lem i) c →
+  on_record : (i : ℕ) → link_code limit s i ≡ 0 → record_code s i ≡ c → FileDue limit s (at_record i) c →
       ((j : ℕ) → j < i → position_code limit s j ≡ 0) → Stops limit s c
 
 -- the link to position n is 0, and no number is given before
@@ -118,7 +118,7 @@ module _ (limit : ℕ) (s : List ℕ) (n : ℕ) (end : Ends limit s n) where
   pub no_link : (i k : ℕ) → FileDue limit s (link_to i) k → ⊥
   no_link i k d = link_quiet limit s i k (end.quiet i (before_end i (link_due_reached s i k d))) d
 
-  pub no_record : (i k : ℕ) → FileDue limit s (record_at_lem i) k → ⊥
+  pub no_record : (i k : ℕ) → FileDue limit s (at_record i) k → ⊥
   no_record i k d = record_quiet limit s i k (end.quiet i (before_end i (record_due_reached s i k d))) d
 
   -- each record before the end has a vertex, and a normal in range
@@ -128,5 +128,5 @@ module _ (limit : ℕ) (s : List ℕ) (n : ℕ) (end : Ends limit s n) where
   pub no_number : Whole s → (i : ℕ) → i < n → number_of (vertex_at_position s i) ≡ 0
   no_number whole i h = (passing limit s whole i (reached_before i h) (end.quiet i h)).no_number
 
-  pub in_range_lem : Whole s → (i : ℕ) → i < n → normal_in_range (normal_at_position s i) ≡ true
-  in_range_lem whole i h = (passing limit s whole i (reached_before i h) (end.quiet i h)).in_range_lem
+  pub ranged : Whole s → (i : ℕ) → i < n → normal_in_range (normal_at_position s i) ≡ true
+  ranged whole i h = (passing limit s whole i (reached_before i h) (end.quiet i h)).ranged

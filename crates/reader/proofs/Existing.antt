@@ -10,9 +10,9 @@ use Rattle.lists.proofs.Choice.{true_not_false}
 use Rattle.grid.specs.declared.GridPoint.{GridPoint}
 use Rattle.rim_file.specs.File.{header_size, layout_of, header_start, record_count}
 use Rattle.reader.specs.Chain.{link}
-use Rattle.reader.specs.Order.{FilePlace, link_to, record_at_lem}
+use Rattle.reader.specs.Order.{FilePlace, link_to, at_record}
 use Rattle.reader.specs.Due.{InFile, kind_at, tail_zero_at, OnGridAt, HasVertex, a_point, a_level_point, FileDue, link_over, met_again}
-use Rattle.reader.specs.Due.{too_many, over_limit_lem, kind_unknown, no_height, not_finite, tail_not_zero, out_of_range, normal_out_of_range}
+use Rattle.reader.specs.Due.{too_many, above_limit, kind_unknown, no_height, not_finite, tail_not_zero, out_of_range, normal_out_of_range}
 
 -- ---- a chain that comes back within the limit has no more records than that
 module _ (limit : ℕ) (s : List ℕ) (i j : ℕ) (h : i < j) (l : j ≤ limit) (e : link s i ≡ link s j) where
@@ -20,7 +20,7 @@ module _ (limit : ℕ) (s : List ℕ) (i j : ℕ) (h : i < j) (l : j ≤ limit) 
   no_5_on_loop _ (too_many has m) = has.different i j h (omega arith) e
 
   pub no_20_on_loop : (p : FilePlace) → FileDue limit s p 20 → ⊥
-  no_20_on_loop _ (over_limit_lem has m) = has.different i j h (omega arith) e
+  no_20_on_loop _ (above_limit has m) = has.different i j h (omega arith) e
 
 -- a loop of three points: 4 is due at position 3, where the chain comes back to record 1, and neither 5 nor 20 is due anywhere
 point_then : ℕ → List ℕ
@@ -77,9 +77,9 @@ module _ (limit : ℕ) (s : List ℕ) where
   only_3_over _ _ h (link_over i has l) = refl
   only_3_over _ _ h (met_again j i l has e) = absurd (omega (arith, (has.in_file j l).counted))
   only_3_over _ _ h (too_many has m) = absurd (omega (arith, (has.in_file limit (omega arith)).counted))
-  only_3_over _ _ h (over_limit_lem has m) = absurd (omega (arith, (has.in_file limit (omega arith)).counted))
+  only_3_over _ _ h (above_limit has m) = absurd (omega (arith, (has.in_file limit (omega arith)).counted))
 
-  pub no_record_over : (i k : ℕ) → record_count s < link s i → FileDue limit s (record_at_lem i) k → ⊥
+  pub no_record_over : (i k : ℕ) → record_count s < link s i → FileDue limit s (at_record i) k → ⊥
   no_record_over _ _ h (kind_unknown i has a b) = omega (arith, (has.in_file i (omega arith)).counted)
   no_record_over _ _ h (no_height i has k none) = omega (arith, (has.in_file i (omega arith)).counted)
   no_record_over _ _ h (not_finite i v has m f) = omega (arith, (has.in_file i (omega arith)).counted)
@@ -105,7 +105,7 @@ module _ (s : List ℕ) where
   vertex_tail _ _ (a_point i k g) e f = omega arith
   vertex_tail _ _ (a_level_point i j k t g l h) e f = true_not_false t f
 
-  pub refused_no_vertex : {limit : ℕ} (i k : ℕ) (p : GridPoint) → k ≤ 9 → FileDue limit s (record_at_lem i) k → HasVertex s i p → ⊥
+  pub refused_no_vertex : {limit : ℕ} (i k : ℕ) (p : GridPoint) → k ≤ 9 → FileDue limit s (at_record i) k → HasVertex s i p → ⊥
   refused_no_vertex _ _ p l (kind_unknown i has a b) v = vertex_kind i p v a b
   refused_no_vertex _ _ p l (no_height i has k none) v = vertex_height i p v k none
   refused_no_vertex _ _ p l (not_finite i x has m f) v = true_not_false ((vertex_on_grid i p v).all_finite x m) f

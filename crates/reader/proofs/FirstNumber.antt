@@ -16,10 +16,10 @@ use Rattle.rim_file.specs.File.{area_factor_of, length_wrong}
 use Rattle.rim_file.specs.Record.{point_of}
 use Rattle.rim_file.proofs.Lengths.{whole}
 use Rattle.reader.specs.Chain.{link, vertex_at_position, link_code, record_code, position_code, chain_code, vertex_count, vertices_of}
-use Rattle.reader.specs.Order.{FilePlace, request, header, link_to, record_at_lem, rim, request_header, request_link, request_record}
+use Rattle.reader.specs.Order.{FilePlace, request, header, link_to, at_record, rim, request_header, request_link, request_record}
 use Rattle.reader.specs.Order.{request_rim, header_link, header_record, header_rim, link_link, link_record, record_link}
 use Rattle.reader.specs.Order.{record_record, link_rim, record_rim, Precedes, by_place, by_number, First, NoneDue}
-use Rattle.reader.specs.Due.{HasVertex, FileDue, limit_wrong, length_wrong_lem, area_factor, too_few, vertex_repeated}
+use Rattle.reader.specs.Due.{HasVertex, FileDue, limit_wrong, wrong_length, area_factor, too_few, vertex_repeated}
 use Rattle.reader.specs.Reading.{file_code, number_due}
 use Rattle.reader.proofs.Positions.{shorter, link_given, link_quiet, record_given, record_quiet, record_reached}
 use Rattle.reader.proofs.Ends.{Stops, on_link, on_record, Ends, stops, ends, before_end, no_link, no_record, no_number}
@@ -42,10 +42,10 @@ module _ (limit : ℕ) (s : List ℕ) where
     no_request _ (limit_wrong h) = true_not_false fits h
 
     first_1 : length_wrong s ≡ true → First (FileDue limit s) 1
-    first_1 wrong = record { place = header; is_due = length_wrong_lem wrong; none_before = before }
+    first_1 wrong = record { place = header; is_due = wrong_length wrong; none_before = before }
       where
         number : (j : ℕ) → FileDue limit s header j → 0 < j
-        number _ (length_wrong_lem h) = omega arith
+        number _ (wrong_length h) = omega arith
         number _ (area_factor l h) = omega arith
 
         before : (p : FilePlace) (j : ℕ) → Precedes p j header 1 → FileDue limit s p j → ⊥
@@ -57,7 +57,7 @@ module _ (limit : ℕ) (s : List ℕ) where
       first_2 over = record { place = header; is_due = area_factor (whole s right).header over; none_before = before }
         where
           one : (j : ℕ) → j < 2 → FileDue limit s header j → ⊥
-          one _ l (length_wrong_lem h) = true_not_false h right
+          one _ l (wrong_length h) = true_not_false h right
           one _ l (area_factor g h) = omega arith
 
           before : (p : FilePlace) (j : ℕ) → Precedes p j header 2 → FileDue limit s p j → ⊥
@@ -66,7 +66,7 @@ module _ (limit : ℕ) (s : List ℕ) where
 
       module _ (area : area_factor_of s ≤ 16) where
         no_header : (k : ℕ) → FileDue limit s header k → ⊥
-        no_header _ (length_wrong_lem h) = true_not_false h right
+        no_header _ (wrong_length h) = true_not_false h right
         no_header _ (area_factor l h) = omega arith
 
         -- ---- 3 to 9, 18 and 20
@@ -81,14 +81,14 @@ module _ (limit : ℕ) (s : List ℕ) where
               before _ j (by_place (record_link {h} l)) d = record_quiet limit s h j (quiet h l) d
               before _ j (by_number l) d = omega (arith, (link_given limit s i j d).most)
 
-          record_first : (c : ℕ) → link_code limit s i ≡ 0 → record_code s i ≡ c → FileDue limit s (record_at_lem i) c → First (FileDue limit s) c
-          record_first c fine e due = record { place = record_at_lem i; is_due = due; none_before = before }
+          record_first : (c : ℕ) → link_code limit s i ≡ 0 → record_code s i ≡ c → FileDue limit s (at_record i) c → First (FileDue limit s) c
+          record_first c fine e due = record { place = at_record i; is_due = due; none_before = before }
             where
               before_link : (h j : ℕ) → (h < i) ⊎ (h ≡ i) → FileDue limit s (link_to h) j → ⊥
               before_link h j (inl l) d = link_quiet limit s h j (quiet h l) d
               before_link h j (inr q) d = omega (arith, fine, (link_given limit s i j (subst (λ (m : ℕ). FileDue limit s (link_to m) j) q d)).some)
 
-              before : (p : FilePlace) (j : ℕ) → Precedes p j (record_at_lem i) c → FileDue limit s p j → ⊥
+              before : (p : FilePlace) (j : ℕ) → Precedes p j (at_record i) c → FileDue limit s p j → ⊥
               before _ j (by_place request_record) d = no_request j d
               before _ j (by_place header_record) d = no_header j d
               before _ j (by_place (link_record {h} l)) d = before_link h j (below_or_same h i l) d
@@ -152,7 +152,7 @@ module _ (limit : ℕ) (s : List ℕ) where
                 none request k d = no_request k d
                 none header k d = no_header k d
                 none (link_to i) k d = no_link limit s n end i k d
-                none (record_at_lem i) k d = no_record limit s n end i k d
+                none (at_record i) k d = no_record limit s n end i k d
                 none rim k d = no_rim k d
 
   -- ---- the number of the tests, one after the other

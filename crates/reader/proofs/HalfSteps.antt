@@ -29,7 +29,7 @@ module _ (s : List ℕ) where
   rounds : (i : ℕ) (vs : List Float) → floats_at s i ≡ vs → OnGridAt s i → (v : Float) → Memᴰ v vs → RoundsTo v (round_eighths v)
   rounds i vs e g v m =
       let n : Memᴰ v (floats_at s i) = subst (λ (l : List Float). Memᴰ v l) (sym e) m in
-      record { finite = g.all_finite v n; in_range_lem = g.all_in_range v n; half_step = half_step v (g.all_finite v n); even_half = even_half v }
+      record { finite = g.all_finite v n; ranged = g.all_in_range v n; half_step = half_step v (g.all_finite v n); even_half = even_half v }
 
   point_rounds : (i : ℕ) → kind_at s i ≡ 1 → OnGridAt s i → (v : Float) → Memᴰ v (point_floats s i) → RoundsTo v (round_eighths v)
   point_rounds i k g = rounds i (point_floats s i) (yes _ _ (eq-eqb (kind_at s i) 1 k)) g

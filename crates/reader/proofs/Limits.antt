@@ -12,8 +12,8 @@ use Rattle.lists.proofs.Choice.{yes, no, true_not_false, both_true}
 use Rattle.terms.specs.Limits.{min_vertices, max_vertices, count_fits}
 use Rattle.reader.specs.Chain.{over_limit, vertex_count}
 use Rattle.reader.specs.Order.{FilePlace, link_to, link_link, Precedes, by_place, by_number, First, NoneDue}
-use Rattle.reader.specs.Due.{HasRecords, ChainAtMost, FileDue, limit_wrong, length_wrong_lem, area_factor}
-use Rattle.reader.specs.Due.{link_over, met_again, too_many, over_limit_lem, kind_unknown, no_height, not_finite}
+use Rattle.reader.specs.Due.{HasRecords, ChainAtMost, FileDue, limit_wrong, wrong_length, area_factor}
+use Rattle.reader.specs.Due.{link_over, met_again, too_many, above_limit, kind_unknown, no_height, not_finite}
 use Rattle.reader.specs.Due.{tail_not_zero, out_of_range, normal_out_of_range, too_few, vertex_repeated}
 use Rattle.reader.specs.Reading.{number_due, polygon_of, answer, reading_of, status_number}
 use Rattle.reader.specs.declared.Status.TheVariants.{Complete}
@@ -33,12 +33,12 @@ record Over (limit : ℕ) (s : List ℕ) (p : FilePlace) (k : ℕ) : Type 0 wher
 -- any other number is due with whichever limit
 due_or_over : {a b : ℕ} {s : List ℕ} → count_fits a ≡ true → {p : FilePlace} {k : ℕ} → FileDue a s p k → FileDue b s p k ⊎ Over a s p k
 due_or_over f (limit_wrong h) = absurd (true_not_false f h)
-due_or_over f (length_wrong_lem h) = inl (length_wrong_lem h)
+due_or_over f (wrong_length h) = inl (wrong_length h)
 due_or_over f (area_factor l h) = inl (area_factor l h)
 due_or_over f (link_over i has h) = inl (link_over i has h)
 due_or_over f (met_again i j h has e) = inl (met_again i j h has e)
 due_or_over {a} f (too_many has m) = inr (record { has = has; at = refl; number = sym (yes 5 20 (eq-eqb a max_vertices m)) })
-due_or_over {a} f (over_limit_lem has m) = inr (record { has = has; at = refl; number = sym (no 5 20 (ne_eqb a max_vertices (λ e. omega arith))) })
+due_or_over {a} f (above_limit has m) = inr (record { has = has; at = refl; number = sym (no 5 20 (ne_eqb a max_vertices (λ e. omega arith))) })
 due_or_over f (kind_unknown i has x y) = inl (kind_unknown i has x y)
 due_or_over f (no_height i has k none) = inl (no_height i has k none)
 due_or_over f (not_finite i v has m h) = inl (not_finite i v has m h)
@@ -82,7 +82,7 @@ module _ {small large : ℕ} (least : min_vertices ≤ small) (below : small ≤
     many = shorter (suc small) (subst (λ p. small < p.n) (complete_polygon large s complete) more) (read_end large s (complete_read large s complete)).has
 
     first_20 : First (FileDue small s) 20
-    first_20 = record { place = link_to small; is_due = over_limit_lem many smaller; none_before = before }
+    first_20 = record { place = link_to small; is_due = above_limit many smaller; none_before = before }
       where
         twenty : over_limit small ≡ 20
         twenty = no 5 20 (ne_eqb small max_vertices (λ e. omega (arith, smaller)))
@@ -113,7 +113,7 @@ module _ (limit : ℕ) (s : List ℕ) where
   due_5 (too_many has m) = (has, m)
 
   pub due_20 : {p : FilePlace} → FileDue limit s p 20 → HasRecords s (suc limit) × (limit < max_vertices)
-  due_20 (over_limit_lem has m) = (has, m)
+  due_20 (above_limit has m) = (has, m)
 
   -- 5 is given with the largest limit alone, to a chain that has a record more
   pub gives_5 : status_number (reading_of limit s).status ≡ 5 → HasRecords s (suc limit) × (limit ≡ max_vertices)

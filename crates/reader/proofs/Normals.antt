@@ -14,7 +14,7 @@ use Rattle.rim_file.specs.File.{is_edition2, offset}
 use Rattle.rim_file.specs.Record.{held_normal}
 use Rattle.rim_file.proofs.Normals.{normal_1, normal_2, numbers_1, number_in_range, outside}
 use Rattle.reader.specs.Chain.{link, normal_at_position}
-use Rattle.reader.specs.Order.{FilePlace, record_at_lem}
+use Rattle.reader.specs.Order.{FilePlace, at_record}
 use Rattle.reader.specs.Due.{normal_numbers_at, HasRecords, HasNormal, held, none, FileDue, normal_out_of_range}
 
 -- number 18 at a position
@@ -24,7 +24,7 @@ module _ (s : List ℕ) (i : ℕ) where
   normal_given c m f = not_true_false (normal_in_range (normal_at_position s i)) (λ h. f (number_in_range s (offset s (link s i)) h c m))
 
   -- and where the normal is, 18 is due
-  pub normal_due : (limit : ℕ) → HasRecords s (suc i) → normal_in_range (normal_at_position s i) ≡ false → FileDue limit s (record_at_lem i) 18
+  pub normal_due : (limit : ℕ) → HasRecords s (suc i) → normal_in_range (normal_at_position s i) ≡ false → FileDue limit s (at_record i) 18
   normal_due limit has h =
       let o = outside s (offset s (link s i)) h in
       normal_out_of_range i o.number has o.member o.fails

@@ -19,8 +19,8 @@ use Rattle.rim_file.proofs.Lengths.{Whole}
 use Rattle.rim_file.proofs.Floats.{UpTo}
 use Rattle.reader.specs.Chain.{met_before, vertex_at_position, normal_at_position, over_limit, link_code, record_code, position_code}
 use Rattle.reader.specs.Chain as chain
-use Rattle.reader.specs.Order.{link_to, record_at_lem}
-use Rattle.reader.specs.Due.{InFile, HasRecords, FileDue, link_over, met_again, too_many, over_limit_lem, kind_unknown}
+use Rattle.reader.specs.Order.{link_to, at_record}
+use Rattle.reader.specs.Due.{InFile, HasRecords, FileDue, link_over, met_again, too_many, above_limit, kind_unknown}
 use Rattle.reader.specs.Due.{no_height, not_finite, tail_not_zero, out_of_range, normal_out_of_range}
 use Rattle.reader.proofs.Answers.{over_least}
 use Rattle.reader.proofs.Normals.{normal_given, normal_due}
@@ -102,10 +102,10 @@ module _ (limit : ℕ) (s : List ℕ) where
   link_given _ _ (met_again j i h has e) = met_given limit s i (met_marked s j i (chain.link s i) h e)
   link_given _ _ (too_many has m) =
       subst (λ (k : ℕ). UpTo k (link_code limit s limit)) (yes 5 20 (eq-eqb limit max_vertices m)) (many_given limit s limit (omega arith))
-  link_given _ _ (over_limit_lem has m) =
+  link_given _ _ (above_limit has m) =
       subst (λ (k : ℕ). UpTo k (link_code limit s limit)) (no 5 20 (ne_eqb limit max_vertices (λ e. omega arith))) (many_given limit s limit (omega arith))
 
-  pub record_given : (i k : ℕ) → FileDue limit s (record_at_lem i) k → UpTo k (record_code s i)
+  pub record_given : (i k : ℕ) → FileDue limit s (at_record i) k → UpTo k (record_code s i)
   record_given _ _ (kind_unknown i has a b) = record_first s i 6 (let e = kind_given s i a b in record { some = omega arith; most = omega arith })
   record_given _ _ (no_height i has k none) = record_first s i 7 (let e = height_given s i k none in record { some = omega arith; most = omega arith })
   record_given _ _ (not_finite i v has m f) = record_first s i 8 (finite_given s i v m f)
@@ -118,7 +118,7 @@ module _ (limit : ℕ) (s : List ℕ) where
   unfolding position_code
   link_quiet i k e d = omega (arith, (link_given i k d).some, (due_neither (link_code limit s i) (record_code s i) e).0)
 
-  pub record_quiet : (i k : ℕ) → position_code limit s i ≡ 0 → FileDue limit s (record_at_lem i) k → ⊥
+  pub record_quiet : (i k : ℕ) → position_code limit s i ≡ 0 → FileDue limit s (at_record i) k → ⊥
   unfolding position_code
   record_quiet i k e d = omega (arith, (record_given i k d).some, (due_neither (link_code limit s i) (record_code s i) e).1)
 
@@ -139,9 +139,9 @@ module _ {limit : ℕ} (s : List ℕ) where
   link_due_reached _ _ (link_over i has h) = record { has = has; goes_on = omega arith }
   link_due_reached _ _ (met_again j i h has e) = record { has = has; goes_on = omega (arith, (has.in_file j h).numbered) }
   link_due_reached _ _ (too_many has m) = record_reached limit has
-  link_due_reached _ _ (over_limit_lem has m) = record_reached limit has
+  link_due_reached _ _ (above_limit has m) = record_reached limit has
 
-  pub record_due_reached : (i k : ℕ) → FileDue limit s (record_at_lem i) k → Reached s i
+  pub record_due_reached : (i k : ℕ) → FileDue limit s (at_record i) k → Reached s i
   record_due_reached _ _ (kind_unknown i has a b) = record_reached i has
   record_due_reached _ _ (no_height i has k none) = record_reached i has
   record_due_reached _ _ (not_finite i v has m f) = record_reached i has
@@ -175,7 +175,7 @@ module _ (limit : ℕ) (s : List ℕ) (whole : Whole s) (i : ℕ) (r : Reached s
 
       by : (b : Bool) → eqb limit max_vertices ≡ b → FileDue limit s (link_to i) (cond b 5 20)
       by true p = subst (λ (m : ℕ). FileDue limit s (link_to m) 5) (sym e) (too_many all (eqb-true limit max_vertices p))
-      by false p = subst (λ (m : ℕ). FileDue limit s (link_to m) 20) (sym e) (over_limit_lem all (omega (arith, small, eqb-false limit max_vertices p)))
+      by false p = subst (λ (m : ℕ). FileDue limit s (link_to m) 20) (sym e) (above_limit all (omega (arith, small, eqb-false limit max_vertices p)))
 
   -- position i is at most the last that may be
   pub given_link : (c : ℕ) → limit ≤ max_vertices → i ≤ limit → link_code limit s i ≡ suc c → FileDue limit s (link_to i) (suc c)
@@ -210,29 +210,29 @@ module _ (limit : ℕ) (s : List ℕ) (whole : Whole s) (i : ℕ) (r : Reached s
       by false false false p q t = record { next = next_has (ltb-false (record_count s) (chain.link s i) p) q; within = leb-false limit i t }
 
   -- the number of the record, or of its normal
-  pub given_record : (c : ℕ) → link_code limit s i ≡ 0 → record_code s i ≡ suc c → FileDue limit s (record_at_lem i) (suc c)
+  pub given_record : (c : ℕ) → link_code limit s i ≡ 0 → record_code s i ≡ suc c → FileDue limit s (at_record i) (suc c)
   given_record c l e = number (number_of (vertex_at_position s i)) refl e
     where
       has : HasRecords s (suc i)
       has = (linked l).next
 
-      number : (j : ℕ) → number_of (vertex_at_position s i) ≡ j → first_due j (normal_code (normal_at_position s i)) ≡ suc c → FileDue limit s (record_at_lem i) (suc c)
+      number : (j : ℕ) → number_of (vertex_at_position s i) ≡ j → first_due j (normal_code (normal_at_position s i)) ≡ suc c → FileDue limit s (at_record i) (suc c)
       number (suc j) d e = record_due s i limit has c (d ∙ e)
       number zero d e = by (normal_in_range (normal_at_position s i)) refl
         where
-          by : (b : Bool) → normal_in_range (normal_at_position s i) ≡ b → FileDue limit s (record_at_lem i) (suc c)
+          by : (b : Bool) → normal_in_range (normal_at_position s i) ≡ b → FileDue limit s (at_record i) (suc c)
           by true r = absurd (omega (arith, sym (yes 0 18 r) ∙ e))
-          by false r = subst (λ (k : ℕ). FileDue limit s (record_at_lem i) k) (sym (no 0 18 r) ∙ e) (normal_due s i limit has r)
+          by false r = subst (λ (k : ℕ). FileDue limit s (at_record i) k) (sym (no 0 18 r) ∙ e) (normal_due s i limit has r)
 
   -- where no number is given at the position, the record has besides a vertex and a normal in range
   pub record Passing : Type 0 where
     pub on : Linked
     pub no_number : number_of (vertex_at_position s i) ≡ 0
-    pub in_range_lem : normal_in_range (normal_at_position s i) ≡ true
+    pub ranged : normal_in_range (normal_at_position s i) ≡ true
 
   pub passing : position_code limit s i ≡ 0 → Passing
   unfolding position_code
   passing e =
       let n = due_neither (link_code limit s i) (record_code s i) e in
       let m = due_neither (number_of (vertex_at_position s i)) (normal_code (normal_at_position s i)) n.1 in
-      record { on = linked n.0; no_number = m.0; in_range_lem = quiet (normal_in_range (normal_at_position s i)) m.1 }
+      record { on = linked n.0; no_number = m.0; ranged = quiet (normal_in_range (normal_at_position s i)) m.1 }

@@ -17,7 +17,7 @@ use Rattle.rim_file.proofs.Vertices.{tests, vertex_number}
 use Rattle.rim_file.proofs.Floats.{UpTo, all_of_fails, all_of_not, numbers_most, finite_code, range_code}
 use Rattle.reader.specs.Chain.{height_before, vertex_at_position}
 use Rattle.reader.specs.Chain as chain
-use Rattle.reader.specs.Order.{record_at_lem}
+use Rattle.reader.specs.Order.{at_record}
 use Rattle.reader.specs.Due.{HasRecords, kind_at, tail_zero_at, floats_at, FileDue, kind_unknown, no_height, not_finite, tail_not_zero, out_of_range}
 use Rattle.reader.proofs.Heights.{height_unknown, no_height_known}
 
@@ -90,30 +90,30 @@ module _ (s : List ℕ) (i : ℕ) where
 
   -- ---- the number that is given is due
   module _ (limit : ℕ) (has : HasRecords s (suc i)) where
-    floats_due : (vs : List Float) (c : ℕ) → floats_at s i ≡ vs → numbers_code vs ≡ suc c → FileDue limit s (record_at_lem i) (suc c)
+    floats_due : (vs : List Float) (c : ℕ) → floats_at s i ≡ vs → numbers_code vs ≡ suc c → FileDue limit s (at_record i) (suc c)
     unfolding numbers_code
     floats_due vs c u e = by (all_of finite vs) (all_of in_range vs) refl refl e
       where
-        by : (f r : Bool) → all_of finite vs ≡ f → all_of in_range vs ≡ r → ◌≡◌ {A = ℕ} (cond f (cond r 0 9) 8) (suc c) → FileDue limit s (record_at_lem i) (suc c)
+        by : (f r : Bool) → all_of finite vs ≡ f → all_of in_range vs ≡ r → ◌≡◌ {A = ℕ} (cond f (cond r 0 9) 8) (suc c) → FileDue limit s (at_record i) (suc c)
         by false r p q d =
             let w = all_of_fails finite vs p in
-            subst (λ (k : ℕ). FileDue limit s (record_at_lem i) k) d
+            subst (λ (k : ℕ). FileDue limit s (at_record i) k) d
             (not_finite i w.value has (subst (λ (l : List Float). Memᴰ w.value l) (sym u) w.member) w.fails)
         by true false p q d =
             let w = all_of_fails in_range vs q in
-            subst (λ (k : ℕ). FileDue limit s (record_at_lem i) k) d
+            subst (λ (k : ℕ). FileDue limit s (at_record i) k) d
             (out_of_range i w.value has (subst (λ (l : List Float). Memᴰ w.value l) (sym u) w.member) w.fails)
         by true true p q d = absurd (omega (arith, d))
 
-    pub record_due : (c : ℕ) → number_of (vertex_at_position s i) ≡ suc c → FileDue limit s (record_at_lem i) (suc c)
+    pub record_due : (c : ℕ) → number_of (vertex_at_position s i) ≡ suc c → FileDue limit s (at_record i) (suc c)
     record_due c e = by (eqb (kind_at s i) 1) (eqb (kind_at s i) 2) (known (height_before s i)) (tail_zero_at s i) refl refl refl refl (sym record_number ∙ e)
       where
         by : (one two kn tail : Bool) → eqb (kind_at s i) 1 ≡ one → eqb (kind_at s i) 2 ≡ two → known (height_before s i) ≡ kn → tail_zero_at s i ≡ tail →
-            tests one two kn tail point_floats level_floats ≡ suc c → FileDue limit s (record_at_lem i) (suc c)
+            tests one two kn tail point_floats level_floats ≡ suc c → FileDue limit s (at_record i) (suc c)
         by true two kn tail a b k t d = floats_due point_floats c (yes _ _ a) d
         by false true true true a b k t d = floats_due level_floats c (no _ _ a ∙ yes _ _ b) d
-        by false true true false a b k t d = subst (λ (k : ℕ). FileDue limit s (record_at_lem i) k) d (tail_not_zero i has (eqb-true (kind_at s i) 2 b) t)
+        by false true true false a b k t d = subst (λ (k : ℕ). FileDue limit s (at_record i) k) d (tail_not_zero i has (eqb-true (kind_at s i) 2 b) t)
         by false true false tail a b k t d =
-            subst (λ (k : ℕ). FileDue limit s (record_at_lem i) k) d (no_height i has (eqb-true (kind_at s i) 2 b) (height_unknown s i k))
+            subst (λ (k : ℕ). FileDue limit s (at_record i) k) d (no_height i has (eqb-true (kind_at s i) 2 b) (height_unknown s i k))
         by false false kn tail a b k t d =
-            subst (λ (k : ℕ). FileDue limit s (record_at_lem i) k) d (kind_unknown i has (eqb-false (kind_at s i) 1 a) (eqb-false (kind_at s i) 2 b))
+            subst (λ (k : ℕ). FileDue limit s (at_record i) k) d (kind_unknown i has (eqb-false (kind_at s i) 1 a) (eqb-false (kind_at s i) 2 b))

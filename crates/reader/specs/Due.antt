@@ -12,7 +12,7 @@ use Rattle.rim_file.specs.File.{is_edition2, header_size, header_start, record_s
 use Rattle.rim_file.specs.File.{offset, kind, first_number, second_number, third_number, tail_zero}
 use Rattle.rim_file.specs.Record.{floats_of, held_normal, normal_numbers_of}
 use Rattle.reader.specs.Chain.{link}
-use Rattle.reader.specs.Order.{FilePlace, request, header, link_to, record_at_lem, rim}
+use Rattle.reader.specs.Order.{FilePlace, request, header, link_to, at_record, rim}
 
 -- ---- what there is
 -- record k is one of the R records, and its bytes are there (rule 1.3)
@@ -87,17 +87,17 @@ pub data HasNormal (s : List ℕ) : ℕ → Normal → Type 0 where
 -- constructor by constructor, rules 4.14, 4.1 to 4.5, 4.20, 4.6 to 4.9, 4.18, 4.10 and 4.11; 4.8 has two
 pub data FileDue (limit : ℕ) (s : List ℕ) : FilePlace → ℕ → Type 0 where
   limit_wrong : count_fits limit ≡ false → FileDue limit s request 14
-  length_wrong_lem : length_wrong s ≡ true → FileDue limit s header 1
+  wrong_length : length_wrong s ≡ true → FileDue limit s header 1
   area_factor : header_start s + header_size ≤ length s → max_area_factor < area_factor_of s → FileDue limit s header 2
   link_over : (i : ℕ) → HasRecords s i → record_count s < link s i → FileDue limit s (link_to i) 3
   met_again : (i j : ℕ) → i < j → HasRecords s j → link s i ≡ link s j → FileDue limit s (link_to j) 4
   too_many : HasRecords s (suc limit) → limit ≡ max_vertices → FileDue limit s (link_to limit) 5
-  over_limit_lem : HasRecords s (suc limit) → limit < max_vertices → FileDue limit s (link_to limit) 20
-  kind_unknown : (i : ℕ) → HasRecords s (suc i) → (kind_at s i ≡ 1 → ⊥) → (kind_at s i ≡ 2 → ⊥) → FileDue limit s (record_at_lem i) 6
-  no_height : (i : ℕ) → HasRecords s (suc i) → kind_at s i ≡ 2 → ((j : ℕ) → j < i → kind_at s j ≡ 1 → ⊥) → FileDue limit s (record_at_lem i) 7
-  not_finite : (i : ℕ) (v : Float) → HasRecords s (suc i) → Memᴰ v (floats_at s i) → finite v ≡ false → FileDue limit s (record_at_lem i) 8
-  tail_not_zero : (i : ℕ) → HasRecords s (suc i) → kind_at s i ≡ 2 → tail_zero_at s i ≡ false → FileDue limit s (record_at_lem i) 8
-  out_of_range : (i : ℕ) (v : Float) → HasRecords s (suc i) → Memᴰ v (floats_at s i) → in_range v ≡ false → FileDue limit s (record_at_lem i) 9
-  normal_out_of_range : (i : ℕ) (c : ℤ) → HasRecords s (suc i) → Memᴰ c (normal_numbers_at s i) → (OnGrid c → ⊥) → FileDue limit s (record_at_lem i) 18
+  above_limit : HasRecords s (suc limit) → limit < max_vertices → FileDue limit s (link_to limit) 20
+  kind_unknown : (i : ℕ) → HasRecords s (suc i) → (kind_at s i ≡ 1 → ⊥) → (kind_at s i ≡ 2 → ⊥) → FileDue limit s (at_record i) 6
+  no_height : (i : ℕ) → HasRecords s (suc i) → kind_at s i ≡ 2 → ((j : ℕ) → j < i → kind_at s j ≡ 1 → ⊥) → FileDue limit s (at_record i) 7
+  not_finite : (i : ℕ) (v : Float) → HasRecords s (suc i) → Memᴰ v (floats_at s i) → finite v ≡ false → FileDue limit s (at_record i) 8
+  tail_not_zero : (i : ℕ) → HasRecords s (suc i) → kind_at s i ≡ 2 → tail_zero_at s i ≡ false → FileDue limit s (at_record i) 8
+  out_of_range : (i : ℕ) (v : Float) → HasRecords s (suc i) → Memᴰ v (floats_at s i) → in_range v ≡ false → FileDue limit s (at_record i) 9
+  normal_out_of_range : (i : ℕ) (c : ℤ) → HasRecords s (suc i) → Memᴰ c (normal_numbers_at s i) → (OnGrid c → ⊥) → FileDue limit s (at_record i) 18
   too_few : (i : ℕ) → HasRecords s i → link s i ≡ 0 → i < min_vertices → FileDue limit s rim 10
   vertex_repeated : (i j : ℕ) (p : GridPoint) → i < j → HasRecords s (suc j) → HasVertex s i p → HasVertex s j p → FileDue limit s rim 11

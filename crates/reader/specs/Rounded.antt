@@ -8,7 +8,7 @@ use Rattle.reader.specs.Due.{record_start}
 -- rules 1.9 and 1.10: the float v is in range, and g is the whole number nearest to 8v, at a half the even one
 pub record RoundsTo (v : Float) (g : ℤ) : Type 0 where
   pub finite : finite v ≡ true
-  pub in_range_lem : in_range v ≡ true
+  pub ranged : in_range v ≡ true
   pub half_step : HalfStep v g
   pub even_half : EvenHalf v g
 

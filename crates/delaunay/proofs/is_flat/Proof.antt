@@ -141,7 +141,7 @@ loop2-again c =
     let e = c.before.before.before in
     let s = at e in (
       omega (arith, s.before.loop2.inv.0),
-      coplanar_with_on (sym (pair_of e) ∙ zero_bits (ball e).orient (signed_fits tt (ball_in e).orient-in) c.if1.false)
+      coplanar_with_on (sym (pair_of e) ∙ zero_bits (ball e).orient (signed_fits tt (ball_in e).orient_in) c.if1.false)
           s.before.loop2.inv.1,
     )
 

@@ -19,7 +19,7 @@ element-copy-out-base : tie.Need-element-copy-out-base invariant-loop decreases-
 element-copy-out-base c = omega (arith, c.requires.0.most, c.requires.1)
 
 lift-requires : tie.Need-lift-requires invariant-loop decreases-loop
-lift-requires c κs = let s = c.before in let h = s.requires.0.on-grid s.args.a s.requires.1 in (h, h)
+lift-requires c κs = let s = c.before in let h = s.requires.0.on_grid s.args.a s.requires.1 in (h, h)
 
 loop-holds : tie.Need-loop-init invariant-loop decreases-loop
 loop-holds c = (omega arith, record { long = refl; at = λ k h. absurd (omega arith) })
@@ -33,7 +33,7 @@ element-copy-out-lift c = let s = c.before.before.before.before in omega (arith,
 lift-requires-2 : tie.Need-lift-requires-2 invariant-loop decreases-loop
 lift-requires-2 c κs =
     let s = c.before.before.before.before.before in
-    (s.requires.0.on-grid s.args.a s.requires.1, s.requires.0.on-grid c.before.before.loop.v (omega arith))
+    (s.requires.0.on_grid s.args.a s.requires.1, s.requires.0.on_grid c.before.before.loop.v (omega arith))
 
 mul-lifted : tie.Need-overflow-mul-lifted invariant-loop decreases-loop
 mul-lifted c = let s = c.before.before.before.before.before.before in omega (arith, s.requires.0.most)

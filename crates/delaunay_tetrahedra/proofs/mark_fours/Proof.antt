@@ -237,7 +237,7 @@ four-again : At tie.Need-four-preserved
 four-again c =
     let s = c.before.before.before.before.before in
     let e = c.before.before.before.circumsphere.ensures in
-    let flat = zero_bits _ (signed_fits tt (sphere_in (triangle s) (D s) (d<n s) e).orient-in) c.if2.true in
+    let flat = zero_bits _ (signed_fits tt (sphere_in (triangle s) (D s) (d<n s) e).orient_in) c.if2.true in
     (same_c s, known s, kept_skip _ _ _ _ (D s) s.before.four.invariant.2 (d<n s) (not_counts_flat _ _ _ _ _ (sym (flat_is (triangle s) (D s) (d<n s) e) ∙ flat)))
 
 -- they are not in one plane
@@ -269,7 +269,7 @@ add-i-end : At tie.Need-overflow-add-i-end
 add-i-end c = let s = corners c in omega (arith, (valid (base s)).most)
 
 loop3-holds : At tie.Need-loop3-init
-loop3-holds c = record { same_c = refl; same-d = refl; ahead = omega arith; known = known (corners c); scanned = refl }
+loop3-holds c = record { same_c = refl; same_d = refl; ahead = omega arith; known = known (corners c); scanned = refl }
 
 -- in the scan: c and d are still the same
 module _ (l : At tie.At-loop3) where
@@ -364,7 +364,7 @@ loop3-again c =
     let l = turn w in
     record {
       same_c = l.loop3.inv.same_c;
-      same-d = l.loop3.inv.same_d;
+      same_d = l.loop3.inv.same_d;
       ahead = omega (arith, w.before.loop3-test.true);
       known = l.loop3.inv.known;
       scanned = vertex_passed (still l) _ (v<n w) c.before.locate.ensures (not_tagged _ c.match.keys2) l.loop3.last l.loop3.i w.scanned.ensures l.loop3.inv.scanned;

@@ -190,7 +190,7 @@ three-again c =
     let k = c.before.before.before in
     let t = triangle k in (
       (at k).before.three.invariant.0,
-      on_line t (sym (line_is t) ∙ zero_bits (circle k).orient (signed_fits tt (circle_in t).orient-in) (omega (arith, c.if1.true))),
+      on_line t (sym (line_is t) ∙ zero_bits (circle k).orient (signed_fits tt (circle_in t).orient_in) (omega (arith, c.if1.true))),
     )
 
 add-i-end : At tie.Need-overflow-add-i-end

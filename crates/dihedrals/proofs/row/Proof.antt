@@ -25,9 +25,9 @@ bend-requires : tie.Need-bend-requires
 bend-requires c κs =
     let s = c.before in (
       at_most_held (dot-held c),
-      s.requires.4.above-0,
+      s.requires.4.above_0,
       omega (arith, s.requires.4.is, length_bound s.requires.4.within),
-      s.requires.2.above-0,
+      s.requires.2.above_0,
       omega (arith, s.requires.2.is, length_bound s.requires.2.within),
     )
 

@@ -65,9 +65,9 @@ corners g =
     record {
       valid = s.requires.0.valid;
       corners = s.requires.0.corners g.before.before.before.before.before.loop.i g.before.before.before.before.loop-test.true;
-      a-is = g.before.before.wide.ensures;
-      b-is = g.before.wide2.ensures;
-      c-is = g.wide3.ensures;
+      a_is = g.before.before.wide.ensures;
+      b_is = g.before.wide2.ensures;
+      c_is = g.wide3.ensures;
     }
 
 mul-normal : tie.Need-overflow-mul-normal invariant-loop decreases-loop

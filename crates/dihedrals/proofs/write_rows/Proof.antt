@@ -132,9 +132,9 @@ corners w =
     record {
       valid = s.requires.0.valid;
       corners = s.requires.0.corners (O g) (o_in g);
-      a-is = w.before.before.wide.ensures;
-      b-is = w.before.wide2.ensures;
-      c-is = w.wide3.ensures;
+      a_is = w.before.before.wide.ensures;
+      b_is = w.before.wide2.ensures;
+      c_is = w.wide3.ensures;
     }
 
 mul-normal : tie.Need-overflow-mul-normal invariant-loop3 decreases-loop3 invariant-loop2 decreases-loop2 invariant-loop decreases-loop
@@ -312,9 +312,9 @@ corners2 w =
     record {
       valid = s.pre.0.valid;
       corners = s.pre.0.corners (I n) (i_in n);
-      a-is = w.before.before.wide5.ensures;
-      b-is = w.before.wide6.ensures;
-      c-is = w.wide7.ensures;
+      a_is = w.before.before.wide5.ensures;
+      b_is = w.before.wide6.ensures;
+      c_is = w.wide7.ensures;
     }
 
 mul-normal-4 : tie.Need-overflow-mul-normal-4 invariant-loop3 decreases-loop3 invariant-loop2 decreases-loop2 invariant-loop decreases-loop

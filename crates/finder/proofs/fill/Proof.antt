@@ -98,9 +98,9 @@ write-lists-requires c κs =
     let g = e.before.before.before.before.before in (
       (begin g).requires,
       record {
-        for-candidates = omega (arith, count_is g, e.before.before.if3.false);
-        for-weights = omega (arith, count_is g, e.before.if4.false);
-        for-rows = omega (arith, rows_are g, e.if5.false);
+        for_candidates = omega (arith, count_is g, e.before.before.if3.false);
+        for_weights = omega (arith, count_is g, e.before.if4.false);
+        for_rows = omega (arith, rows_are g, e.if5.false);
       },
     )
 

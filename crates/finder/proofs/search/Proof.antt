@@ -26,7 +26,7 @@ unfolding number_due
 returns c =
     let e = c.before.polygon-code.ensures in
     record {
-      is-due = e ∙ sym (no _ _ (ne_eqb (code_of c.before.before.args.p) 0 (λ z. c.if1.true (e ∙ z))));
+      is_due = e ∙ sym (no _ _ (ne_eqb (code_of c.before.before.args.p) 0 (λ z. c.if1.true (e ∙ z))));
       listed = λ z. absurd (c.if1.true z);
     }
 
@@ -48,7 +48,7 @@ unfolding number_due
 returns-2 c =
     let g = c.before.before.before in
     record {
-      is-due = sym (yes _ _ (eq-eqb (code_of (polygon g)) 0 (code_0 g)) ∙ yes _ _ (sym c.before.mark-candidates.ensures.searched.found ∙ c.if2.true));
+      is_due = sym (yes _ _ (eq-eqb (code_of (polygon g)) 0 (code_0 g)) ∙ yes _ _ (sym c.before.mark-candidates.ensures.searched.found ∙ c.if2.true));
       listed = λ z. absurd (omega (arith, z));
     }
 
@@ -60,7 +60,7 @@ returns-3 c =
     λ x y z hx hy hz. subst (λ (m : List ℕ). has m x y z ≡ false) (sym g.before.before.requires)
     (none_in 4096 (omega arith) (record { first = hx; second = hy; third = hz })) in
     record {
-      is-due = sym (yes _ _ (eq-eqb (code_of (polygon g)) 0 (code_0 g)) ∙ no _ _ (sym c.before.mark-candidates.ensures.searched.found ∙ c.if2.false));
+      is_due = sym (yes _ _ (eq-eqb (code_of (polygon g)) 0 (code_0 g)) ∙ no _ _ (sym c.before.mark-candidates.ensures.searched.found ∙ c.if2.false));
       listed = λ z. listed_are (polygon g) (valid g).most none c.if2.false c.before.mark-candidates.ensures;
     }
 

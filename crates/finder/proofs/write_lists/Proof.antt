@@ -58,7 +58,7 @@ block-starts-requires : tie.Need-block-starts-requires
 block-starts-requires c κs = (proper c.before.before).sorted.by_first
 
 write-lengths-requires : tie.Need-write-lengths-requires
-write-lengths-requires c κs = let g = c.before.before.before.before in (proper g, omega (arith, ap length (found_are g), (begin g).requires.1.for-weights))
+write-lengths-requires c κs = let g = c.before.before.before.before in (proper g, omega (arith, ap length (found_are g), (begin g).requires.1.for_weights))
 
 slice-reshare-prefix-write-rows : tie.Need-slice-reshare-prefix-write-rows
 slice-reshare-prefix-write-rows c = search rules
@@ -78,7 +78,7 @@ module _ (w : tie.After-write-lengths) where
   room =
       let L = lengths_of (polygon listed) (triangles listed) in
       let n = length-map (triangles listed) (λ t. length_of (face_normal (polygon listed) t)) in
-      let r = (begin listed).pre.1.for-weights in
+      let r = (begin listed).pre.1.for_weights in
       omega (arith, count_is listed, ap length made, filled_length L (begin listed).args.weights.now (omega (arith, n, r)), r)
 
   lengths_are : take (count listed) table ≡ lengths_of (polygon listed) (found listed)
@@ -97,7 +97,7 @@ write-rows-requires c κs =
       proper g,
       starts_of_lem (found g) (proper g).sorted.by_first w.before.before.block-starts.ensures,
       lengths_are w,
-      omega (arith, ap (λ (l : List (List ℕ)). length (rows_of (polygon g) l)) (found_are g), (begin g).pre.1.for-rows),
+      omega (arith, ap (λ (l : List (List ℕ)). length (rows_of (polygon g) l)) (found_are g), (begin g).pre.1.for_rows),
     )
 
 write-weights-requires : tie.Need-write-weights-requires
@@ -122,13 +122,13 @@ returns c =
     let g = listed w in
     let s = begin g in
     record {
-      the-candidates = g.list.ensures.1;
-      the-weights =
+      the_candidates = g.list.ensures.1;
+      the_weights =
           c.before.before.write-weights.ensures
           ∙ (λ i. filled (weights_of (polygon g) (found_are g i)) (made w i))
           ∙ filled_over (weights_of (polygon g) (triangles g)) (lengths_of (polygon g) (triangles g)) s.args.weights.now
           (length-map (triangles g) (own_weight (polygon g)) ∙ sym (length-map (triangles g) (λ t. length_of (face_normal (polygon g) t))));
-      the-rows = c.before.before.before.before.before.write-rows.ensures
+      the_rows = c.before.before.before.before.before.write-rows.ensures
           ∙ ap (λ (l : List (List ℕ)). filled (rows_of (polygon g) l) s.args.rows.now) (found_are g);
     }
 

@@ -48,7 +48,7 @@ module _ (g : tie.Else1) where
 -- so is the list
 module _ (g : tie.Else2) where
   abbrev of-job : tie.Else1
-  of-job = g.before.before
+  of_job = g.before.before
 
   listed : list_code (job (call of-job)) (call of-job).args.list.now (call of-job).args.stated ≡ 0
   listed = sym g.before.List-code.ensures ∙ g.if2.left

@@ -18,7 +18,7 @@ pencil-in : (c : tie.After-pencil-through) → PencilBounds c.pencil-through.res
 pencil-in c = subst (λ (k : Pencil). PencilBounds k) (sym c.pencil-through.ensures) (pencil_bounds c.before.requires.0 c.before.requires.1)
 
 axis-across-requires : tie.Need-axis-across-requires
-axis-across-requires c κs = (pencil-in c.before).normal-in
+axis-across-requires c κs = (pencil-in c.before).normal_in
 
 circumsphere-requires : tie.Need-circumsphere-requires
 circumsphere-requires c κs = (pencil-in c.before.before, across_bounds c.axis_across_lem.ensures)

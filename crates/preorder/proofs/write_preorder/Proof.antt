@@ -134,7 +134,7 @@ best-in-block-requires : tie.Need-best-in-block-requires invariant-loop decrease
 best-in-block-requires c κs =
     let s = call c.before in
     let w = whole c.before in
-    (s.pre.0.1, s.pre.0.0.rows-ascend, s.pre.0.2, omega (arith, w.order, w.within, s.pre.0.0.bounded.few))
+    (s.pre.0.1, s.pre.0.0.rows_ascend, s.pre.0.2, omega (arith, w.order, w.within, s.pre.0.0.bounded.few))
 
 mul-triangle : tie.Need-overflow-mul-triangle invariant-loop decreases-loop
 mul-triangle c = omega (arith, (call c.before.before).pre.0.0.few, (down c).valid)

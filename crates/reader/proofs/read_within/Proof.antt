@@ -23,7 +23,7 @@ refused-requires c κs = search rules
 returns : tie.Need-returns
 returns c =
     (c.refused.ensures ∙ answer_refused _ _ 1 (omega arith)
-    (length_due _ _ c.before.before.before.before.before.requires (sym c.before.before.length_wrong_lem.ensures ∙ c.before.if1.true)))
+    (length_due _ _ c.before.before.before.before.before.requires (sym c.before.before.wrong_length.ensures ∙ c.before.if1.true)))
 
 add-u16-at : tie.Need-overflow-add-u16-at
 add-u16-at c = record {
@@ -33,7 +33,7 @@ add-u16-at c = record {
 
 u16-at-requires : tie.Need-u16-at-requires
 u16-at-requires c κs =
-    let w = whole _ (sym c.before.before.length_wrong_lem.ensures ∙ c.before.if1.false) in
+    let w = whole _ (sym c.before.before.wrong_length.ensures ∙ c.before.if1.false) in
     omega (arith, header_as _ c.before.before.before.layout.ensures, w.header)
 
 refused-requires-2 : tie.Need-refused-requires-2
@@ -44,14 +44,14 @@ returns-2 c =
     let long = c.before.before.before.before in
     (c.refused2.ensures
     ∙ answer_refused _ _ 2 (omega arith)
-    (area_due _ _ long.before.before.before.before.requires (sym long.before.length_wrong_lem.ensures ∙ long.if1.false)
+    (area_due _ _ long.before.before.before.before.requires (sym long.before.wrong_length.ensures ∙ long.if1.false)
     (omega (arith, c.before.before.u16-at.ensures.0 ∙ number_as _ long.before.before.layout.ensures 4, c.before.if2.true))))
 
 follow-chain-requires : tie.Need-follow-chain-requires
 follow-chain-requires c κs =
     let long = c.before.before.before in (
       long.before.before.layout.ensures,
-      sym long.before.length_wrong_lem.ensures ∙ long.if1.false,
+      sym long.before.wrong_length.ensures ∙ long.if1.false,
       limit_most _ long.before.before.before.before.requires,
     )
 
@@ -64,7 +64,7 @@ returns-3 c =
     let long = area.before.before.before in
     (c.refused3.ensures
     ∙ answer_refused _ _ _ (positive _ c.before.if3.true)
-    (chain_due _ _ long.before.before.before.before.requires (sym long.before.length_wrong_lem.ensures ∙ long.if1.false)
+    (chain_due _ _ long.before.before.before.before.requires (sym long.before.wrong_length.ensures ∙ long.if1.false)
     (omega (arith, area.before.u16-at.ensures.0 ∙ number_as _ long.before.before.layout.ensures 4, area.if2.false))
     _ (positive _ c.before.if3.true) (sym (followed_code _ _ c.before.before.follow-chain.ensures))))
 
@@ -78,7 +78,7 @@ returns-4 c =
     let long = area.before.before.before in
     (c.refused4.ensures
     ∙ answer_refused _ _ 10 (omega arith)
-    (few_due _ _ long.before.before.before.before.requires (sym long.before.length_wrong_lem.ensures ∙ long.if1.false)
+    (few_due _ _ long.before.before.before.before.requires (sym long.before.wrong_length.ensures ∙ long.if1.false)
     (omega (arith, area.before.u16-at.ensures.0 ∙ number_as _ long.before.before.layout.ensures 4, area.if2.false))
     (sym (followed_code _ _ fine.before.follow-chain.ensures) ∙ fine.if3.false)
     (omega (arith, followed_count _ _ fine.before.follow-chain.ensures fine.if3.false, c.before.if4.true))))
@@ -100,7 +100,7 @@ returns-5 c =
     let long = area.before.before.before in
     (c.refused5.ensures
     ∙ answer_refused _ _ 11 (omega arith)
-    (repeated_due _ _ long.before.before.before.before.requires (sym long.before.length_wrong_lem.ensures ∙ long.if1.false)
+    (repeated_due _ _ long.before.before.before.before.requires (sym long.before.wrong_length.ensures ∙ long.if1.false)
     (omega (arith, area.before.u16-at.ensures.0 ∙ number_as _ long.before.before.layout.ensures 4, area.if2.false))
     (sym (followed_code _ _ fine.before.follow-chain.ensures) ∙ fine.if3.false)
     (omega (arith, followed_count _ _ fine.before.follow-chain.ensures fine.if3.false, enough.if4.false))
@@ -117,7 +117,7 @@ add-u16-at-2 c =
 u16-at-requires-2 : tie.Need-u16-at-requires-2
 u16-at-requires-2 c κs =
     let long = c.before.before.before.before.before.before.before.before.before.before.before in
-    let w = whole _ (sym long.before.length_wrong_lem.ensures ∙ long.if1.false) in
+    let w = whole _ (sym long.before.wrong_length.ensures ∙ long.if1.false) in
     omega (arith, header_as _ long.before.before.layout.ensures, w.header)
 
 returns-6 : tie.Need-returns-6
@@ -130,7 +130,7 @@ returns-6 c =
     let layout = long.before.before.layout.ensures in
     let followed = fine.before.follow-chain.ensures in
     (answer_complete _ _
-    (none_due _ _ long.before.before.before.before.requires (sym long.before.length_wrong_lem.ensures ∙ long.if1.false)
+    (none_due _ _ long.before.before.before.before.requires (sym long.before.wrong_length.ensures ∙ long.if1.false)
     (omega (arith, area.before.u16-at.ensures.0 ∙ number_as _ layout 4, area.if2.false))
     (sym (followed_code _ _ followed) ∙ fine.if3.false)
     (omega (arith, followed_count _ _ followed fine.if3.false, enough.if4.false))

@@ -104,9 +104,9 @@ module _ (g : tie.After-slice-known2 invariant-loop decreases-loop) where
   corners = record {
     valid = begin.pre.0.valid;
     corners = begin.pre.0.corners index below;
-    a-is = g.before.before.before.wide.ensures;
-    b-is = g.before.before.wide2.ensures;
-    c-is = g.before.wide3.ensures;
+    a_is = g.before.before.before.wide.ensures;
+    b_is = g.before.before.wide2.ensures;
+    c_is = g.before.wide3.ensures;
   }
 
   -- the length that stands there still
@@ -155,7 +155,7 @@ module _ (e : tie.After-edge-normals invariant-loop decreases-loop) where
   face_is = normal_is (corners read) refl
 
   edges_are : e.edge-normals.result ≡ edges_of (polygon read) (candidate read)
-  edges_are = e.edge-normals.ensures ∙ (λ i. edges_at (polygon read) ((corners read).a-is i) ((corners read).b-is i) ((corners read).c-is i))
+  edges_are = e.edge-normals.ensures ∙ (λ i. edges_at (polygon read) ((corners read).a_is i) ((corners read).b_is i) ((corners read).c_is i))
 
 mul-own-weight : tie.Need-overflow-mul-own-weight invariant-loop decreases-loop
 mul-own-weight c = let h = a<limit (corners (read c)) in omega arith
@@ -192,20 +192,20 @@ own-weight-requires c κs =
 
 -- the weight by the three edges is the own weight
 weight_is : (o : tie.After-own-weight invariant-loop decreases-loop) →
-    let g = read o.before.before.before.before in o.own_weight_lem.result ≡ own_weight (polygon g) (candidate g)
+    let g = read o.before.before.before.before in o.own_weights.result ≡ own_weight (polygon g) (candidate g)
 weight_is o =
     let e = o.before.before.before.before in
     let g = read e in
     let p = polygon g in
     let s = (begin g).pre.0 in
-    o.own_weight_lem.ensures
+    o.own_weights.ensures
     ∙ (λ i. own_weight_of p.area_factor p.bend_factor (face_is e i) (edges_are e i))
     ∙ own_weight_along_the_rim p (candidate g) (s.sorted.a<b (index g) (below g)) (s.sorted.b<c (index g) (below g)) (s.corners (index g) (below g)).c<n
 
 -- the weight that is written next
 next : (o : tie.After-own-weight invariant-loop decreases-loop) →
     let g = read o.before.before.before.before in
-    Writing (weights_of (polygon g) (list g)) (o.own_weight_lem.result ∷ map (own_weight (polygon g)) (drop (index g + 1) (list g)))
+    Writing (weights_of (polygon g) (list g)) (o.own_weights.result ∷ map (own_weight (polygon g)) (drop (index g + 1) (list g)))
     (begin g).args.weights.now 0 (table g) (index g)
 next o =
     let g = read o.before.before.before.before in

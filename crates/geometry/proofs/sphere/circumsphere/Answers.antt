@@ -15,7 +15,7 @@ use Rattle.geometry.proofs.sphere.circumsphere.Goals as goal
 -- the orientation, and whether it is 0
 held : (c : goal.After-dot-o) →
     Holds max_orient (dot_of c.args.pencil.normal c.args.t.vector) (bits c.dot-o.result)
-held c = let s = c in returned tt c.dot-o.ensures (at_most_dot s.requires.0.normal-in s.requires.1.vector-in)
+held c = let s = c in returned tt c.dot-o.ensures (at_most_dot s.requires.0.normal_in s.requires.1.vector_in)
 
 tested : (c : goal.After-dot-o) {b : Bool} → equal c.dot-o.result (pos 0) ≡ b →
     equal (dot_of c.args.pencil.normal c.args.t.vector) (pos 0) ≡ b
@@ -24,10 +24,10 @@ tested c e = ap (λ (o : ℤ). equal o (pos 0)) (sym c.dot-o.ensures) ∙ e
 crossed : (c : goal.After-cross-c) → Within max_crossed c.cross-c.result
 crossed c =
     let s = c in
-    within_as c.cross-c.ensures (within_cross s.requires.0.weighted-in s.requires.1.vector-in)
+    within_as c.cross-c.ensures (within_cross s.requires.0.weighted_in s.requires.1.vector_in)
 
 pub dot-o-requires : goal.dot-o-requires
-dot-o-requires c = let s = c in products_fit tt tt tt s.requires.0.normal-in s.requires.1.vector-in
+dot-o-requires c = let s = c in products_fit tt tt tt s.requires.0.normal_in s.requires.1.vector_in
 
 pub returns-then-o-eq0 : goal.returns-then-o-eq0
 returns-then-o-eq0 c =
@@ -36,19 +36,19 @@ returns-then-o-eq0 c =
     rw z
 
 pub cross-c-requires : goal.cross-c-requires
-cross-c-requires c = let s = c in products_fit tt tt tt s.requires.0.weighted-in s.requires.1.vector-in
+cross-c-requires c = let s = c in products_fit tt tt tt s.requires.0.weighted_in s.requires.1.vector_in
 
 pub scaled_sum-centre-requires : goal.scaled_sum-centre-requires
 scaled_sum-centre-requires c =
     let s = c in
-    (crossed (goal.at.scaled_sum-centre-requires c).After-cross-c, at_most_held (given tt s.requires.1.square-in), s.requires.0.normal-in)
+    (crossed (goal.at.scaled_sum-centre-requires c).After-cross-c, at_most_held (given tt s.requires.1.square_in), s.requires.0.normal_in)
 
 pub turn-requires : goal.turn-requires
 turn-requires c =
     let s = c in (
       at_most_held (held (goal.at.turn-requires c).After-dot-o),
       within_as c.scaled_sum-centre.ensures
-          (within_plus (crossed (goal.at.turn-requires c).After-cross-c) (within_scaled (at_most_held (given tt s.requires.1.square-in)) s.requires.0.normal-in)),
+          (within_plus (crossed (goal.at.turn-requires c).After-cross-c) (within_scaled (at_most_held (given tt s.requires.1.square_in)) s.requires.0.normal_in)),
     )
 
 pub returns : goal.returns
@@ -57,6 +57,6 @@ returns c =
     let k = (goal.at.returns c).After-dot-o in
     let z = tested k (other_bits k.dot-o.result c.if-o-eq0.false) in
     let o = (held k).value in
-    let l = (given tt s.requires.1.square-in).value in
+    let l = (given tt s.requires.1.square_in).value in
     let e = c.scaled_sum-centre.ensures ∙ (λ i. plus (c.cross-c.ensures i) (scaled_by (l i) s.args.pencil.normal)) in
     c.turn.ensures ∙ (λ i. turned (o i) (e i)) ∙ rw z

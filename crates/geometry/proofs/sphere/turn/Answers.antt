@@ -9,13 +9,13 @@ nothing : Holds 0 (pos 0) (pos 0)
 nothing = record { value = refl; bound = record { size = lib.Dec.lit≤ tt } }
 
 pub overflow_sub-centre : goal.overflow_sub-centre
-overflow_sub-centre c = fits tt (nothing -! given tt c.requires.1.in-x)
+overflow_sub-centre c = fits tt (nothing -! given tt c.requires.1.in_x)
 
 pub overflow_sub-centre-then-o-lt0 : goal.overflow_sub-centre-then-o-lt0
-overflow_sub-centre-then-o-lt0 c = fits tt (nothing -! given tt c.requires.1.in-y)
+overflow_sub-centre-then-o-lt0 c = fits tt (nothing -! given tt c.requires.1.in_y)
 
 pub overflow_sub-centre-then-o-lt0-2 : goal.overflow_sub-centre-then-o-lt0-2
-overflow_sub-centre-then-o-lt0-2 c = fits tt (nothing -! given tt c.requires.1.in-z)
+overflow_sub-centre-then-o-lt0-2 c = fits tt (nothing -! given tt c.requires.1.in_z)
 
 pub overflow_sub-result : goal.overflow_sub-result
 overflow_sub-result c = fits tt (nothing -! given tt c.requires.0)
@@ -27,9 +27,9 @@ returns-then-o-lt0 c =
     (λ i. record {
       orient = (stored tt (nothing -! given tt s.requires.0)).value i;
       centre = record {
-        x = (stored tt (nothing -! given tt s.requires.1.in-x)).value i;
-        y = (stored tt (nothing -! given tt s.requires.1.in-y)).value i;
-        z = (stored tt (nothing -! given tt s.requires.1.in-z)).value i;
+        x = (stored tt (nothing -! given tt s.requires.1.in_x)).value i;
+        y = (stored tt (nothing -! given tt s.requires.1.in_y)).value i;
+        z = (stored tt (nothing -! given tt s.requires.1.in_z)).value i;
       };
     })
     ∙ rw t

@@ -35,7 +35,7 @@ element-copy-out-t : tie.Need-element-copy-out-t invariant-loop decreases-loop
 element-copy-out-t c = search rules
 
 lower-bound-requires : tie.Need-lower-bound-requires invariant-loop decreases-loop
-lower-bound-requires c κs = c.before.before.before.before.requires.0.0.rows-ascend
+lower-bound-requires c κs = c.before.before.before.before.requires.0.0.rows_ascend
 
 loop-holds : tie.Need-loop-init invariant-loop decreases-loop
 loop-holds c =
@@ -59,13 +59,13 @@ module _ (c : tie.After-run-end invariant-loop decreases-loop) where
   turn = c.before.before
 
   within : c.run-end.result ≤ length call.args.rows.now
-  within = run_within turn.loop.t call.pre.0.0.rows-ascend turn.loop.inv.1 c.run-end.ensures
+  within = run_within turn.loop.t call.pre.0.0.rows_ascend turn.loop.inv.1 c.run-end.ensures
 
   upward : turn.loop.first ≤ c.run-end.result
-  upward = run_order turn.loop.t call.pre.0.0.rows-ascend turn.loop.inv.1 c.run-end.ensures
+  upward = run_order turn.loop.t call.pre.0.0.rows_ascend turn.loop.inv.1 c.run-end.ensures
 
 mul-run : tie.Need-overflow-mul-run invariant-loop decreases-loop
-mul-run c = omega (arith, upward c, within c, (call c).well-formed)
+mul-run c = omega (arith, upward c, within c, (call c).well_formed)
 
 sub-run : tie.Need-overflow-sub-run invariant-loop decreases-loop
 sub-run c = omega (arith, upward c)

@@ -56,7 +56,7 @@ returns-3 c =
     (over_due s.requires.2 (omega (arith, past.before.record-count.ensures.0, past.if1.false))
     (whole _ s.requires.1).few c.before.before.before.if2.false
     (omega (arith, c.before.before.if3.true, s.requires.2.within, s.requires.4)))
-    (c.stop3.ensures ∙ c.before.over_limit_lem.ensures)
+    (c.stop3.ensures ∙ c.before.above_limit.ensures)
 
 record-start-requires : tie.Need-record-start-requires
 record-start-requires c κs =
@@ -80,7 +80,7 @@ vertex-at-requires c κs =
         record_held _ s.requires.0 (whole _ s.requires.1) s.args.walk.link (positive _ s.requires.3)
             (omega (arith, past.before.record-count.ensures.0, past.if1.false)),
       ),
-      s.requires.2.on-grid,
+      s.requires.2.on_grid,
     )
 
 enum-known-code : tie.Need-enum-known-code

@@ -9,10 +9,10 @@ in-range-requires : tie.Need-in-range-requires
 in-range-requires c κs = search rules
 
 returns : tie.Need-returns
-returns c = sym (yes 0 18 (sym c.before.in_range_lem.ensures ∙ c.if1.true))
+returns c = sym (yes 0 18 (sym c.before.ranged.ensures ∙ c.if1.true))
 
 returns-2 : tie.Need-returns-2
-returns-2 c = sym (no 0 18 (sym c.before.in_range_lem.ensures ∙ c.if1.false))
+returns-2 c = sym (no 0 18 (sym c.before.ranged.ensures ∙ c.if1.false))
 
 pub normal-code-spec : {M : Type 1} → statement M
 normal-code-spec = tie.close (tie.spec in-range-requires returns returns-2)

@@ -23,7 +23,7 @@ loop-holds : tie.Need-loop-init invariant-loop decreases-loop
 loop-holds c =
     let s = c.before in
     let l = s.args.list.now in
-    (refl, omega arith, record { on-between = zeros_sums _ l s.requires.1; on-outside = zeros_sums _ l s.requires.2 })
+    (refl, omega arith, record { on_between = zeros_sums _ l s.requires.1; on_outside = zeros_sums _ l s.requires.2 })
 
 -- in a turn: the call, and the triangle that the list names
 module _ (g : tie.In-loop invariant-loop decreases-loop) where
@@ -64,13 +64,13 @@ add-between-requires : tie.Need-add-between-requires invariant-loop decreases-lo
 add-between-requires c κs =
     let g = c.before.before.before in
     let l = g.before.loop in
-    (a_few g, (triangle g).few, between_room _ _ (call g).requires.0 l.invariant.1 l.invariant.2.on-between _ _ (a_few g) (triangle g).few)
+    (a_few g, (triangle g).few, between_room _ _ (call g).requires.0 l.invariant.1 l.invariant.2.on_between _ _ (a_few g) (triangle g).few)
 
 add-outside-requires : tie.Need-add-outside-requires invariant-loop decreases-loop
 add-outside-requires c κs =
     let g = c.before.before.before.before.before in
     let l = g.before.loop in
-    let room = outside_room _ _ (call g).requires.0 l.invariant.1 l.invariant.2.on-outside in
+    let room = outside_room _ _ (call g).requires.0 l.invariant.1 l.invariant.2.on_outside in
     ((triangle g).ab, b_few g, (triangle g).few, room _ _ (a_few g) (b_few g), room _ _ (b_few g) (triangle g).few)
 
 add-i : tie.Need-overflow-add-i invariant-loop decreases-loop
@@ -86,8 +86,8 @@ loop-again c =
       l.invariant.0,
       omega (arith, listed g),
       record {
-        on-between = between_next _ _ (call g).requires.0 (listed g) l.invariant.2.on-between c.before.before.add-between.ensures;
-        on-outside = outside_next _ _ (call g).requires.0 (listed g) l.invariant.2.on-outside c.add-outside.ensures;
+        on_between = between_next _ _ (call g).requires.0 (listed g) l.invariant.2.on_between c.before.before.add-between.ensures;
+        on_outside = outside_next _ _ (call g).requires.0 (listed g) l.invariant.2.on_outside c.add-outside.ensures;
       },
     )
 

@@ -27,7 +27,7 @@ cast-total : tie.Need-overflow-cast-total invariant-loop decreases-loop
 cast-total c = omega arith
 
 add_total : tie.Need-overflow-add-total invariant-loop decreases-loop
-add_total c = let s = c.before.before.before.before in omega (arith, s.requires.0.short-list)
+add_total c = let s = c.before.before.before.before in omega (arith, s.requires.0.short_list)
 
 add-k : tie.Need-overflow-add-k invariant-loop decreases-loop
 add-k c = omega arith
@@ -54,7 +54,7 @@ returns c =
     let e : l.k ≡ length a.list.now = omega arith in (
       l.invariant.2 ∙ ap (λ (k : ℕ). sum (hanging_row a.candidates.now a.rows.now a.o) (take k a.list.now)) e
           ∙ ap (sum (hanging_row a.candidates.now a.rows.now a.o)) (take-length a.list.now),
-      omega (arith, s.requires.0.short-list),
+      omega (arith, s.requires.0.short_list),
     )
 
 pub hanging-rows-spec : {M : Type 1} → statement M

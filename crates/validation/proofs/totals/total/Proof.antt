@@ -65,7 +65,7 @@ add-total-2 : tie.Need-overflow-add-total-2 invariant-loop decreases-loop
 add-total-2 c =
     let s = c.before.before.before.before.before.before.before in
     let l = c.before.before.before.before.loop in
-    omega (arith, c.hanging-rows.ensures.1, c.before.shared-slice-known4.given (get_or s.args.list.now l.k 0), s.requires.0.short-list)
+    omega (arith, c.hanging-rows.ensures.1, c.before.shared-slice-known4.given (get_or s.args.list.now l.k 0), s.requires.0.short_list)
 
 add-k : tie.Need-overflow-add-k invariant-loop decreases-loop
 add-k c = omega arith
