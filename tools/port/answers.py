@@ -141,7 +141,10 @@ def turn_paths(names, text):
         fields = m.group(2)[1:].split(".")
         return path_in(names, m.group(1), fields) or m.group(0)
 
-    return PATH.sub(put, text)
+    text = PATH.sub(put, text)
+    for v in set(re.findall(r"\blet (\w+) = [\w.'-]+\.args in", text)):
+        text = re.sub(r"(?<![\w.'-])" + v + r"\.(t\d+)\b", lambda m: v + "." + names.args.get(m.group(1), m.group(1)), text)
+    return text
 
 
 def placed(names, goal, typed, text):

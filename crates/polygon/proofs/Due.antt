@@ -155,6 +155,9 @@ module _ (p : Polygon) where
             before _ j (by_place header_rim) d = no_header j d
             before _ j (by_place (vertex_rim {i})) d = no_vertex i j d
             before _ j (by_number l) d = number j l d
+            before q j (by_place x10) d = elim x10 [ ]
+            before q j (by_place x10) d = elim x10 [ ]
+            before q j (by_place x10) d = elim x10 [ ]
 
         ten_first : p.n < min_vertices → First (PolygonDue p) 10
         ten_first h = rim_first 10 (too_few h) number

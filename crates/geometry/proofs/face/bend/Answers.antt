@@ -33,7 +33,7 @@ ratio! c =
     let s = c in
     let q = c.floor_div in
     c.clamp-q.ensures
-    ∙ ap (clamped (negsuc 999) (pos 1000)) (to_z-of_z w64 q.result (record { sfits = q.type-inv }) ∙ q.ensures
+    ∙ ap (clamped (negsuc 999) (pos 1000)) (to_z-of_z w64 q.result (record { sfits = q.type_inv }) ∙ q.ensures
     ∙ (λ i. floor_div ((stored tt (dividend s dividend_scale)).value i) (nat_abs ((stored tt (divisor s)).value i))))
 
 bend! : (c : goal.After-clamp-q) → Holds max_bend (pos (bend_of c.args.d c.args.m c.args.k))
@@ -41,7 +41,7 @@ bend! : (c : goal.After-clamp-q) → Holds max_bend (pos (bend_of c.args.d c.arg
 bend! c =
     let s = c in
     record {
-      value = ap (λ (z : ℤ). pos 1000 -ℤ z) (to_z-of_z w64 c.clamp-q.result (record { sfits = c.clamp-q.type-inv }) ∙ ratio! c)
+      value = ap (λ (z : ℤ). pos 1000 -ℤ z) (to_z-of_z w64 c.clamp-q.result (record { sfits = c.clamp-q.type_inv }) ∙ ratio! c)
           ∙ sym (bend_is s.args.d s.args.m s.args.k);
       bound = natural (bend_bound s.args.d s.args.m s.args.k);
     }

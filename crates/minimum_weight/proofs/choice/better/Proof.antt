@@ -34,7 +34,7 @@ cast-row : tie.Need-overflow-cast-row
 cast-row c = search rules
 
 add-cost : tie.Need-overflow-add-cost
-add-cost c = omega (arith, c.before.if2.false, c.before.before.before.before.before.before.before.requires.3, c.row-weight.type-inv)
+add-cost c = omega (arith, c.before.if2.false, c.before.before.before.before.before.before.before.requires.3, c.row-weight.type_inv)
 
 returns-3 : tie.Need-returns-3
 returns-3 c =

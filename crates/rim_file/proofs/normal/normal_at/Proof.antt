@@ -53,9 +53,9 @@ returns-2 c =
     let x : c.before.before.i16-at.result ≡ i16_at s (start.args.at + 16) = c.before.before.i16-at.ensures in
     let y : c.before.i16-at2.result ≡ i16_at s (start.args.at + 18) = c.before.i16-at2.ensures in
     let z : c.i16-at3.result ≡ i16_at s (start.args.at + 20) = c.i16-at3.ensures in
-    let x' = to_z-of_z (record { sfits = c.before.before.i16-at.type-inv }) ∙ x in
-    let y' = to_z-of_z (record { sfits = c.before.i16-at2.type-inv }) ∙ y in
-    let z' = to_z-of_z (record { sfits = c.i16-at3.type-inv }) ∙ z in
+    let x' = to_z-of_z (record { sfits = c.before.before.i16-at.type_inv }) ∙ x in
+    let y' = to_z-of_z (record { sfits = c.before.i16-at2.type_inv }) ∙ y in
+    let z' = to_z-of_z (record { sfits = c.i16-at3.type_inv }) ∙ z in
     (λ i. normal (x' i) (y' i) (z' i)) ∙ sym (normal_2 s start.args.at (size_edition2 s start.requires.0 c.before.before.before.if1.false))
 
 pub normal-at-spec : {M : Type 1} → statement M

@@ -95,11 +95,11 @@ value-of-requires-3 c κs = search rules
 
 new-requires : tie.Need-new-requires
 new-requires c κs = (
-  subst OnGrid (sym (machine_holds c.before.before.value_of_lem.type-inv c.before.before.value_of_lem.ensures))
+  subst OnGrid (sym (machine_holds c.before.before.value_of_lem.type_inv c.before.before.value_of_lem.ensures))
       c.before.before.before.before.before.before.before.before.before.before.before.before.before.before.before.requires.0,
-  subst OnGrid (sym (machine_holds c.before.value-of2.type-inv c.before.value-of2.ensures))
+  subst OnGrid (sym (machine_holds c.before.value-of2.type_inv c.before.value-of2.ensures))
       c.before.before.before.before.before.before.before.before.before.before.before.before.before.before.before.requires.1,
-  subst OnGrid (sym (machine_holds c.value-of3.type-inv c.value-of3.ensures))
+  subst OnGrid (sym (machine_holds c.value-of3.type_inv c.value-of3.ensures))
       c.before.before.before.before.before.before.before.before.before.before.before.before.before.before.before.requires.2,
 )
 
@@ -108,9 +108,9 @@ returns-7 c =
     ap At
     (c.new.ensures
     ∙ same_point
-    (machine_holds c.before.before.before.value_of_lem.type-inv c.before.before.before.value_of_lem.ensures)
-    (machine_holds c.before.before.value-of2.type-inv c.before.before.value-of2.ensures)
-    (machine_holds c.before.value-of3.type-inv c.before.value-of3.ensures))
+    (machine_holds c.before.before.before.value_of_lem.type_inv c.before.before.before.value_of_lem.ensures)
+    (machine_holds c.before.before.value-of2.type_inv c.before.before.value-of2.ensures)
+    (machine_holds c.before.value-of3.type_inv c.before.value-of3.ensures))
     ∙ sym
     (values_placed _ _ _
     (holds_via c.before.before.before.before.before.before.before.before.before.before.before.before.before.before.before.is_finite.ensures c.before.before.before.before.before.before.before.before.before.before.before.before.before.before.if1.false)

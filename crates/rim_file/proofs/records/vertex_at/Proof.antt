@@ -28,7 +28,7 @@ height-of-requires c κs = search rules
 
 level-point-requires : tie.Need-level-point-requires
 level-point-requires c κs =
-    subst OnGrid (sym (machine_holds c.height-of.type-inv c.height-of.ensures)) c.before.before.before.before.before.before.before.requires.1
+    subst OnGrid (sym (machine_holds c.height-of.type_inv c.height-of.ensures)) c.before.before.before.before.before.before.before.requires.1
 
 enum-known-code : tie.Need-enum-known-code
 enum-known-code c = search rules
@@ -46,7 +46,7 @@ returns-2 : tie.Need-returns-2
 returns-2 c =
     c.level-point.ensures
     ∙ ap (λ h. vertex_of (Level c.before.before.before.x.given.0.0 c.before.before.before.x.given.0.1.0) h)
-    (machine_holds c.before.height-of.type-inv c.before.height-of.ensures)
+    (machine_holds c.before.height-of.type_inv c.before.height-of.ensures)
     ∙ ap (λ r. vertex_of r (height_of c.before.before.before.before.before.before.before.before.args.height))
     (sym c.before.before.before.x.given.1 ∙ c.before.before.before.before.before.decode.ensures
     ∙ ap (λ k. record_at c.before.before.before.before.before.before.before.before.args.s.now
