@@ -2,7 +2,7 @@
 use mathlib.Core.Path.{◌≡◌, sym, ◌∙◌, ap}
 use mathlib.Core.Bool.{Bool, true, false}
 use mathlib.Core.List.{◌++◌}
-use Prim.Native.Nat.{ℕ, ◌+◌, ◌-◌, ◌<◌}
+use Prim.Native.Nat.{ℕ, ◌+◌, ◌<◌}
 use native.Mathlib.Omega.{arith}
 use Rattle.lists.specs.Lists.{when}
 use Rattle.lists.proofs.Ranges.{over_step, over_end}
@@ -24,18 +24,18 @@ loop-x-preserved c =
     let a = l.args in
     let P = has a.masks.now in
     elim c.if-contains.branch [
-        then-contains w ↦ (
-          omega (arith, w.count-is, l.loop-x.invariant.0),
-          count_moved w.count-is
-              (count_push (count_turn (one P a.i a.j l.loop-x.x {t = true} (omega arith) (sym w.if-contains.true ∙ c.contains.ensures))
-              l.loop-x.invariant.1)),
-        )
+      | then-contains w ↦ (
+        omega (arith, w.count-is, l.loop-x.invariant.0),
+        count_moved w.count-is
+            (count_push (count_turn (one P a.i a.j l.loop-x.x {t = true} (omega arith) (sym w.if-contains.true ∙ c.contains.ensures))
+            l.loop-x.invariant.1)),
+      )
       | else-contains w ↦ (
-          omega (arith, w.count-is, l.loop-x.invariant.0),
-          count_moved w.count-is
-              (count_turn (one P a.i a.j l.loop-x.x {t = false} (omega arith) (sym w.if-contains.false ∙ c.contains.ensures))
-              l.loop-x.invariant.1),
-        )
+        omega (arith, w.count-is, l.loop-x.invariant.0),
+        count_moved w.count-is
+            (count_turn (one P a.i a.j l.loop-x.x {t = false} (omega arith) (sym w.if-contains.false ∙ c.contains.ensures))
+            l.loop-x.invariant.1),
+      )
     ]
 
 pub returns : goal.returns

@@ -1,6 +1,6 @@
 use mathlib.Core.Bool.{Bool}
 use mathlib.Core.List.{List}
-use Prim.Native.Nat.{ℕ, ◌-◌, ◌≤◌}
+use Prim.Native.Nat.{ℕ, ◌≤◌}
 use Rattle.lists.specs.Lists.{over, when}
 use Rattle.lists.proofs.Counting.{Counting}
 use Rattle.faces.specs.Masks.{has}

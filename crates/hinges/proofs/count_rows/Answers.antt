@@ -1,8 +1,8 @@
 -- `hinges::count_rows` meets its contract, by what is left to count at each loop's head. Assumes nothing.
 use mathlib.Core.Path.{◌≡◌, sym, ◌∙◌, ap}
-use mathlib.Core.Bool.{Bool, true, false}
+use mathlib.Core.Bool.{true, false}
 use mathlib.Core.List.{◌++◌}
-use Prim.Native.Nat.{ℕ, ◌+◌, ◌-◌, ◌≤◌}
+use Prim.Native.Nat.{ℕ, ◌+◌, ◌≤◌}
 use native.Mathlib.Omega.{arith}
 use lib.ListN.{length, length-append}
 use Rattle.lists.proofs.Counting.{Counting, count_start, count_turn, count_part, count_moved, count_all}
@@ -20,7 +20,7 @@ counted :
     x ≡ length (beneath (has s.args.masks.now) s.loop-a.a s.loop-b.b) →
     y ≡ length (beneath (has s.args.masks.now) s.loop-b.b s.loop-c.c) →
     Counting (left1 s.args.n (hung (has s.args.masks.now)) 0)
-        (left3 s.args.n (hung (has s.args.masks.now)) s.loop-a.a s.loop-b.b (s.loop-c.c + 1)) (s.loop-c.count + (x + y))
+    (left3 s.args.n (hung (has s.args.masks.now)) s.loop-a.a s.loop-b.b (s.loop-c.c + 1)) (s.loop-c.count + (x + y))
 counted s t on-x beside-y =
     let P = has s.args.masks.now in
     let on = beneath P s.loop-a.a s.loop-b.b in
@@ -62,10 +62,10 @@ loop-c-preserved c =
     let m = l in
     let u = m in
     elim c.if-contains.branch [
-        then-contains w ↦ count_moved w.count-is (counted (goal.at.loop-c-preserved c).After-contains w.if-contains.true
-            w.count_beneath-first.ensures w.count_beneath-second.ensures)
+      | then-contains w ↦ count_moved w.count-is (counted (goal.at.loop-c-preserved c).After-contains w.if-contains.true
+          w.count_beneath-first.ensures w.count_beneath-second.ensures)
       | else-contains w ↦ count_moved w.count-is (count_turn (next_hung u.args.n (has u.args.masks.now) u.loop-a.a m.loop-b.b
-            l.loop-c.c {t = false} (omega arith) (sym w.if-contains.false ∙ c.contains.ensures)) l.loop-c.invariant)
+          l.loop-c.c {t = false} (omega arith) (sym w.if-contains.false ∙ c.contains.ensures)) l.loop-c.invariant)
     ]
 
 pub loop-b-preserved : goal.loop-b-preserved

@@ -1,4 +1,3 @@
-use Prim.Native.Nat.{◌-◌}
 use Rattle.lists.proofs.Counting.{Counting}
 use Rattle.faces.specs.Masks.{has}
 use Rattle.faces.proofs.Triples.{left1, left2, left3}
