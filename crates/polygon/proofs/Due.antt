@@ -98,6 +98,7 @@ module _ (p : Polygon) where
 
         before : (q : PolygonPlace) (j : ℕ) → Precedes PolygonBefore q j header 5 → PolygonDue p q j → ⊥
         before _ j (by_number l) d = number j l d
+        before q j (by_place x10) d = elim x10 [ ]
 
     module _ (few : ltb max_vertices p.n ≡ false) where
       no_header : (j : ℕ) → PolygonDue p header j → ⊥
@@ -155,9 +156,6 @@ module _ (p : Polygon) where
             before _ j (by_place header_rim) d = no_header j d
             before _ j (by_place (vertex_rim {i})) d = no_vertex i j d
             before _ j (by_number l) d = number j l d
-            before q j (by_place x10) d = elim x10 [ ]
-            before q j (by_place x10) d = elim x10 [ ]
-            before q j (by_place x10) d = elim x10 [ ]
 
         ten_first : p.n < min_vertices → First (PolygonDue p) 10
         ten_first h = rim_first 10 (too_few h) number

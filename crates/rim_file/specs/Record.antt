@@ -1,7 +1,6 @@
 -- One record: what it decodes to, its vertex or the first number due on it, and its normal. Definitions only.
 use Rattle.std.specs.Prelude.{ℕ, suc, zero, ◌+◌, Bool, true, false, cond, List, [], ◌∷◌, ℤ, pos, eqb, Float}
 use Rattle.lists.specs.Sums.{all_of}
-use Rattle.lists.specs.Lists.{both}
 use Rattle.grid.specs.Number.{finite, in_range, round_eighths}
 use Rattle.grid.specs.Point.{point}
 use Rattle.grid.specs.declared.GridPoint.{GridPoint}

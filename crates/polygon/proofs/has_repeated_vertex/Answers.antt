@@ -1,12 +1,15 @@
 -- `polygon::has_repeated_vertex` meets its contract. Assumes nothing.
-use mathlib.Core.Path.{◌≡◌, sym, ◌∙◌}
+use mathlib.Core.Path.{◌≡◌, refl, sym, ◌∙◌}
 use mathlib.Core.Bool.{true, false}
-use Prim.Native.Nat.{◌-◌}
 use native.Mathlib.Omega.{arith}
 use Rattle.lists.proofs.Ranges.{some_on, some_stop, some_end}
-use Rattle.polygon.specs.Polygon.{vertex_at, same_point}
+use Rattle.polygon.specs.Polygon.{vertex_at, repeated_vertex}
 use Rattle.polygon.proofs.has_repeated_vertex.Invariants.{same, again}
 use Rattle.polygon.proofs.has_repeated_vertex.Goals as goal
+
+pub loop-j-init : goal.loop-j-init
+unfolding repeated_vertex
+loop-j-init c = (omega arith, refl)
 
 pub returns-then-same_point : goal.returns-then-same_point
 returns-then-same_point c =

@@ -1,7 +1,7 @@
 use mathlib.Core.Path.{◌≡◌}
 use mathlib.Core.Bool.{Bool}
 use mathlib.Core.List.{List}
-use Prim.Native.Nat.{ℕ, ◌≤◌, ◌-◌}
+use Prim.Native.Nat.{ℕ, ◌≤◌}
 use Rattle.grid.specs.declared.GridPoint.{GridPoint}
 use Rattle.lists.specs.Lists.{some}
 use Rattle.polygon.specs.Polygon.{vertex_at, same_point, repeated_vertex}
