@@ -36,10 +36,10 @@ loop-k-preserved c =
     let n = u.args.n in
     let P = has u.args.masks.now in
     elim c.if-contains.branch [
-        then-contains w ↦ count_moved w.count_is (count_push (count_turn (next_listed n P u.loop-i.i m.loop-j.j l.loop-k.k {t = true}
-        (omega arith) (sym w.if-contains.true ∙ c.contains.ensures)) l.loop-k.invariant))
-      | else-contains w ↦ count_moved w.count_is (count_turn (next_listed n P u.loop-i.i m.loop-j.j l.loop-k.k {t = false}
-        (omega arith) (sym w.if-contains.false ∙ c.contains.ensures)) l.loop-k.invariant)
+      | then-contains w ↦ count_moved w.count-is (count_push (count_turn (next_listed n P u.loop-i.i m.loop-j.j l.loop-k.k {t = true}
+          (omega arith) (sym w.if-contains.true ∙ c.contains.ensures)) l.loop-k.invariant))
+      | else-contains w ↦ count_moved w.count-is (count_turn (next_listed n P u.loop-i.i m.loop-j.j l.loop-k.k {t = false}
+          (omega arith) (sym w.if-contains.false ∙ c.contains.ensures)) l.loop-k.invariant)
     ]
 
 pub loop-j-preserved : goal.loop-j-preserved

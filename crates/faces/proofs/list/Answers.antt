@@ -44,9 +44,9 @@ loop-c-preserved c =
     let m = l in
     let u = m in
     elim c.if-contains.branch [
-        then-contains w ↦ moved w.out-is w.count_is (push (written (goal.at.loop-c-preserved c).After-contains w.if-contains.true))
-      | else-contains w ↦ moved w.out-is w.count_is (turn (next_listed u.args.n (has u.args.masks.now) u.loop-a.a m.loop-b.b
-        l.loop-c.c {t = false} (omega arith) (sym w.if-contains.false ∙ c.contains.ensures)) l.loop-c.invariant)
+      | then-contains w ↦ moved w.out-is w.count-is (push (written (goal.at.loop-c-preserved c).After-contains w.if-contains.true))
+      | else-contains w ↦ moved w.out-is w.count-is (turn (next_listed u.args.n (has u.args.masks.now) u.loop-a.a m.loop-b.b
+          l.loop-c.c {t = false} (omega arith) (sym w.if-contains.false ∙ c.contains.ensures)) l.loop-c.invariant)
     ]
 
 pub loop-b-preserved : goal.loop-b-preserved

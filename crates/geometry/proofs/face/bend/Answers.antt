@@ -14,40 +14,37 @@ use Rattle.geometry.specs.Faces.{dividend_scale, ratio_of, bend_of}
 use Rattle.integers.proofs.Rounding.{product_above_0}
 use Rattle.integers.proofs.Bounds.{Holds, bits, literal, given, stored, fits, signed_fits, at_most_held, at_most_le, ◌*!◌}
 use Rattle.geometry.proofs.Bends.{bend_is, bend_bound}
-use Rattle.geometry.proofs.face.bend.Goals.{After-clamp-q, Start}
+use Rattle.geometry.proofs.face.bend.Goals.{After-clamp-q}
 use Rattle.geometry.proofs.face.bend.Goals as goal
 
 natural : {n m : ℕ} → m ≤ n → AtMost n (pos m)
 natural h = record { size = h }
 
-module _ (s : goal.Start) where
-  dividend : (k : ℕ) → Holds (k * max_dot) (pos k *ℤ s.args.d) (pos k *ℤ bits s.args.d)
-  dividend k = literal k *! given tt s.requires.0
+dividend : {d : ℤ} → AtMost max_dot d → (k : ℕ) → Holds (k * max_dot) (pos k *ℤ d) (pos k *ℤ bits d)
+dividend h k = literal k *! given tt h
 
-  divisor : Holds (max_length * max_length) (pos (s.args.m * s.args.k)) (bits (pos s.args.m) *ℤ bits (pos s.args.k))
-  divisor = given tt (natural s.requires.2) *! given tt (natural s.requires.4)
+divisor : {m k : ℕ} → m ≤ max_length → k ≤ max_length → Holds (max_length * max_length) (pos (m * k)) (bits (pos m) *ℤ bits (pos k))
+divisor h l = given tt (natural h) *! given tt (natural l)
 
 ratio! : (c : goal.After-clamp-q) → c.clamp-q.result ≡ ratio_of c.args.d c.args.m c.args.k
 unfolding ratio_of
 ratio! c =
-    let s = c in
     let q = c.floor_div in
     c.clamp-q.ensures
     ∙ ap (clamped (negsuc 999) (pos 1000)) (to_z-of_z w64 q.result (record { sfits = q.type_inv }) ∙ q.ensures
-    ∙ (λ i. floor_div ((stored tt (dividend s dividend_scale)).value i) (nat_abs ((stored tt (divisor s)).value i))))
+    ∙ (λ i. floor_div ((stored tt (dividend c.requires.0 dividend_scale)).value i) (nat_abs ((stored tt (divisor c.requires.2 c.requires.4)).value i))))
 
 bend! : (c : goal.After-clamp-q) → Holds max_bend (pos (bend_of c.args.d c.args.m c.args.k))
     (pos 1000 -ℤ bits c.clamp-q.result)
 bend! c =
-    let s = c in
     record {
       value = ap (λ (z : ℤ). pos 1000 -ℤ z) (to_z-of_z w64 c.clamp-q.result (record { sfits = c.clamp-q.type_inv }) ∙ ratio! c)
-          ∙ sym (bend_is s.args.d s.args.m s.args.k);
-      bound = natural (bend_bound s.args.d s.args.m s.args.k);
+          ∙ sym (bend_is c.args.d c.args.m c.args.k);
+      bound = natural (bend_bound c.args.d c.args.m c.args.k);
     }
 
 pub overflow_mul-n : goal.overflow_mul-n
-overflow_mul-n c = fits tt (dividend (goal.at.overflow_mul-n c).Start _)
+overflow_mul-n c = fits tt (dividend c.requires.0 _)
 
 pub overflow_cast-w : goal.overflow_cast-w
 overflow_cast-w c = signed_fits tt (natural c.requires.2)
@@ -56,12 +53,12 @@ pub overflow_cast-w-2 : goal.overflow_cast-w-2
 overflow_cast-w-2 c = signed_fits tt (natural c.requires.4)
 
 pub overflow_mul-w : goal.overflow_mul-w
-overflow_mul-w c = fits tt (divisor (goal.at.overflow_mul-w c).Start)
+overflow_mul-w c = fits tt (divisor c.requires.2 c.requires.4)
 
 pub floor_div-requires : goal.floor_div-requires
 floor_div-requires c = (
-  at_most_le tt (at_most_held (stored tt (dividend (goal.at.floor_div-requires c).Start _))),
-  subst (λ (z : ℤ). pos 0 <ℤ z) (sym (stored tt (divisor (goal.at.floor_div-requires c).Start)).value)
+  at_most_le tt (at_most_held (stored tt (dividend c.requires.0 _))),
+  subst (λ (z : ℤ). pos 0 <ℤ z) (sym (stored tt (divisor c.requires.2 c.requires.4)).value)
       (record { lt = lt→ltb 0 _ (product_above_0 c.args.m c.args.k c.requires.1 c.requires.3) }),
 )
 

@@ -11,26 +11,23 @@ use Rattle.geometry.proofs.facet.separates.Goals as goal
 
 -- the two orientations
 module _ (c : goal.After-dot-j) where
-  abbrev start : goal.Start
-  start = c
+  first : bits c.dot-i.result ≡ dot_of c.args.pencil.normal c.args.s.vector
+  first = (returned tt c.dot-i.ensures (at_most_dot c.requires.0.normal_in c.requires.1.vector_in)).value
 
-  first : bits c.dot-i.result ≡ dot_of start.args.pencil.normal start.args.s.vector
-  first = (returned tt c.dot-i.ensures (at_most_dot start.requires.0.normal_in start.requires.1.vector_in)).value
+  second : bits c.dot-j.result ≡ dot_of c.args.pencil.normal c.args.w.vector
+  second = (returned tt c.dot-j.ensures (at_most_dot c.requires.0.normal_in c.requires.2.vector_in)).value
 
-  second : bits c.dot-j.result ≡ dot_of start.args.pencil.normal start.args.w.vector
-  second = (returned tt c.dot-j.ensures (at_most_dot start.requires.0.normal_in start.requires.2.vector_in)).value
-
-  negative : {b : Bool} → lt_z (bits c.dot-i.result) (pos 0) ≡ b → lt_z (dot_of start.args.pencil.normal start.args.s.vector) (pos 0) ≡ b
+  negative : {b : Bool} → lt_z (bits c.dot-i.result) (pos 0) ≡ b → lt_z (dot_of c.args.pencil.normal c.args.s.vector) (pos 0) ≡ b
   negative e = sym (ap (λ (z : ℤ). lt_z z (pos 0)) first) ∙ e
 
-  positive : {b : Bool} → lt_z (pos 0) (bits c.dot-i.result) ≡ b → lt_z (pos 0) (dot_of start.args.pencil.normal start.args.s.vector) ≡ b
+  positive : {b : Bool} → lt_z (pos 0) (bits c.dot-i.result) ≡ b → lt_z (pos 0) (dot_of c.args.pencil.normal c.args.s.vector) ≡ b
   positive e = sym (ap (λ (z : ℤ). lt_z (pos 0) z) first) ∙ e
 
 pub dot-i-requires : goal.dot-i-requires
-dot-i-requires c = let s = c in products_fit tt tt tt s.requires.0.normal_in s.requires.1.vector_in
+dot-i-requires c = products_fit tt tt tt c.requires.0.normal_in c.requires.1.vector_in
 
 pub dot-j-requires : goal.dot-j-requires
-dot-j-requires c = let s = c in products_fit tt tt tt s.requires.0.normal_in s.requires.2.vector_in
+dot-j-requires c = products_fit tt tt tt c.requires.0.normal_in c.requires.2.vector_in
 
 pub returns-then-i-lt0 : goal.returns-then-i-lt0
 returns-then-i-lt0 c = rw (negative (goal.at.returns-then-i-lt0 c).After-dot-j c.if-i-lt0.true) (ap (λ (z : ℤ). le_z (pos 0) z) (second (goal.at.returns-then-i-lt0 c).After-dot-j))

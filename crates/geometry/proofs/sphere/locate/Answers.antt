@@ -11,28 +11,25 @@ use Rattle.geometry.proofs.sphere.locate.Goals.{After-dot-m}
 use Rattle.geometry.proofs.sphere.locate.Goals as goal
 
 module _ (c : goal.After-dot-m) where
-  abbrev start : goal.Start
-  start = c
-
   abbrev computed : ℤ
-  computed = bits (bits start.args.sphere.orient *ℤ bits start.args.w.square) -ℤ bits c.dot-m.result
+  computed = bits (bits c.args.sphere.orient *ℤ bits c.args.w.square) -ℤ bits c.dot-m.result
 
-  power : Holds 2304000000000000000 (power_of start.args.sphere start.args.w) computed
+  power : Holds 2304000000000000000 (power_of c.args.sphere c.args.w) computed
   power =
-      stored tt (given tt start.requires.0.orient_in *! given tt start.requires.1.square_in)
-      -! returned tt c.dot-m.ensures (at_most_dot start.requires.0.centre_in start.requires.1.vector_in)
+      stored tt (given tt c.requires.0.orient_in *! given tt c.requires.1.square_in)
+      -! returned tt c.dot-m.ensures (at_most_dot c.requires.0.centre_in c.requires.1.vector_in)
 
-  less : lt_z (bits computed) (pos 0) ≡ lt_z (power_of start.args.sphere start.args.w) (pos 0)
+  less : lt_z (bits computed) (pos 0) ≡ lt_z (power_of c.args.sphere c.args.w) (pos 0)
   less = ap (λ (z : ℤ). lt_z z (pos 0)) (stored tt power).value
 
-  same : equal computed (pos 0) ≡ equal (power_of start.args.sphere start.args.w) (pos 0)
+  same : equal computed (pos 0) ≡ equal (power_of c.args.sphere c.args.w) (pos 0)
   same = ap (λ (z : ℤ). equal z (pos 0)) power.value
 
 pub dot-m-requires : goal.dot-m-requires
-dot-m-requires c = let s = c in products_fit tt tt tt s.requires.0.centre_in s.requires.1.vector_in
+dot-m-requires c = products_fit tt tt tt c.requires.0.centre_in c.requires.1.vector_in
 
 pub overflow_mul-power : goal.overflow_mul-power
-overflow_mul-power c = fits tt (given tt (start (goal.at.overflow_mul-power c).After-dot-m).requires.0.orient_in *! given tt (start (goal.at.overflow_mul-power c).After-dot-m).requires.1.square_in)
+overflow_mul-power c = fits tt (given tt c.requires.0.orient_in *! given tt c.requires.1.square_in)
 
 pub overflow_sub-power : goal.overflow_sub-power
 overflow_sub-power c = fits tt (power (goal.at.overflow_sub-power c).After-dot-m)

@@ -1,0 +1,40 @@
+-- `minimum_weight::choice::best_in_block` meets its contract. Assumes nothing.
+use Rattle.blocks.proofs.Starts.{starts_up}
+use Rattle.minimum_weight.proofs.Picks.{block_start, block_next, block_end, pick_bounded}
+use Prim.Native.Nat.{◌+◌}
+use native.Mathlib.Omega.{arith}
+use Rattle.minimum_weight.specs.Tables.{pick_under}
+use Rattle.minimum_weight.proofs.choice.best_in_block.Goals as goal
+
+pub loop-u-init : goal.loop-u-init
+loop-u-init c = let s = c in (omega arith, starts_up _ _ _ s.requires.0 s.requires.3, block_start _ _ _ _ _ _ s.requires.0 s.requires.3)
+
+pub better-p-requires : goal.better-p-requires
+better-p-requires c =
+    let s = c in (
+      omega (arith, (s.requires.0.at (s.args.i + 1) (omega (arith, s.requires.3))).within),
+      s.requires.2,
+      s.requires.1,
+      rw c.loop-u.invariant.2 (pick_bounded _ _ _ c.loop-u.u),
+    )
+
+pub overflow_add-u : goal.overflow_add-u
+overflow_add-u c =
+    let s = c in
+    omega (arith, c.loop-u-test.true, (s.requires.0.at (s.args.i + 1) (omega (arith, s.requires.3))).within, s.well_formed.1.0)
+
+pub loop-u-preserved : goal.loop-u-preserved
+loop-u-preserved c =
+    let s = c in
+    let l = c.loop-u in (
+      omega arith,
+      omega (arith, c.loop-u-test.true),
+      block_next _ _ _ _ _ _ s.requires.0 s.requires.3 _ l.u l.invariant.0 c.loop-u-test.true l.invariant.2 c.better-p.ensures,
+    )
+
+pub returns : goal.returns
+unfolding pick_under
+returns c =
+    let s = c in
+    let l = c.loop-u in
+    block_end _ _ _ _ _ _ s.requires.0 s.requires.3 _ l.u l.invariant.1 c.loop-u-test.false l.invariant.2

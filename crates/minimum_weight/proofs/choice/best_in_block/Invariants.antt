@@ -1,0 +1,13 @@
+use Prim.Native.Nat.{◌+◌, ◌-◌, ◌≤◌}
+use mathlib.Core.Path.{◌≡◌}
+use lib.ListN.{get_or}
+use Rattle.triangulation.specs.Problems.{pair_weight}
+use Rattle.minimum_weight.specs.Tables.{pick_below, hung_on_edge}
+use Rattle.minimum_weight.proofs.choice.best_in_block.Given as goal
+
+abbrev pub invariant-loop-u : goal.invariant-loop-u
+invariant-loop-u l =
+    (get_or l.starts l.i 0 ≤ l.u) × (l.u ≤ get_or l.starts (l.i + 1) 0) × (l.p ≡ pick_below (hung_on_edge l.candidates l.i l.j) (λ k. get_or l.work k 0) (pair_weight l.rows l.t) l.u)
+
+abbrev pub decreases-loop-u : goal.decreases-loop-u
+decreases-loop-u l = l.end - l.u
