@@ -3,8 +3,7 @@
 #![tactic(auto)]
 
 use grid::{GridNumber, GridPoint};
-
-const STANDARD_OUTPUT: i32 = 1;
+use std::io;
 
 const SIGN: u32 = 0x8000_0000;
 
@@ -24,56 +23,50 @@ fn bits_of(v: f32) -> u32 {
     f32::to_bits(v)
 }
 
-fn print_number(n: i64) {
+fn print_number(rt: &impl Print, n: i64) -> io::Result<()> {
     if n < GridPoint::LOWEST {
-        io::write_all(STANDARD_OUTPUT, b"below the grid");
+        print!(rt; "below the grid")
     } else if n < 0 {
-        io::write_all(STANDARD_OUTPUT, b"-");
-        io::print_decimal(STANDARD_OUTPUT, (-n) as u64);
+        print!(rt; "-{}", (-n) as u64)
     } else {
-        io::print_decimal(STANDARD_OUTPUT, n as u64);
+        print!(rt; "{}", n as u64)
     }
 }
 
-fn print_grid_number(bits: u32) {
-    io::write_all(STANDARD_OUTPUT, b" ");
+fn print_grid_number(rt: &impl Print, bits: u32) -> io::Result<()> {
+    print!(rt; " ")?;
     let number = grid::grid_number(grid::float_from_bits(bits));
     match number {
-        GridNumber::Value(n) => print_number(n),
-        GridNumber::NotFinite => {
-            io::write_all(STANDARD_OUTPUT, b"not finite");
-        }
-        GridNumber::OutOfRange => {
-            io::write_all(STANDARD_OUTPUT, b"out of range");
-        }
+        GridNumber::Value(n) => print_number(rt, n),
+        GridNumber::NotFinite => print!(rt; "not finite"),
+        GridNumber::OutOfRange => print!(rt; "out of range"),
     }
 }
 
 // The size of 8v is whole + 0.5.
-fn print_half(whole: u32) {
-    io::print_decimal(STANDARD_OUTPUT, whole as u64);
-    io::write_all(STANDARD_OUTPUT, b".5:");
+fn print_half(rt: &impl Print, whole: u32) -> io::Result<()> {
+    print!(rt; "{whole}.5:")
 }
 
-fn print_three(below: u32, at: u32, above: u32) {
-    print_grid_number(below);
-    print_grid_number(at);
-    print_grid_number(above);
-    io::write_all(STANDARD_OUTPUT, b"\n");
+fn print_three(rt: &impl Print, below: u32, at: u32, above: u32) -> io::Result<()> {
+    print_grid_number(rt, below)?;
+    print_grid_number(rt, at)?;
+    print_grid_number(rt, above)?;
+    println!(rt)
 }
 
 // The bits rise away from zero, so below zero the next float below has the next bits above.
-fn print_line(whole: u32, v: f32) {
+fn print_line(rt: &impl Print, whole: u32, v: f32) -> io::Result<()> {
     let bits = bits_of(v);
     let nearer = std::num::wrapping_sub_u32(bits, 1);
     let farther = std::num::wrapping_add_u32(bits, 1);
     if bits < SIGN {
-        print_half(whole);
-        print_three(nearer, bits, farther);
+        print_half(rt, whole)?;
+        print_three(rt, nearer, bits, farther)
     } else {
-        io::write_all(STANDARD_OUTPUT, b"-");
-        print_half(whole);
-        print_three(farther, bits, nearer);
+        print!(rt; "-")?;
+        print_half(rt, whole)?;
+        print_three(rt, farther, bits, nearer)
     }
 }
 
@@ -86,10 +79,11 @@ fn whole_part(i: u32) -> u32 {
     }
 }
 
-fn main() {
+fn main(rt: HostRuntime) -> io::Result<()> {
     let mut v = LOWEST;
     for i in 0..2 * HALVES {
-        print_line(whole_part(i), v);
+        print_line(&rt, whole_part(i), v)?;
         v = v + STEP;
     }
+    Ok(())
 }
