@@ -23,7 +23,7 @@ use Rattle.rim_file.specs.Record.{held_normal, normal_in}
 use Rattle.rim_file.proofs.Layouts.{record_within}
 use Rattle.rim_file.proofs.Lengths.{whole}
 use Rattle.rim_file.proofs.Normals.{normal_1, normal_2}
-use Rattle.reader.specs.Order.{FilePlace, rim, Precedes, by_number, First, NoneDue}
+use Rattle.reader.specs.Order.{FilePlace, rim, Precedes, by_place, by_number, First, NoneDue}
 use Rattle.reader.specs.Due.{InFile, FileDue, too_few, vertex_repeated}
 use Rattle.reader.specs.Reading as reader
 use Rattle.reader.proofs.Order.{none_first, Verdict, first_due_lem, none_due, verdict_either, verdict_first, verdict_given, verdict_zero, verdict_none}
@@ -72,6 +72,7 @@ module _ (file out : List ℕ) where
 
   later : (q : FilePlace) (n j : ℕ) → FileDue max_vertices file q n → Precedes rim j q n → 11 < j → ⊥
   later _ n j d (by_number l) h = omega (arith, rim_most n d)
+  later q n j d (by_place x10) h = elim x10 [ ]
 
   reader_first : (k : ℕ) → First (FileDue max_vertices file) (suc k) → First (ConvertDue file out) (suc k)
   reader_first k f = record { place = f.place; is_due = by_reader f.is_due; none_before = before }
@@ -105,6 +106,8 @@ module _ (file out : List ℕ) where
         before p j h (by_reader d) = no_reader p j d
         before _ _ (by_number l) (thirteen right short) = omega arith
         before _ _ (by_number l) (nineteen k in_file two some) = omega arith
+        before _ _ (by_place x8) (thirteen right short) = elim x8 [ ]
+        before _ _ (by_place x9) (nineteen k in_file two some) = elim x9 [ ]
     decided (fails a) (holds b) =
         first_due_lem 18 (record { place = rim; is_due = lost_due file out e b; none_before = before })
         (number_is ∙ no _ _ a ∙ yes _ _ b)
@@ -113,6 +116,7 @@ module _ (file out : List ℕ) where
         before p j h (by_reader d) = no_reader p j d
         before p j h (thirteen right short) = omega (arith, ltb-false (length out) (length (converted file)) a)
         before _ _ (by_number l) (nineteen k in_file two some) = omega arith
+        before _ _ (by_place x9) (nineteen k in_file two some) = elim x9 [ ]
     decided (fails a) (fails b) =
         none_due (record { none = nothing })
         (number_is ∙ no _ _ a ∙ no _ _ b)

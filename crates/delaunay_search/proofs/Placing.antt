@@ -54,3 +54,9 @@ pub not_on : (place : Position) → OneOf (0 ∷ 2 ∷ []) (tag_of the_type plac
 not_on Inside t = refl
 not_on On t = absurd (⊎_elim (λ (z : 1 ≡ 0). omega arith) (λ (z : 1 ≡ 2). omega arith) t)
 not_on Outside t = refl
+
+-- the same of a position that is not `On`
+pub not_on_is : (place : Position) → (place ≡ On → ⊥) → is_on place ≡ false
+not_on_is Inside h = refl
+not_on_is On h = absurd (h refl)
+not_on_is Outside h = refl

@@ -36,6 +36,7 @@ module _ (limit : ℕ) (s : List ℕ) where
 
       before : (p : FilePlace) (j : ℕ) → Precedes p j request 14 → FileDue limit s p j → ⊥
       before _ j (by_number l) d = number j l d
+      before p j (by_place x10) d = elim x10 [ ]
 
   module _ (fits : count_fits limit ≡ true) where
     no_request : (k : ℕ) → FileDue limit s request k → ⊥

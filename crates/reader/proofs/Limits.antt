@@ -11,7 +11,7 @@ use borrow.Author.Tests.{eq-eqb, ne_eqb, le-leb}
 use Rattle.lists.proofs.Choice.{yes, no, true_not_false, both_true}
 use Rattle.terms.specs.Limits.{min_vertices, max_vertices, count_fits}
 use Rattle.reader.specs.Chain.{over_limit, vertex_count}
-use Rattle.reader.specs.Order.{FilePlace, link_to, link_link, Precedes, by_place, by_number, First, NoneDue}
+use Rattle.reader.specs.Order.{FilePlace, link_to, request_link, header_link, link_link, record_link, Precedes, by_place, by_number, First, NoneDue}
 use Rattle.reader.specs.Due.{HasRecords, ChainAtMost, FileDue, limit_wrong, wrong_length, area_factor}
 use Rattle.reader.specs.Due.{link_over, met_again, too_many, above_limit, kind_unknown, no_height, not_finite}
 use Rattle.reader.specs.Due.{tail_not_zero, out_of_range, normal_out_of_range, too_few, vertex_repeated}
@@ -87,14 +87,17 @@ module _ {small large : ℕ} (least : min_vertices ≤ small) (below : small ≤
         twenty : over_limit small ≡ 20
         twenty = no 5 20 (ne_eqb small max_vertices (λ e. omega (arith, smaller)))
 
-        not_later : (j : ℕ) → 20 ≤ j → Precedes (link_to small) j (link_to small) 20 → ⊥
-        not_later j h (by_place (link_link l)) = omega arith
-        not_later j h (by_number l) = omega arith
+        not_later : (p : FilePlace) (j : ℕ) → p ≡ link_to small → 20 ≤ j → Precedes p j (link_to small) 20 → ⊥
+        not_later _ j e h (by_place request_link) = let z : ◌≡◌ {A = ℕ} 0 1 = cc in omega arith
+        not_later _ j e h (by_place header_link) = let z : ◌≡◌ {A = ℕ} 0 1 = cc in omega arith
+        not_later _ j e h (by_place (link_link {h = i} l)) = let z : i ≡ small = cc in omega arith
+        not_later _ j e h (by_place (record_link l)) = let z : ◌≡◌ {A = ℕ} 0 1 = cc in omega arith
+        not_later _ j e h (by_number l) = omega arith
 
         before : (p : FilePlace) (j : ℕ) → Precedes p j (link_to small) 20 → FileDue small s p j → ⊥
         before p j h d =
             ⊎_elim (λ e. (read_only_when large s complete).none p j e)
-            (λ o. not_later j (omega (arith, o.number ∙ twenty)) (subst (λ (q : FilePlace). Precedes q j (link_to small) 20) o.at h))
+            (λ o. not_later p j o.at (omega (arith, o.number ∙ twenty)) h)
             (due_or_over (limit_fits least (omega arith)) d)
 
     pub number_over : number_due small s ≡ 20

@@ -1,7 +1,6 @@
 -- `faces::count` meets its contract, by what is left to count at each loop's head. Assumes nothing.
 use mathlib.Core.Path.{sym, ◌∙◌}
 use mathlib.Core.Bool.{true, false}
-use Prim.Native.Nat.{◌-◌}
 use native.Mathlib.Omega.{arith}
 use Rattle.lists.proofs.Counting.{count_start, count_turn, count_push, count_moved, count_all}
 use Rattle.faces.specs.Masks.{has}

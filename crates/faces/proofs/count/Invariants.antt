@@ -1,4 +1,3 @@
-use Prim.Native.Nat.{◌-◌}
 use Rattle.lists.proofs.Counting.{Counting}
 use Rattle.faces.specs.Faces.{triples_of}
 use Rattle.faces.specs.Masks.{has}

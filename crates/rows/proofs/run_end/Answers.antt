@@ -1,5 +1,4 @@
 -- `rows::run_end` meets its contract. Assumes nothing.
-use Prim.Native.Nat.{◌-◌}
 use mathlib.Core.Path.{sym, ◌∙◌}
 use native.Mathlib.Omega.{arith}
 use Rattle.rows.proofs.Bisection.{cut_of, cut_up, cut_down, cut_count}

@@ -1,10 +1,6 @@
 -- `grid::GridPoint::coordinates_on_grid` meets its contract. Assumes nothing.
-use mathlib.Core.Path.{◌≡◌, ap, ◌∙◌}
-use mathlib.Core.Bool.{Bool}
-use lib.IntN.{ℤ}
+use mathlib.Core.Path.{ap, ◌∙◌}
 use mir.Facts.{to_z-of_z}
-use mir.Syntax.{w64}
-use mir.Val.{to_z, of_z, SFits}
 use Rattle.grid.specs.Point.{point, coordinate_on_grid}
 use Rattle.grid.proofs.Points.{out_by_x, out_by_y, by_z}
 use Rattle.grid.proofs.GridPoint.coordinates_on_grid.Goals as goal

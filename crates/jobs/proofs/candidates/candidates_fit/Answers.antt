@@ -1,9 +1,7 @@
 -- `jobs::candidates::candidates_fit` meets its contract. Assumes nothing.
 use mathlib.Core.Path.{sym, ◌∙◌}
 use native.Mathlib.Omega.{arith}
-use Prim.Native.Nat.{◌-◌}
 use Rattle.lists.proofs.Ranges.{every_on, every_stop, every_end}
-use Rattle.jobs.specs.Job.{candidate_fits}
 use Rattle.jobs.proofs.candidates.candidates_fit.Goals as goal
 
 pub returns-then-not-candidate_fits : goal.returns-then-not-candidate_fits

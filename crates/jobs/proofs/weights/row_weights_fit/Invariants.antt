@@ -1,5 +1,4 @@
 use mathlib.Core.Path.{◌≡◌}
-use Prim.Native.Nat.{◌-◌}
 use lib.Dec.{leb}
 use Rattle.lists.specs.Lists.{every}
 use lib.ListN.{length}

@@ -1,0 +1,22 @@
+-- `conversion::writing::write_file` meets its contract. Assumes nothing.
+use mathlib.Core.Path.{ap}
+use native.Mathlib.Omega.{arith}
+use lib.ListN.{length}
+use lib.Seq.{length-sets}
+use Rattle.rim_file.proofs.Layouts.{header_as}
+use Rattle.rim_file.proofs.Lengths.{whole}
+use Rattle.conversion.proofs.Targets.{file_stored}
+use Rattle.conversion.proofs.writing.write_file.Goals as goal
+
+pub copy-requires : goal.copy-requires
+copy-requires c =
+    let s = c in
+    let opened = simp length-sets at (ap length c.fill.ensures) in
+    (omega (arith, header_as _ s.requires.source_is, (whole _ s.requires.right).header), omega (arith, s.requires.long, opened))
+
+pub returns : goal.returns
+returns c =
+    let s = c in
+    file_stored s.args.file.now (whole _ s.requires.right) s.args.out.now s.args.target
+    c.fill.ensures (header_as _ s.requires.source_is)
+    c.copy.ensures c.write_records.ensures
