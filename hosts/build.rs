@@ -1,4 +1,4 @@
-//! Links the archive of the library, from PATCH_BOX_ARCHIVE_DIR or from where `rt staticlib exports` puts it.
+//! Links the archive of the library, from PATCH_BOX_ARCHIVE_DIR or from where `tools/build archive` puts it.
 
 use std::env;
 use std::path::PathBuf;
@@ -15,7 +15,7 @@ fn main() {
     let archive = folder.join("libexports.a");
     println!("cargo:rerun-if-changed={}", archive.display());
     if !archive.exists() {
-        panic!("{} is missing: run `rt staticlib exports` first", archive.display());
+        panic!("{} is missing: run `tools/build archive` first", archive.display());
     }
     println!("cargo:rustc-link-search=native={}", folder.display());
     println!("cargo:rustc-link-lib=static=exports");

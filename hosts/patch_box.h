@@ -1,4 +1,4 @@
-/* The patch box for hosts in C and C++. Link target/staticlib/libexports.a, which `rt staticlib exports` makes (x86-64 Linux).
+/* The patch box for hosts in C and C++. Link target/staticlib/libexports.a, which `tools/build archive` makes (x86-64 Linux).
  * The rules and the rim file are described in README.md and docs/SPECIFICATION.md.
  *
  * Tables. The host lends tables; a call keeps none of them and allocates nothing. A table is lent as a pointer and its number of places:

@@ -6,6 +6,7 @@ ghost use Rattle.converter.specs.Call.{converting, convert_call};
 
 use converter::Conversion;
 use programs::input;
+use std::io;
 
 // The file in the other edition, in the first places of the output table.
 fn convert_file(file: &[u8], out: &mut [u8]) -> Conversion
@@ -14,24 +15,20 @@ fn convert_file(file: &[u8], out: &mut [u8]) -> Conversion
     converter::convert(file, out)
 }
 
-fn print_refusal(number: u32) {
-    io::write_all(1, b"refused ");
-    io::print_decimal(1, number as u64);
-    io::write_all(1, b"\n");
+fn print_refusal(rt: &impl Print, number: u32) -> io::Result<()> {
+    println!(rt; "refused {number}")
 }
 
-fn main() {
+fn main(rt: HostRuntime) -> io::Result<()> {
     let mut file = [0u8; input::BUFFER];
-    let length = input::read(&mut file);
+    let length = input::read(&mut rt.stdin(), &mut file)?;
     let mut out = [0u8; input::LONGEST];
     let conversion = convert_file(&file[..length], &mut out);
     match conversion {
         Conversion::Converted {
             edition: _,
             length: _,
-        } => {
-            io::write_all(1, converter::part(&out, conversion));
-        }
-        Conversion::Refused(refusal) => print_refusal(refusal.number),
+        } => rt.write_all(converter::part(&out, conversion)),
+        Conversion::Refused(refusal) => print_refusal(&rt, refusal.number),
     }
 }

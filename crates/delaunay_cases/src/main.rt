@@ -8,66 +8,67 @@ use geometry::face;
 use grid::GridPoint;
 use polygon::Polygon;
 use polygon::normal::Normal;
-
-const STANDARD_OUTPUT: i32 = 1;
+use std::io;
 
 // Places of each table; a part of them is lent.
 const PLACES: usize = 20;
 
-fn print_number(n: u64) {
-    io::write_all(STANDARD_OUTPUT, b" ");
-    io::print_decimal(STANDARD_OUTPUT, n);
+fn print_number(rt: &impl Print, n: u64) -> io::Result<()> {
+    print!(rt; " {n}")
 }
 
-fn print_candidate(t: [u8; 3]) {
-    io::write_all(STANDARD_OUTPUT, b" ");
-    print_number(t[0] as u64);
-    print_number(t[1] as u64);
-    print_number(t[2] as u64);
+fn print_candidate(rt: &impl Print, t: [u8; 3]) -> io::Result<()> {
+    print!(rt; " ")?;
+    print_number(rt, t[0] as u64)?;
+    print_number(rt, t[1] as u64)?;
+    print_number(rt, t[2] as u64)
 }
 
-fn print_candidates(candidates: &[[u8; 3]]) {
-    io::write_all(STANDARD_OUTPUT, b"\ncandidates");
+fn print_candidates(rt: &impl Print, candidates: &[[u8; 3]]) -> io::Result<()> {
+    print!(rt; "\ncandidates")?;
     for i in 0..candidates.len() {
-        print_candidate(candidates[i]);
+        print_candidate(rt, candidates[i])?;
     }
+    Ok(())
 }
 
-fn print_weight(w: u32) {
-    print_number(w as u64);
+fn print_weight(rt: &impl Print, w: u32) -> io::Result<()> {
+    print_number(rt, w as u64)
 }
 
-fn print_weights(weights: &[u32]) {
-    io::write_all(STANDARD_OUTPUT, b"\nweights");
+fn print_weights(rt: &impl Print, weights: &[u32]) -> io::Result<()> {
+    print!(rt; "\nweights")?;
     for i in 0..weights.len() {
-        print_weight(weights[i]);
+        print_weight(rt, weights[i])?;
     }
+    Ok(())
 }
 
-fn print_row(r: [u32; 3]) {
-    io::write_all(STANDARD_OUTPUT, b" ");
-    print_number(r[0] as u64);
-    print_number(r[1] as u64);
-    print_number(r[2] as u64);
+fn print_row(rt: &impl Print, r: [u32; 3]) -> io::Result<()> {
+    print!(rt; " ")?;
+    print_number(rt, r[0] as u64)?;
+    print_number(rt, r[1] as u64)?;
+    print_number(rt, r[2] as u64)
 }
 
-fn print_rows(rows: &[[u32; 3]]) {
-    io::write_all(STANDARD_OUTPUT, b"\nrows");
+fn print_rows(rt: &impl Print, rows: &[[u32; 3]]) -> io::Result<()> {
+    print!(rt; "\nrows")?;
     for i in 0..rows.len() {
-        print_row(rows[i]);
+        print_row(rt, rows[i])?;
     }
+    Ok(())
 }
 
-fn print_answer(answer: Found) {
+fn print_answer(rt: &impl Print, answer: Found) -> io::Result<()> {
     match answer {
         Found::Lists { candidates, rows } => {
-            io::write_all(STANDARD_OUTPUT, b"found");
-            print_number(candidates as u64);
-            print_number(rows as u64);
+            print!(rt; "found")?;
+            print_number(rt, candidates as u64)?;
+            print_number(rt, rows as u64)
         }
         Found::Refused(refusal) => {
-            io::write_all(STANDARD_OUTPUT, b"refused");
-            print_number(refusal.number as u64);
+            print!(rt; "refused")?;
+            print_number(rt, refusal.number as u64)
         }
     }
 }
@@ -87,18 +88,18 @@ fn find_in(
     finder::find(p, &mut candidates[..c], &mut weights[..w], &mut rows[..r])
 }
 
-fn run(p: Polygon, c: usize, w: usize, r: usize)
+fn run(rt: &impl Print, p: Polygon, c: usize, w: usize, r: usize) -> io::Result<()>
     requires { (c ≤ 20) × (w ≤ 20) × (r ≤ 20) }
 {
     let mut candidates = [[9u8; 3]; PLACES];
     let mut weights = [9u32; PLACES];
     let mut rows = [[9u32; 3]; PLACES];
     let answer = find_in(p, &mut candidates, c, &mut weights, w, &mut rows, r);
-    print_answer(answer);
-    print_candidates(&candidates);
-    print_weights(&weights);
-    print_rows(&rows);
-    io::write_all(STANDARD_OUTPUT, b"\n\n");
+    print_answer(rt, answer)?;
+    print_candidates(rt, &candidates)?;
+    print_weights(rt, &weights)?;
+    print_rows(rt, &rows)?;
+    print!(rt; "\n\n")
 }
 
 // The first n points, with these factors and no normal.
@@ -198,95 +199,114 @@ const LINE: [GridPoint; 6] = [
 ];
 
 // All places, exactly as many as are needed, and one too few in each table.
-fn run_p() {
+fn run_p(rt: &impl Print) -> io::Result<()> {
     let p = polygon(4, 1, 1, RIM_P);
-    run(p, 20, 20, 20);
-    run(p, 4, 4, 2);
-    run(p, 3, 4, 2);
-    run(p, 4, 3, 2);
-    run(p, 4, 4, 1);
-    run(polygon(4, 16, 0, RIM_P), 20, 20, 20);
+    run(rt, p, 20, 20, 20)?;
+    run(rt, p, 4, 4, 2)?;
+    run(rt, p, 3, 4, 2)?;
+    run(rt, p, 4, 3, 2)?;
+    run(rt, p, 4, 4, 1)?;
+    run(rt, polygon(4, 16, 0, RIM_P), 20, 20, 20)
 }
 
 // A slope outside each edge in turn, outside two edges of one candidate (rule 6.6), and at a place that belongs to no vertex.
-fn run_normals() {
+fn run_normals(rt: &impl Print) -> io::Result<()> {
     let p = polygon(4, 1, 1, RIM_P);
     let slope = Normal {
         x: 0,
         y: -600,
         z: 800,
     };
-    run(with_normal(p, 0, slope), 4, 4, 2);
-    run(with_normal(p, 1, slope), 4, 4, 2);
-    run(with_normal(p, 2, slope), 4, 4, 2);
-    run(with_normal(p, 3, slope), 4, 4, 2);
-    run(with_normal(with_normal(p, 2, slope), 3, slope), 4, 4, 2);
-    run(with_normal(p, 4, slope), 4, 4, 2);
+    run(rt, with_normal(p, 0, slope), 4, 4, 2)?;
+    run(rt, with_normal(p, 1, slope), 4, 4, 2)?;
+    run(rt, with_normal(p, 2, slope), 4, 4, 2)?;
+    run(rt, with_normal(p, 3, slope), 4, 4, 2)?;
+    run(rt, with_normal(with_normal(p, 2, slope), 3, slope), 4, 4, 2)?;
+    run(rt, with_normal(p, 4, slope), 4, 4, 2)
 }
 
 // 12, also where the tables are too short; with a vertex inside the sphere none of those fours counts.
-fn run_cube() {
-    run(polygon(5, 1, 1, CUBE), 0, 0, 0);
+fn run_cube(rt: &impl Print) -> io::Result<()> {
+    run(rt, polygon(5, 1, 1, CUBE), 0, 0, 0)?;
     let p = polygon(6, 1, 1, CUBE);
-    run(p, 20, 20, 20);
-    run(p, 15, 15, 18);
-    run(p, 15, 15, 17);
+    run(rt, p, 20, 20, 20)?;
+    run(rt, p, 15, 15, 18)?;
+    run(rt, p, 15, 15, 17)
 }
 
 // Flat rims, with all places and one too few in a table, and one with a vertex off the plane of five; a triangle, with a surface outside each edge too;
 // 12 on a rectangle; all vertices on one line.
-fn run_flat() {
+fn run_flat(rt: &impl Print) -> io::Result<()> {
     let p = polygon(5, 1, 1, FLAT);
-    run(p, 20, 20, 20);
-    run(p, 2, 20, 20);
-    run(polygon(4, 1, 1, TILTED), 20, 20, 20);
-    run(polygon(6, 1, 1, TILTED), 20, 20, 20);
+    run(rt, p, 20, 20, 20)?;
+    run(rt, p, 2, 20, 20)?;
+    run(rt, polygon(4, 1, 1, TILTED), 20, 20, 20)?;
+    run(rt, polygon(6, 1, 1, TILTED), 20, 20, 20)?;
     let t = polygon(3, 1, 1, RIM_P);
-    run(t, 1, 1, 0);
+    run(rt, t, 1, 1, 0)?;
     let up = Normal { x: 0, y: 0, z: 9 };
     run(
+        rt,
         with_normal(with_normal(with_normal(t, 0, up), 1, up), 2, up),
         1,
         1,
         0,
-    );
-    run(polygon(4, 1, 1, RECTANGLE), 0, 0, 0);
-    run(polygon(4, 1, 1, LINE), 0, 0, 0);
+    )?;
+    run(rt, polygon(4, 1, 1, RECTANGLE), 0, 0, 0)?;
+    run(rt, polygon(4, 1, 1, LINE), 0, 0, 0)
 }
 
 // Polygons that no rim file gives.
-fn run_refused() {
-    run(polygon(4, 17, 1, RIM_P), 20, 20, 20);
-    run(polygon(4, 1, 65536, RIM_P), 20, 20, 20);
-    run(polygon(65, 1, 1, RIM_P), 20, 20, 20);
-    run(polygon(6, 1, 1, FLAT), 20, 20, 20);
-    run(polygon(2, 1, 1, RIM_P), 20, 20, 20);
-    run(polygon(5, 1, 1, RIM_P), 20, 20, 20);
+fn run_refused(rt: &impl Print) -> io::Result<()> {
+    run(rt, polygon(4, 17, 1, RIM_P), 20, 20, 20)?;
+    run(rt, polygon(4, 1, 65536, RIM_P), 20, 20, 20)?;
+    run(rt, polygon(65, 1, 1, RIM_P), 20, 20, 20)?;
+    run(rt, polygon(6, 1, 1, FLAT), 20, 20, 20)?;
+    run(rt, polygon(2, 1, 1, RIM_P), 20, 20, 20)?;
+    run(rt, polygon(5, 1, 1, RIM_P), 20, 20, 20)?;
     let steep = Normal {
         x: 0,
         y: 1001,
         z: 0,
     };
-    run(with_normal(polygon(4, 1, 1, RIM_P), 3, steep), 20, 20, 20);
-    run(with_normal(polygon(6, 1, 1, FLAT), 4, steep), 20, 20, 20);
-    run(with_normal(polygon(6, 1, 1, FLAT), 5, steep), 20, 20, 20);
+    run(
+        rt,
+        with_normal(polygon(4, 1, 1, RIM_P), 3, steep),
+        20,
+        20,
+        20,
+    )?;
+    run(
+        rt,
+        with_normal(polygon(6, 1, 1, FLAT), 4, steep),
+        20,
+        20,
+        20,
+    )?;
+    run(
+        rt,
+        with_normal(polygon(6, 1, 1, FLAT), 5, steep),
+        20,
+        20,
+        20,
+    )
 }
 
 // The bend of equal, perpendicular and opposite normals that are 100 long, which is 400 quarters, and for a dot product of -1.
-fn run_bends() {
-    io::write_all(STANDARD_OUTPUT, b"bends");
-    print_number(face::bend(10000, 400, 400) as u64);
-    print_number(face::bend(0, 400, 400) as u64);
-    print_number(face::bend(-10000, 400, 400) as u64);
-    print_number(face::bend(-1, 400, 400) as u64);
-    io::write_all(STANDARD_OUTPUT, b"\n");
+fn run_bends(rt: &impl Print) -> io::Result<()> {
+    print!(rt; "bends")?;
+    print_number(rt, face::bend(10000, 400, 400) as u64)?;
+    print_number(rt, face::bend(0, 400, 400) as u64)?;
+    print_number(rt, face::bend(-10000, 400, 400) as u64)?;
+    print_number(rt, face::bend(-1, 400, 400) as u64)?;
+    println!(rt)
 }
 
-fn main() {
-    run_p();
-    run_normals();
-    run_cube();
-    run_flat();
-    run_refused();
-    run_bends();
+fn main(rt: HostRuntime) -> io::Result<()> {
+    run_p(&rt)?;
+    run_normals(&rt)?;
+    run_cube(&rt)?;
+    run_flat(&rt)?;
+    run_refused(&rt)?;
+    run_bends(&rt)
 }

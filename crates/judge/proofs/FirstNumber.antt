@@ -7,7 +7,7 @@ use native.Mathlib.Omega.{arith}
 use lib.Dec.{eqb}
 use borrow.Author.Tests.{eqb-true, eqb-false}
 use Rattle.lists.proofs.Choice.{true_not_false}
-use Rattle.terms.specs.Order.{Precedes, by_number}
+use Rattle.terms.specs.Order.{Precedes, by_place, by_number}
 use Rattle.terms.proofs.Order.{Verdict, none_due}
 use Rattle.triangulation.specs.Triangulations.{Problem}
 use Rattle.triangulation.specs.Problems.{problem_of}
@@ -38,12 +38,16 @@ module _ (job : Job) (list : List ℕ) (stated workPlaces : ℕ) where
     before_21 _ j h (of_job {p} d) = a.none p j d
     before_21 _ _ (by_number l) (no_tiling d) = omega arith
     before_21 _ _ (by_number l) (other_total d) = omega arith
+    before_21 _ _ (by_place x) (no_tiling d) = elim x [ ]
+    before_21 _ _ (by_place x) (other_total d) = elim x [ ]
 
     module _ (t : is_tiling problem list ≡ true) where
       before_22 : (p : JobCallPlace) (j : ℕ) → Precedes JobCallBefore p j after_job 22 → D p j → ⊥
       before_22 _ j h (of_job {p} d) = a.none p j d
       before_22 _ _ (by_number l) (no_tiling d) = d (named problem list) (tiling_is problem list t)
       before_22 _ _ (by_number l) (other_total d) = omega arith
+      before_22 _ _ (by_place x) (no_tiling d) = elim x [ ]
+      before_22 _ _ (by_place x) (other_total d) = elim x [ ]
 
       nothing : eqb stated (list_total problem list) ≡ true → (p : JobCallPlace) (j : ℕ) → D p j → ⊥
       nothing e _ j (of_job {p} d) = a.none p j d

@@ -4,12 +4,13 @@
 
 mod output;
 
-ghost use Rattle.std.specs.Prelude.{◌≡◌};
+ghost use Rattle.std.specs.Prelude.{◌≡◌, IfOk};
 ghost use Rattle.pipeline.specs.Patching.{patch_file};
 ghost use Rattle.patch_program.specs.Run.{empty_tables};
 ghost use Rattle.patch_program.specs.Printing.{printout_of};
 
 use patch_lines::{Line, TRIANGLES};
+use std::io;
 use triangulator::Outcome;
 
 // Places of the tables beside that for triangles; a few rims need more than there is (rule 5.3).
@@ -54,11 +55,11 @@ pub fn printout_of(limit: usize, file: &[u8]) -> Printout
     }
 }
 
-// Closes the rim of a file and prints its patch; answers what came of it.
-pub fn run(limit: usize, file: &[u8]) -> Outcome
-    ensures { result ≡ (patch_file limit file.now empty_tables).outcome }
+// Closes the rim of a file and prints its patch; answers what came of it, or fails at the first write that fails.
+pub fn run(rt: &impl Print, limit: usize, file: &[u8]) -> io::Result<Outcome>
+    ensures { IfOk result (λ r. r ≡ (patch_file limit file.now empty_tables).outcome) }
 {
     let printout = printout_of(limit, file);
-    output::print(printout);
-    printout.outcome
+    output::print(rt, printout)?;
+    Ok(printout.outcome)
 }

@@ -1,70 +1,48 @@
 // The lines that are printed.
 use crate::Printout;
 use patch_lines::{Line, TRIANGLES};
+use std::io;
 use triangulator::Outcome;
 
-fn print_number(number: u32) {
-    io::print_decimal(1, number as u64);
+fn print_line(rt: &impl Print, line: Line) -> io::Result<()> {
+    println!(rt;
+        "{} {} {} {} {}",
+        line.a, line.b, line.c, line.weight, line.row
+    )
 }
 
-fn print_space() {
-    io::write_all(1, b" ");
-}
-
-fn end_line() {
-    io::write_all(1, b"\n");
-}
-
-fn print_vertex(vertex: u8) {
-    print_number(vertex as u32);
-    print_space();
-}
-
-fn print_line(line: Line) {
-    print_vertex(line.a);
-    print_vertex(line.b);
-    print_vertex(line.c);
-    print_number(line.weight);
-    print_space();
-    print_number(line.row);
-    end_line();
-}
-
-fn print_lines(lines: [Line; TRIANGLES], count: usize) {
+fn print_lines(rt: &impl Print, lines: [Line; TRIANGLES], count: usize) -> io::Result<()> {
     for k in 0..TRIANGLES {
         if k < count {
-            print_line(lines[k]);
+            print_line(rt, lines[k])?;
         }
     }
+    Ok(())
 }
 
-fn print_patch(vertices: usize, triangles: usize, total: u64, lines: [Line; TRIANGLES]) {
-    io::write_all(1, b"patch ");
-    io::print_decimal(1, vertices as u64);
-    print_space();
-    io::print_decimal(1, triangles as u64);
-    print_space();
-    io::print_decimal(1, total);
-    end_line();
-    print_lines(lines, triangles);
+fn print_patch(
+    rt: &impl Print,
+    vertices: usize,
+    triangles: usize,
+    total: u64,
+    lines: [Line; TRIANGLES],
+) -> io::Result<()> {
+    println!(rt; "patch {vertices} {triangles} {total}")?;
+    print_lines(rt, lines, triangles)
 }
 
-fn print_refusal(number: u32) {
-    io::write_all(1, b"refused ");
-    print_number(number);
-    end_line();
+fn print_refusal(rt: &impl Print, number: u32) -> io::Result<()> {
+    println!(rt; "refused {number}")
 }
 
-pub(crate) fn print(printout: Printout) {
+pub(crate) fn print(rt: &impl Print, printout: Printout) -> io::Result<()> {
     let outcome = printout.outcome;
     let lines = printout.lines;
     match outcome {
         Outcome::Patch { triangles, total } => {
-            print_patch(printout.vertices, triangles, total, lines);
-        },
-        Outcome::None => {
-            io::write_all(1, b"none\n");
+            print_patch(rt, printout.vertices, triangles, total, lines)
         }
-        Outcome::Refused(refusal) => print_refusal(refusal.number),
+        Outcome::None => println!(rt; "none"),
+        Outcome::Refused(refusal) => print_refusal(rt, refusal.number),
     }
 }

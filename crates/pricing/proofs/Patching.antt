@@ -1,5 +1,5 @@
 -- How a patch at an agreed total ends, case by case, and the first number due on it. Assumes nothing.
-use Prim.Native.Nat.{ℕ, zero, suc, ◌-◌}
+use Prim.Native.Nat.{ℕ, zero, suc}
 use mathlib.Core.Path.{◌≡◌, refl, sym, ap, ◌∙◌, subst}
 use mathlib.Core.Logic.{◌≢◌}
 use mathlib.Core.List.{List}
@@ -107,3 +107,4 @@ module _ (job : Job) (agreed : ℕ) (triangles work : List ℕ) where
       none_before : (q : JobCallPlace) (j : ℕ) → order.Precedes JobCallBefore q j after_job 23 → Due q j → ⊥
       none_before _ j l (of_job {p} x) = ok.none p j x
       none_before _ _ (order.by_number l) (not_least t x) = omega arith
+      none_before _ _ (order.by_place x14) (not_least t x) = elim x14 [ ]

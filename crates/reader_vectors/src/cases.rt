@@ -5,6 +5,7 @@ use crate::compare::{COUNT, compare};
 use crate::file::Bytes;
 use crate::text::Text;
 use crate::{answers, file, text};
+use std::io;
 
 // Sets the file that a case starts from, P, Q or a chain, and returns the case's length.
 fn set_base(file: &mut Bytes, second: bool, text: &Text, at: usize) -> usize {
@@ -41,7 +42,13 @@ fn limit_for(trim: bool) -> usize {
 }
 
 // A file with its changes.
-fn run_file(file: &mut Bytes, text: &Text, at: usize, answer: usize) {
+fn run_file(
+    rt: &impl Print,
+    file: &mut Bytes,
+    text: &Text,
+    at: usize,
+    answer: usize,
+) -> io::Result<()> {
     let from = file_at(text, at);
     let limit = limit_for(from != at);
     let second = file::is_second(text, from);
@@ -50,33 +57,46 @@ fn run_file(file: &mut Bytes, text: &Text, at: usize, answer: usize) {
     let mut numbers = [0i64; COUNT];
     let n = answers::of_file(text, from, answer, &mut numbers);
     let number = answers::number_due(text, answer);
-    compare(limit, file, length, number, n, &numbers);
+    compare(rt, limit, file, length, number, n, &numbers)
 }
 
 // A number's bits at one place.
-fn run_number(file: &mut Bytes, text: &Text, place: usize, bits: u32, answer: usize)
+fn run_number(
+    rt: &impl Print,
+    file: &mut Bytes,
+    text: &Text,
+    place: usize,
+    bits: u32,
+    answer: usize,
+) -> io::Result<()>
     requires { place ≤ 4 }
 {
     file::three_points_with(file, place, bits);
     let mut numbers = [0i64; COUNT];
     let n = answers::of_number(text, place, answer, &mut numbers);
     let number = answers::number_due(text, answer);
-    compare(terms::MAX_VERTICES, file, 56, number, n, &numbers);
+    compare(rt, terms::MAX_VERTICES, file, 56, number, n, &numbers)
 }
 
 // A case with nothing but a number's bits before the colon tries them at each place.
-fn run_case(file: &mut Bytes, text: &Text, at: usize, colon: usize)
+fn run_case(
+    rt: &impl Print,
+    file: &mut Bytes,
+    text: &Text,
+    at: usize,
+    colon: usize,
+) -> io::Result<()>
     requires { colon ≤ 24576 }
 {
-    io::write_all(1, b":");
+    print!(rt; ":")?;
     let bits = text::number_in(text, at, 16);
     if bits.end != colon {
-        run_file(file, text, at, colon + 2);
-        return;
+        return run_file(rt, file, text, at, colon + 2);
     }
     for place in 0..5 {
-        run_number(file, text, place, bits.value, colon + 2);
+        run_number(rt, file, text, place, bits.value, colon + 2)?;
     }
+    Ok(())
 }
 
 // Where the part of a line that is printed ends: at a semicolon, a colon or the line's end.
@@ -93,33 +113,35 @@ fn printed_end(text: &Text, at: usize) -> usize
 }
 
 // Prints a part of the text.
-fn print(text: &[u8], at: usize, end: usize) {
+fn print(rt: &impl Print, text: &[u8], at: usize, end: usize) -> io::Result<()> {
     if at <= end {
         if end <= text.len() {
-            io::write_all(1, &text[at..end]);
+            rt.write_all(&text[at..end])?;
         }
     }
+    Ok(())
 }
 
 // A title, with a semicolon after it, is printed instead of the case.
-fn run_line(file: &mut Bytes, text: &Text, at: usize) {
+fn run_line(rt: &impl Print, file: &mut Bytes, text: &Text, at: usize) -> io::Result<()> {
     let end = printed_end(text, at);
-    print(text, at, end);
+    print(rt, text, at, end)?;
     match text::byte(text, end) {
-        b';' => run_case(file, text, end + 2, text::find(text, end, b':')),
-        b':' => run_case(file, text, at, end),
+        b';' => run_case(rt, file, text, end + 2, text::find(text, end, b':'))?,
+        b':' => run_case(rt, file, text, at, end)?,
         _ => {}
     }
-    io::write_all(1, b"\n");
+    println!(rt)
 }
 
 // Runs the lines after the first that start with a letter or a digit. The byte before the digits is /.
-pub(crate) fn run(file: &mut Bytes, text: &Text) {
+pub(crate) fn run(rt: &impl Print, file: &mut Bytes, text: &Text) -> io::Result<()> {
     for i in 0..text::ROOM {
         if text[i] == b'\n' {
             if b'/' < text::byte(text, i + 1) {
-                run_line(file, text, i + 1);
+                run_line(rt, file, text, i + 1)?;
             }
         }
     }
+    Ok(())
 }

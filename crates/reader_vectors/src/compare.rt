@@ -6,6 +6,7 @@ use grid::GridPoint;
 use polygon::Polygon;
 use polygon::normal::Normal;
 use reader::Reading;
+use std::io;
 
 // Two factors, the coordinates of 64 vertices, and the numbers of their normals.
 pub const COUNT: usize = 386;
@@ -68,23 +69,25 @@ fn same_polygon(p: Polygon, n: u32, numbers: &Numbers) -> bool {
 // Prints the number that came, or ok, and whether that or the polygon is not the expected one. Where a
 // number is expected, the polygon is empty: no vertex, and zeros.
 pub(crate) fn compare(
+    rt: &impl Print,
     limit: usize,
     file: &Bytes,
     length: usize,
     number: u32,
     n: u32,
     numbers: &Numbers,
-) {
+) -> io::Result<()> {
     let reading = read(limit, file, length);
     let status = reading.status;
     let came = status.number();
-    io::write_all(1, b" ");
+    print!(rt; " ")?;
     if came == 0 {
-        io::write_all(1, b"ok");
+        print!(rt; "ok")?;
     } else {
-        io::print_decimal(1, came as u64);
+        print!(rt; "{came}")?;
     }
     if came != number || !same_polygon(reading.polygon, n, numbers) {
-        io::write_all(1, b" is wrong");
+        print!(rt; " is wrong")?;
     }
+    Ok(())
 }

@@ -9,9 +9,12 @@ mod compare;
 mod file;
 mod text;
 
-fn main() {
+use programs::input;
+use std::io;
+
+fn main(rt: HostRuntime) -> io::Result<()> {
     let mut text = [0u8; text::ROOM];
-    io::read_full(0, &mut text);
+    input::read_full(&mut rt.stdin(), &mut text)?;
     let mut file = [0u8; file::SPACE];
-    cases::run(&mut file, &text);
+    cases::run(&rt, &mut file, &text)
 }

@@ -1,0 +1,40 @@
+-- `patch_lines::lines_of` meets its contract: the lines of the first k triangles are written. Assumes nothing.
+use mathlib.Core.Path.{refl}
+use mathlib.Core.List.{map}
+use native.Mathlib.Omega.{arith}
+use lib.ListN.{length-map, replicate}
+use Rattle.lists.proofs.Writing.{start, turn, push, all, rest_end}
+use Rattle.patch_lines.specs.Lines.{line_of, no_line, line_places}
+use Rattle.patch_lines.proofs.Hanging.{next_line}
+use Rattle.patch_lines.proofs.lines_of.Goals as goal
+
+pub loop-k-init : goal.loop-k-init
+loop-k-init c =
+    let s = c in
+    let patch = s.args.patch.now in
+    let f = (line_of s.args.candidates.now s.args.weights.now s.args.rows.now s.args.patch.now) in
+    (refl, start (map f patch) (replicate line_places no_line) (omega (arith, length-map patch f, s.requires.1)))
+
+pub line_of-requires : goal.line_of-requires
+line_of-requires c = c.requires.0
+
+pub offset_bounds-lines-k : goal.offset_bounds-lines-k
+offset_bounds-lines-k c = omega (arith, c.requires.1)
+
+pub bounds-lines-k : goal.bounds-lines-k
+bounds-lines-k c = omega (arith, c.requires.1)
+
+pub loop-k-preserved : goal.loop-k-preserved
+loop-k-preserved c =
+    let s = c in
+    let f = line_of s.args.candidates.now s.args.weights.now s.args.rows.now s.args.patch.now in (
+      refl,
+      push (turn (next_line f s.args.patch.now c.loop-k.k (omega arith)
+          c.number-t.ensures c.line_of.ensures) c.loop-k.invariant.1),
+    )
+
+pub returns : goal.returns
+returns c =
+    let s = c in
+    let f = (line_of s.args.candidates.now s.args.weights.now s.args.rows.now s.args.patch.now) in
+    (all (turn (rest_end f s.args.patch.now c.loop-k.k (omega arith)) c.loop-k.invariant.1)).1
