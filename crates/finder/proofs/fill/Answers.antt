@@ -7,7 +7,8 @@ use lib.ListN.{length}
 use Rattle.lists.proofs.Choice.{yes, no, gt_via, ge_via}
 use Rattle.dihedrals.specs.Dihedrals.{rows_of}
 use Rattle.dihedrals.proofs.Rows.{row_count}
-use Rattle.finder.specs.declared.Found.TheVariants.{Lists}
+use Rattle.finder.specs.declared.Found.TheVariants.{Lists, Refused}
+use Rattle.codes.specs.declared.Refusal.{Refusal}
 use Rattle.finder.specs.declared.Places.{Places}
 use Rattle.finder.specs.Finding.{finding}
 use Rattle.finder.specs.Filling.{faces_of, fill_or13}
@@ -16,20 +17,17 @@ use Rattle.finder.proofs.fill.Goals as goal
 
 -- the candidates and the rows were counted
 module _ (g : goal.After-count_places-needed) where
-  abbrev begin : goal.Start
-  begin = g
-
   abbrev triangles : List (List ℕ)
-  triangles = faces_of begin.args.p begin.args.masks.now
+  triangles = faces_of g.args.p g.args.masks.now
 
-  triangles_are : g.count_places-needed.result.triangles ≡ begin.args.p.n - 2
+  triangles_are : g.count_places-needed.result.triangles ≡ g.args.p.n - 2
   triangles_are = ap (λ (x : Places). x.triangles) g.count_places-needed.ensures
 
   count_is : g.count_places-needed.result.candidates ≡ length triangles
-  count_is = ap (λ (x : Places). x.candidates-1) g.count_places-needed.ensures
+  count_is = ap (λ (x : Places). x.candidates) g.count_places-needed.ensures
 
-  rows_are : g.count_places-needed.result.rows ≡ length (rows_of begin.args.p triangles)
-  rows_are = ap (λ (x : Places). x.rows-1) g.count_places-needed.ensures ∙ sym (row_count begin.args.p triangles)
+  rows_are : g.count_places-needed.result.rows ≡ length (rows_of g.args.p triangles)
+  rows_are = ap (λ (x : Places). x.rows) g.count_places-needed.ensures ∙ sym (row_count g.args.p triangles)
 
 pub count_places-needed-requires : goal.count_places-needed-requires
 count_places-needed-requires c = let v = c.requires.valid in (v.least, v.most)
@@ -38,14 +36,16 @@ pub returns-then-triangle_places-triangles : goal.returns-then-triangle_places-t
 unfolding fill_or13
 returns-then-triangle_places-triangles c =
     let h = (goal.at.returns-then-triangle_places-triangles c).After-count_places-needed in
-    rw c.new.ensures (sym (yes _ _ (gt_via (triangles_are h) h.if-triangle_places-triangles.true)))
+    ap (λ (r : Refusal). finding (Refused r) c.args.candidates.now c.args.weights.now c.args.rows.now) c.new.ensures
+    ∙ (sym (yes _ _ (gt_via (triangles_are h) c.if-triangle_places-triangles.true)))
 
 pub returns-then-work_places-count : goal.returns-then-work_places-count
 unfolding fill_or13
 returns-then-work_places-count c =
     let h = c in
     let g = (goal.at.returns-then-work_places-count c).After-count_places-needed in
-    rw c.new-then-work_places-count.ensures (sym (no _ _ (ge_via (triangles_are g) h.if-triangle_places-triangles.false) ∙ yes _ _ (gt_via (count_is g) h.if-work_places-count.true)))
+    ap (λ (r : Refusal). finding (Refused r) c.args.candidates.now c.args.weights.now c.args.rows.now) c.new-then-work_places-count.ensures
+    ∙ (sym (no _ _ (ge_via (triangles_are g) h.if-triangle_places-triangles.false) ∙ yes _ _ (gt_via (count_is g) h.if-work_places-count.true)))
 
 pub returns-then-candidates-count : goal.returns-then-candidates-count
 unfolding fill_or13
@@ -53,8 +53,8 @@ returns-then-candidates-count c =
     let h = c in
     let g = (goal.at.returns-then-candidates-count c).After-count_places-needed in
     let n = count_is g in
-    rw c.new-then-candidates-count.ensures
-    (sym (no _ _ (ge_via (triangles_are g) h.if-triangle_places-triangles.false) ∙ no _ _ (ge_via n h.if-work_places-count.false) ∙ yes _ _ (gt_via n h.if-candidates-count.true)))
+    ap (λ (r : Refusal). finding (Refused r) c.args.candidates.now c.args.weights.now c.args.rows.now) c.new-then-candidates-count.ensures
+    ∙ (sym (no _ _ (ge_via (triangles_are g) h.if-triangle_places-triangles.false) ∙ no _ _ (ge_via n h.if-work_places-count.false) ∙ yes _ _ (gt_via n h.if-candidates-count.true)))
 
 pub returns-then-weights-count : goal.returns-then-weights-count
 unfolding fill_or13
@@ -62,8 +62,8 @@ returns-then-weights-count c =
     let h = c in
     let g = (goal.at.returns-then-weights-count c).After-count_places-needed in
     let n = count_is g in
-    rw c.new-then-weights-count.ensures
-    (sym (no _ _ (ge_via (triangles_are g) h.if-triangle_places-triangles.false) ∙ no _ _ (ge_via n h.if-work_places-count.false)
+    ap (λ (r : Refusal). finding (Refused r) c.args.candidates.now c.args.weights.now c.args.rows.now) c.new-then-weights-count.ensures
+    ∙ (sym (no _ _ (ge_via (triangles_are g) h.if-triangle_places-triangles.false) ∙ no _ _ (ge_via n h.if-work_places-count.false)
     ∙ no _ _ (ge_via n h.if-candidates-count.false) ∙ yes _ _ (gt_via n h.if-weights-count.true)))
 
 pub returns-then-rows-row_count : goal.returns-then-rows-row_count
@@ -72,15 +72,15 @@ returns-then-rows-row_count c =
     let h = c in
     let g = (goal.at.returns-then-rows-row_count c).After-count_places-needed in
     let n = count_is g in
-    rw c.new-then-rows-row_count.ensures
-    (sym (no _ _ (ge_via (triangles_are g) h.if-triangle_places-triangles.false) ∙ no _ _ (ge_via n h.if-work_places-count.false)
+    ap (λ (r : Refusal). finding (Refused r) c.args.candidates.now c.args.weights.now c.args.rows.now) c.new-then-rows-row_count.ensures
+    ∙ (sym (no _ _ (ge_via (triangles_are g) h.if-triangle_places-triangles.false) ∙ no _ _ (ge_via n h.if-work_places-count.false)
     ∙ no _ _ (ge_via n h.if-candidates-count.false) ∙ no _ _ (ge_via n h.if-weights-count.false) ∙ yes _ _ (gt_via (rows_are g) h.if-rows-row_count.true)))
 
 pub write_lists-requires : goal.write_lists-requires
 write_lists-requires c =
     let e = c in
     let g = (goal.at.write_lists-requires c).After-count_places-needed in (
-      (begin g).requires,
+      g.requires,
       record {
         for_candidates = omega (arith, count_is g, e.if-candidates-count.false);
         for_weights = omega (arith, count_is g, e.if-weights-count.false);

@@ -9,7 +9,7 @@ pub returns : goal.returns
 returns c =
     let s = c in
     let n = beside_enough s.args.p s.args.candidates.now s.args.weights.now s.args.rows.now in
-    let e = c.find_beside.ensures in (
-      e.0 ∙ ap (λ (k : ℕ). find_by k s.args.p s.args.candidates.now s.args.weights.now s.args.rows.now) n,
-      e.1 ∙ ap (λ (k : ℕ). due_values k s.args.p) n,
-    )
+    let e = c.find_beside.ensures in record {
+      tables = e.tables ∙ ap (λ (k : ℕ). find_by k s.args.p s.args.candidates.now s.args.weights.now s.args.rows.now) n;
+      values = e.values ∙ ap (λ (k : ℕ). due_values k s.args.p) n;
+    }

@@ -15,7 +15,8 @@ pub returns-then-number-ne0 : goal.returns-then-number-ne0
 returns-then-number-ne0 c =
     let h = c in
     let p = h.args.p in
-    sizes_values p (number_due false p) (sizes_refused p _ c.new.ensures h.search-number.ensures.is_due h.if-number-ne0.true)
+    let both = sizes_values p (number_due false p) (sizes_refused p _ c.new.ensures h.search-number.ensures.is_due h.if-number-ne0.true) in
+    record { sizes = both.0; values = both.1 }
 
 pub count_places-places-requires : goal.count_places-places-requires
 count_places-places-requires c =
@@ -27,5 +28,6 @@ pub returns : goal.returns
 returns c =
     let g = (goal.at.returns c).Else-number-ne0 in
     let p = g.args.p in
-    sizes_values p (number_due false p)
-    (sizes_known p (none-due g) (g.search-number.ensures.listed g.if-number-ne0.false) c.count_places-places.ensures)
+    let both = sizes_values p (number_due false p)
+    (sizes_known p (none-due g) (g.search-number.ensures.listed g.if-number-ne0.false) c.count_places-places.ensures) in
+    record { sizes = both.0; values = both.1 }
