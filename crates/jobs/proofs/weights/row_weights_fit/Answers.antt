@@ -9,7 +9,7 @@ pub returns-then-row-gt-MAX_WEIGHT : goal.returns-then-row-gt-MAX_WEIGHT
 returns-then-row-gt-MAX_WEIGHT c = sym (sym c.loop-i.invariant ∙ every_stop _ _ _ (omega arith) (lt-leb _ _ c.if-row-gt-MAX_WEIGHT.true))
 
 pub loop-i-preserved : goal.loop-i-preserved
-loop-i-preserved c = sym (every_on _ _ _ (omega arith) (le-leb _ _ c.if-row-gt-MAX_WEIGHT.false)) ∙ c.loop-i.invariant
+loop-i-preserved c = sym (every_on _ _ _ (omega arith) (le-leb _ _ (omega arith))) ∙ c.loop-i.invariant
 
 pub returns : goal.returns
 returns c = sym (sym c.loop-i.invariant ∙ every_end _ _ _ (omega arith))
