@@ -44,7 +44,7 @@ module _ (limit : ℕ) (file : List ℕ) where
         subst (λ (p : Polygon). NoSurface p) same
         (record { none = λ i h. zero_normal_lem i ((read_records limit file complete).in_file i h) (read_normals limit file complete i h) })
       where
-        zero_normal_lem : {q : Normal} (i : ℕ) → InFile file (link file i) → HasNormal file i q → q ≡ no_normal
+        zero_normal_lem : (i : ℕ) {q : Normal} → InFile file (link file i) → HasNormal file i q → q ≡ no_normal
         zero_normal_lem _ r (held i two ranged) = sym (normal_2 file (offset file (link file i)) two) ∙ zeros.zero (link file i) r.numbered r.counted
         zero_normal_lem _ r (none i one) = refl
 

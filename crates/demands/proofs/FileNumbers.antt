@@ -14,7 +14,7 @@ use Rattle.polygon.proofs.Validity.{valid_code}
 use Rattle.terms.specs.Numbers.{first_due}
 use Rattle.rim_file.specs.File.{Bytes}
 use Rattle.reader.specs.declared.Status.TheVariants.{Complete}
-use Rattle.reader.specs.Order.{FilePlace, rim, Precedes, by_number, First, NoneDue}
+use Rattle.reader.specs.Order.{FilePlace, rim, Precedes, by_number, by_place, First, NoneDue}
 use Rattle.reader.specs.Due.{FileDue}
 use Rattle.reader.specs.Reading.{polygon_of, answer, reading_of}
 use Rattle.reader.specs.Reading as reader
@@ -42,6 +42,8 @@ twelve_first limit file Short none d = record { place = rim; is_due = twelve d; 
     before p j h (by_reader d) = none.none p j d
     before _ _ (by_number l) (twelve d) = omega arith
     before _ _ (by_number l) (thirteen d) = omega arith
+    before _ _ (by_place x) (twelve d) = elim x [ ]
+    before _ _ (by_place x) (thirteen d) = elim x [ ]
 
 -- what a file that is read has
 module _ (limit : ℕ) (file : List ℕ) (e : reader.number_due limit file ≡ 0) where
@@ -101,6 +103,7 @@ module _ (limit : ℕ) (file : List ℕ) (bytes : Bytes file) (Short : Polygon �
         before p j h (by_reader d) = no_reader p j d
         before p j h (twelve d) = true_not_false (true_degenerate (polygon_in limit file) d) a
         before _ _ (by_number l) (thirteen d) = omega arith
+        before _ _ (by_place x) (thirteen d) = elim x [ ]
     read_verdict (fails a) (fails b) = none_due (record { none = nothing }) (number_is ∙ yes _ _ no_code ∙ no _ _ a ∙ no _ _ b)
       where
         nothing : (p : FilePlace) (k : ℕ) → Due p k → ⊥

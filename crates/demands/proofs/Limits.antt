@@ -10,7 +10,7 @@ use Rattle.codes.specs.Refusals.{refusal}
 use Rattle.terms.specs.Limits.{min_vertices, max_vertices, trim_vertices, count_fits}
 use Rattle.terms.specs.Numbers.{first_due}
 use Rattle.rim_file.specs.File.{Bytes}
-use Rattle.reader.specs.Order.{FilePlace, request, Precedes, by_number}
+use Rattle.reader.specs.Order.{FilePlace, request, Precedes, by_number, by_place}
 use Rattle.reader.specs.Due.{HasRecords, ChainAtMost, limit_wrong}
 use Rattle.reader.specs.Reading.{polygon_of, reading_of}
 use Rattle.reader.specs.declared.Status.TheVariants.{Complete}
@@ -73,6 +73,7 @@ module _ (limit : ℕ) (file : List ℕ) (bytes : Bytes file) (t : Tables) where
     where
       before : (p : FilePlace) (j : ℕ) → Precedes p j request 14 → CallDue limit file t p j → ⊥
       before _ j (by_number l) (by_reader (limit_wrong h)) = omega arith
+      before p j (by_place x) _ = elim x [ ]
 
   five : {p : FilePlace} → CallDue limit file t p 5 → HasRecords file (suc limit) × (limit ≡ max_vertices)
   five (by_reader d) = due_5 limit file d

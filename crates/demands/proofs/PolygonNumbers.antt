@@ -5,7 +5,7 @@ use Prim.Native.Nat.{ℕ, zero, suc, ◌≤◌, ◌<◌}
 use native.Mathlib.Omega.{arith}
 use borrow.Author.Tests.{eq-eqb, ne_eqb}
 use Rattle.lists.proofs.Choice.{Truth, holds, fails, truth, yes, no, true_not_false}
-use Rattle.terms.specs.Order.{Precedes, by_number, NoneDue}
+use Rattle.terms.specs.Order.{Precedes, by_number, by_place, NoneDue}
 use Rattle.terms.proofs.Order.{Verdict, first_due_lem, none_due}
 use Rattle.polygon.specs.declared.Polygon.{Polygon}
 use Rattle.polygon.specs.Polygon.{code_of}
@@ -30,6 +30,7 @@ module _ (p : Polygon) (Short : Type 0) (short : Bool) (is-short : short ≡ tru
 
       not_later : (q : PolygonPlace) (k j : ℕ) → PolygonDue p q k → 12 ≤ j → Precedes PolygonBefore rim j q k → ⊥
       not_later _ k j d m (by_number l) = omega (arith, below k d)
+      not_later q k j d m (by_place x) = elim x [ ]
 
       before : (q : PolygonPlace) (j : ℕ) → Precedes PolygonBefore q j f.place k → PolygonCallDue p Short q j → ⊥
       before q j h (by_polygon d) = f.none_before q j h d
@@ -45,6 +46,8 @@ module _ (p : Polygon) (Short : Type 0) (short : Bool) (is-short : short ≡ tru
         before q j h (by_polygon d) = none.none q j d
         before _ _ (by_number l) (twelve d) = omega arith
         before _ _ (by_number l) (thirteen d) = omega arith
+        before _ _ (by_place x) (twelve d) = elim x [ ]
+        before _ _ (by_place x) (thirteen d) = elim x [ ]
 
     thirteen_first : (Degenerate p → ⊥) → Short → First (PolygonCallDue p Short) 13
     thirteen_first no_12 d = record { place = rim; is_due = thirteen d; none_before = before }
@@ -53,6 +56,7 @@ module _ (p : Polygon) (Short : Type 0) (short : Bool) (is-short : short ≡ tru
         before q j h (by_polygon d) = none.none q j d
         before _ _ h (twelve d) = no_12 d
         before _ _ (by_number l) (thirteen d) = omega arith
+        before _ _ (by_place x) (thirteen d) = elim x [ ]
 
     nothing_due : (Degenerate p → ⊥) → (Short → ⊥) → NoneDue (PolygonCallDue p Short)
     nothing_due no_12 no_13 = record { none = nothing }
