@@ -1,0 +1,16 @@
+-- `patch_program::printout_of` meets its contract. Assumes nothing.
+use mathlib.Core.Path.{refl}
+use Rattle.patch_program.proofs.Printing.{few_triangles, lines_ready, printed}
+use Rattle.patch_program.proofs.printout_of.Goals as goal
+
+pub vertices_of-vertices-requires : goal.vertices_of-vertices-requires
+vertices_of-vertices-requires c = few_triangles _ _ _ c.patch_file-outcome.ensures.tables
+
+pub lines_of-lines-requires : goal.lines_of-lines-requires
+lines_of-lines-requires c =
+    lines_ready _ _ _ c.patch_file-outcome.ensures.tables 4096 refl c.row_count-row_count.ensures.0 c.part-patch.ensures
+
+pub returns : goal.returns
+returns c =
+    printed c.args.limit c.args.file.now c.patch_file-outcome.ensures.tables c.vertices_of-vertices.ensures
+    c.row_count-row_count.ensures.0 c.part-patch.ensures c.lines_of-lines.ensures
