@@ -11,7 +11,10 @@ triangulate_first-requires c =
     let r = ready s.args.p s.args.triangles.now s.args.candidates.now s.args.weights.now
     s.args.rows.now s.args.work.now c.in-Lists.is
     c.find_beside-found.ensures.tables in
-    record { count_in_bounds = (r.candidate_places, r.weight_places, r.row_places, r.work_places, r.triangle_places); well_formed = r.formed }
+    record {
+      count_in_bounds = (r.candidate_places, r.weight_places, r.row_places, r.work_places, r.triangle_places);
+      well_formed = r.formed;
+    }
 
 pub returns-in-Refused : goal.returns-in-Refused
 returns-in-Refused c =
