@@ -136,12 +136,12 @@ module _ (p : Polygon) (a b c z : ℕ) (flat : orient_of (vertex p a) (vertex p 
 
     -- so b is a corner of (a, c, z)
     crossed : Supported p (triple a b c) → Supported p (triple a c z) → Memᴰ b (triple a c z)
+    unfolding inner_weights
     crossed st su =
         (meeting p (triple a b c) (triple a c z) st su inner_weights outer_weights meet).0 b (tail (head refl))
         (omega (arith, weight_b))
       where
         weight_b : inner_weights b ≡ suc e
-        unfolding inner_weights
         weight_b = at_b a b c k.over (suc e) g.over ab ac bc
 
 -- a normal does not depend on which corner comes first
