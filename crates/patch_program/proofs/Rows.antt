@@ -2,15 +2,14 @@
 use mathlib.Core.Path.{◌≡◌, refl, sym, ap, ◌∙◌, subst}
 use mathlib.Core.Bool.{Bool, true, false, cond}
 use mathlib.Core.List.{List, [], ◌∷◌, ◌++◌}
-use Prim.Native.Nat.{ℕ, zero, suc, ◌+◌, ◌-◌, ◌≤◌, ◌<◌}
-use native.Mathlib.Numerals.{add-one}
+use Prim.Native.Nat.{ℕ, zero, suc, ◌-◌, ◌<◌}
 use native.Mathlib.Omega.{arith}
-use borrow.Author.Tests.{eq-eqb, ne_eqb}
+use borrow.Author.Tests.{ne_eqb}
 use lib.Dec.{eqb}
-use lib.ListN.{length, take, drop, replicate, drop_of_length-le}
-use lib.Seq.{drop-cons, take_at}
+use lib.ListN.{length, take, drop, replicate}
+use lib.Seq.{take_at}
 use Rattle.lists.specs.Lists.{filled, both}
-use Rattle.lists.proofs.Choice.{yes, no}
+use Rattle.lists.proofs.Choice.{no}
 use Rattle.terms.specs.Entries.{triple, entry_at, outer, inner, row_weight}
 use Rattle.terms.specs.Numbers.{first_due}
 use Rattle.polygon.specs.declared.Polygon.{Polygon}
@@ -25,7 +24,7 @@ use Rattle.jobs.proofs.Order.{Hangs, on_ab, on_bc}
 use Rattle.triangulation.specs.Problems.{pair_weight}
 use Rattle.rows.specs.Search.{RowsAscend}
 use Rattle.triangulator.proofs.Accepting.{well_formed}
-use Rattle.pipeline.specs.Patching.{Tables, weights_in, rows_in, job_in, tables_short, patch_by, polygon_number, file_number, patch_file}
+use Rattle.pipeline.specs.Patching.{Tables, rows_in, job_in, tables_short, patch_by, polygon_number, file_number, patch_file}
 use Rattle.pipeline.proofs.Accepted.{lists_accepted}
 use Rattle.patch_lines.specs.Places.{row_count_of}
 
