@@ -28,6 +28,17 @@ OWN = {
     "bytes-at": "bytes_at_lem",
     "any-of": "any_of_lem",
     "same-list": "same_list_lem",
+    # fields and constructors, which a reader of specs/ meets
+    "on-sphere": "by_sphere",
+    "on-circle": "by_circle",
+    "hinge-weight": "hinge_weights",
+    "normal-in": "normal_in",
+    "own-weight": "own_weights",
+    "other-edition": "in_other_edition",
+    "in-range": "ranged",
+    "length-wrong": "wrong_length",
+    "over-limit": "above_limit",
+    "record-at": "at_record",
 }
 # A word of clauses now: what an outcome, a judgement or a quote and the tables left with it make.
 RESULT = re.compile(r"(?<![\w.'-])result(?![\w'-])|(?<=\b(?:price|judge|tiler)\.)result(?![\w'-])|(?<=\bquote\.)result(?![\w'-])")

@@ -1,7 +1,10 @@
 -- `geometry::sphere::turn` meets its contract.
-use mathlib.Core.Path.{refl, sym, ◌∙◌, ap}
+use mathlib.Core.Bool.{false}
+use mathlib.Core.Path.{◌≡◌, refl, sym, ◌∙◌, ap}
 use lib.IntN.{ℤ, pos}
 use lib.Signed.{lt_z}
+use mir.Syntax.{w64}
+use mir.Val.{to_z, of_z}
 use Rattle.integers.proofs.Bounds.{Holds, given, stored, fits, ◌-!◌}
 use Rattle.geometry.proofs.sphere.turn.Goals as goal
 
@@ -36,6 +39,6 @@ returns-then-o-lt0 c =
 
 pub returns : goal.returns
 returns c =
-    let s = c in
-    let t = sym (ap (λ (z : ℤ). lt_z z (pos 0)) (given tt s.requires.0).value) ∙ c.if-o-lt0.false in
-    (λ i. record { orient = (given tt s.requires.0).value i; centre = s.args.c }) ∙ rw t
+    let positive : lt_z (to_z w64 (of_z w64 c.args.o)) (pos 0) ≡ false = assumption in
+    let t = sym (ap (λ (z : ℤ). lt_z z (pos 0)) (given tt c.requires.0).value) ∙ positive in
+    (λ i. record { orient = (given tt c.requires.0).value i; centre = c.args.c }) ∙ rw t
