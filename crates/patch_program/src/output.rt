@@ -4,11 +4,31 @@ use patch_lines::{Line, TRIANGLES};
 use std::io;
 use triangulator::Outcome;
 
+fn print_number(rt: &impl Print, number: u32) -> io::Result<()> {
+    print!(rt; "{number}")
+}
+
+fn print_space(rt: &impl Print) -> io::Result<()> {
+    print!(rt; " ")
+}
+
+fn end_line(rt: &impl Print) -> io::Result<()> {
+    println!(rt)
+}
+
+fn print_vertex(rt: &impl Print, vertex: u8) -> io::Result<()> {
+    print_number(rt, vertex as u32)?;
+    print_space(rt)
+}
+
 fn print_line(rt: &impl Print, line: Line) -> io::Result<()> {
-    println!(rt;
-        "{} {} {} {} {}",
-        line.a, line.b, line.c, line.weight, line.row
-    )
+    print_vertex(rt, line.a)?;
+    print_vertex(rt, line.b)?;
+    print_vertex(rt, line.c)?;
+    print_number(rt, line.weight)?;
+    print_space(rt)?;
+    print_number(rt, line.row)?;
+    end_line(rt)
 }
 
 fn print_lines(rt: &impl Print, lines: [Line; TRIANGLES], count: usize) -> io::Result<()> {
@@ -32,7 +52,9 @@ fn print_patch(
 }
 
 fn print_refusal(rt: &impl Print, number: u32) -> io::Result<()> {
-    println!(rt; "refused {number}")
+    print!(rt; "refused ")?;
+    print_number(rt, number)?;
+    end_line(rt)
 }
 
 pub(crate) fn print(rt: &impl Print, printout: Printout) -> io::Result<()> {
