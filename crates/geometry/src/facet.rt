@@ -25,7 +25,7 @@ pub fn separates(pencil: Pencil, s: Lifted, w: Lifted) -> bool
     false
 }
 
-// Is w separated from s, and strictly inside the sphere through s? No empty sphere has the triangle then: `no-empty-sphere` of proofs/Facets.antt.
+// Is w separated from s, and strictly inside the sphere through s? No empty sphere has the triangle then: `no_empty_sphere` of proofs/Facets.antt.
 pub fn refuted_by(pencil: Pencil, s: Lifted, w: Lifted) -> bool
     requires { (PencilBounds pencil) × (LiftedBounds s) × (LiftedBounds w) }
     ensures { result ≡ refuted_by pencil s w }

@@ -138,7 +138,7 @@ pub fn circumsphere(pencil: Pencil, t: Lifted) -> Sphere
     turn(o, centre)
 }
 
-// Where a point lies. Its meaning where the orientation is not 0: `position-is` of proofs/Spheres.antt.
+// Where a point lies. Its meaning where the orientation is not 0: `position_is` of proofs/Spheres.antt.
 pub fn locate(sphere: Sphere, w: Lifted) -> Position
     requires { (SphereBounds sphere) × (LiftedBounds w) }
     ensures { result ≡ position_by sphere w }

@@ -4,7 +4,7 @@
 
 mod output;
 
-ghost use Rattle.std.specs.Prelude.{◌≡◌, IfOk};
+ghost use Rattle.std.specs.Prelude.{◌≡◌};
 ghost use Rattle.pipeline.specs.Patching.{patch_file};
 ghost use Rattle.patch_program.specs.Run.{empty_tables};
 ghost use Rattle.patch_program.specs.Printing.{printout_of};
@@ -55,11 +55,11 @@ pub fn printout_of(limit: usize, file: &[u8]) -> Printout
     }
 }
 
-// Closes the rim of a file and prints its patch; answers what came of it, or fails at the first write that fails.
-pub fn run(rt: &impl Print, limit: usize, file: &[u8]) -> io::Result<Outcome>
-    ensures { IfOk result (λ r. r ≡ (patch_file limit file.now empty_tables).outcome) }
+// Closes the rim of a file and prints its patch; answers what came of it, and whether all could be written.
+pub fn run(rt: &impl Print, limit: usize, file: &[u8]) -> (Outcome, io::Result<()>)
+    ensures { result.0 ≡ (patch_file limit file.now empty_tables).outcome }
 {
     let printout = printout_of(limit, file);
-    output::print(rt, printout)?;
-    Ok(printout.outcome)
+    let outcome = printout.outcome;
+    (outcome, output::print(rt, printout))
 }

@@ -26,7 +26,7 @@ fn axis_across(normal: Vector) -> Vector
 }
 
 // The circle through the base, u and v. Its orientation is 0 where they are on one line; where a point of their plane lies is what
-// `sphere::locate` says: `circle-position-is` of proofs/Seen.antt.
+// `sphere::locate` says: `circle_position_is` of proofs/Seen.antt.
 pub fn circle_through(u: Lifted, v: Lifted) -> Sphere
     requires { (LiftedBounds u) × (LiftedBounds v) }
     ensures { result ≡ circle_of u v }

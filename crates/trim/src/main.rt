@@ -1,7 +1,7 @@
 // The trim program (rule 5.9): the bench program for rims of at most 24 points.
 #![tactic(auto)]
 
-ghost use Rattle.std.specs.Prelude.{◌≡◌, IfOk};
+ghost use Rattle.std.specs.Prelude.{◌≡◌};
 ghost use Rattle.terms.specs.Limits.{trim_vertices};
 ghost use Rattle.pipeline.specs.Patching.{patch_file};
 ghost use Rattle.patch_program.specs.Run.{empty_tables};
@@ -11,8 +11,8 @@ use std::io;
 use triangulator::Outcome;
 
 // Closes the rim of a file and prints its patch.
-fn close(rt: &impl Print, file: &[u8]) -> io::Result<Outcome>
-    ensures { IfOk result (λ r. r ≡ (patch_file trim_vertices file.now empty_tables).outcome) }
+fn close(rt: &impl Print, file: &[u8]) -> (Outcome, io::Result<()>)
+    ensures { result.0 ≡ (patch_file trim_vertices file.now empty_tables).outcome }
 {
     patch_program::run(rt, terms::TRIM_VERTICES, file)
 }
@@ -20,6 +20,6 @@ fn close(rt: &impl Print, file: &[u8]) -> io::Result<Outcome>
 fn main(rt: HostRuntime) -> io::Result<()> {
     let mut file = [0u8; input::BUFFER];
     let length = input::read(&mut rt.stdin(), &mut file)?;
-    close(&rt, &file[..length])?;
-    Ok(())
+    let (_, printed) = close(&rt, &file[..length]);
+    printed
 }
