@@ -1,43 +1,31 @@
 -- The rows of a flat rim weigh 0: a candidate and the one that it hangs on lie on either side of their common edge, since they do not cross, so their
 -- normals point the same way. Assumes nothing.
-use mathlib.Core.Path.{◌≡◌, refl, sym, ◌∙◌, ap, subst}
+use mathlib.Core.Path.{◌≡◌, refl, sym, ◌∙◌, ap}
 use mathlib.Core.Bool.{cond}
 use mathlib.Core.List.Memᴰ.{head}
 use mathlib.Core.List.Memᴰ.{tail}
-use mathlib.Core.List.{List, [], ◌∷◌, Memᴰ}
-use Prim.Native.Nat.{ℕ, suc, ◌+◌, ◌*◌, ◌<◌}
+use mathlib.Core.List.{[], ◌∷◌, Memᴰ}
+use Prim.Native.Nat.{ℕ, suc, ◌+◌, ◌*◌}
 use native.Mathlib.Omega.{arith}
 use borrow.Author.Tests.{eq-eqb, ne_eqb}
 use lib.Dec.{eqb}
 use lib.IntN.{ℤ, pos, negsuc, nat_abs, ◌+ℤ◌, ◌-ℤ◌, ◌*ℤ◌, +ℤ_idl}
-use lib.ListN.{length}
-use Rattle.integers.proofs.Order.{equal_is, equal_yes}
 use Rattle.integers.proofs.Ring.{var, con, ◌:+◌, ◌:-◌, ◌:*◌, ring}
 use Rattle.lists.specs.Sums.{sum}
-use Rattle.lists.proofs.Choice.{true_not_false, yes, no}
-use Rattle.lists.proofs.Members.{entry_member}
-use Rattle.terms.specs.Entries.{triple, entry_at, outer, inner, row_weight}
+use Rattle.lists.proofs.Choice.{yes, no}
+use Rattle.terms.specs.Entries.{triple}
 use Rattle.grid.specs.declared.GridPoint.{GridPoint}
 use Rattle.geometry.specs.declared.Vector.{Vector}
 use Rattle.geometry.specs.Vectors.{difference_of, dot_of, cross_of, square_of, scaled_by, plus}
-use Rattle.geometry.specs.Faces.{normal_of, bend_between}
+use Rattle.geometry.specs.Faces.{normal_of}
 use Rattle.geometry.specs.Spheres.{orient_of}
 use Rattle.geometry.proofs.Squares.{square_size}
-use Rattle.geometry.proofs.Faces.{normal_within}
 use Rattle.geometry.proofs.Terms.{vec, cross_e, minus_e, of_points}
-use Rattle.planar.proofs.Planes.{plane_any}
 use Rattle.polygon.specs.declared.Polygon.{Polygon}
-use Rattle.polygon.specs.Polygon.{vertex, ValidPolygon}
-use Rattle.jobs.proofs.Order.{Hangs, on_ab, on_bc, hangs_true}
-use Rattle.dihedrals.specs.Dihedrals.{face_normal}
-use Rattle.demands.specs.Candidates.{Flat, CountsInPlane, Degenerate}
-use Rattle.demands.specs.Demand2.{Demand2}
-use Rattle.demands.proofs.Flat.{flat_candidate}
+use Rattle.polygon.specs.Polygon.{vertex}
 use Rattle.crossing.specs.Crossing.{corner_at, weighted_sum, Meet}
-use Rattle.crossing.proofs.Corners.{three_cases, Distinct}
 use Rattle.crossing.proofs.Forms.{Supported, meeting}
-use Rattle.crossing.proofs.Candidates.{listed_supported}
-use Rattle.crossing.proofs.SameWay.{Split, split, mixed, spread, same_way}
+use Rattle.crossing.proofs.SameWay.{Split, split, mixed, spread}
 
 -- ---- three weights on three vertices
 module _ (a b c x y z : ℕ) (ab : a ≡ b → ⊥) (ac : a ≡ c → ⊥) (bc : b ≡ c → ⊥) where

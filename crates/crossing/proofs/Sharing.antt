@@ -12,7 +12,6 @@ use Rattle.integers.proofs.Laws.{mul_one}
 use Rattle.lists.specs.Sums.{sum}
 use Rattle.terms.specs.Entries.{triple}
 use Rattle.polygon.specs.declared.Polygon.{Polygon}
-use Rattle.geometry.specs.declared.Vector.{Vector}
 use Rattle.crossing.specs.Crossing.{corner_at, weighted_sum, Meet, Belong}
 use Rattle.crossing.specs.Sharing.{Exactly, Sharing, nothing, a_corner, an_edge}
 use Rattle.crossing.proofs.Corners.{member_or_not, two_cases, three_cases, Distinct, distinct_three}

@@ -1,2 +1,1 @@
 -- Definitions only.
-use Rattle.std.specs.Prelude.{ℕ}
