@@ -17,7 +17,8 @@ use Rattle.blocks.specs.Blocks.{start_count, ByFirst, BlockStart, Starts}
 
 module _ (candidates : List (List ℕ)) (i k : ℕ) where
   -- what the test of candidate i and its first vertex says
-  pub there : both (ltb i (length candidates)) (ltb (vertex_a (entry_at candidates i)) k) ≡ true → (i < length candidates) × (vertex_a (entry_at candidates i) < k)
+  pub there : both (ltb i (length candidates)) (ltb (vertex_a (entry_at candidates i)) k) ≡ true → (i < length candidates)
+      × (vertex_a (entry_at candidates i) < k)
   there t = go (ltb i (length candidates)) refl t
     where
       go : (b : Bool) → ltb i (length candidates) ≡ b → both b (ltb (vertex_a (entry_at candidates i)) k) ≡ true →
@@ -25,7 +26,8 @@ module _ (candidates : List (List ℕ)) (i k : ℕ) where
       go true e t = (ltb-true i (length candidates) e, ltb-true (vertex_a (entry_at candidates i)) k t)
       go false e t = absurd (true_not_false t refl)
 
-  not_there : both (ltb i (length candidates)) (ltb (vertex_a (entry_at candidates i)) k) ≡ false → (length candidates ≤ i) ⊎ (k ≤ vertex_a (entry_at candidates i))
+  not_there : both (ltb i (length candidates)) (ltb (vertex_a (entry_at candidates i)) k) ≡ false
+      → (length candidates ≤ i) ⊎ (k ≤ vertex_a (entry_at candidates i))
   not_there t = go (ltb i (length candidates)) refl t
     where
       go : (b : Bool) → ltb i (length candidates) ≡ b → both b (ltb (vertex_a (entry_at candidates i)) k) ≡ false →
@@ -69,7 +71,8 @@ module _ (candidates : List (List ℕ)) where
           (eq-or-lt_of_le (let z : w ≤ k = omega arith in z));
     }
       where
-        above : (q : ℕ) → i ≤ q → q < length candidates → (length candidates ≤ i) ⊎ (k ≤ vertex_a (entry_at candidates i)) → k ≤ vertex_a (entry_at candidates q)
+        above : (q : ℕ) → i ≤ q → q < length candidates → (length candidates ≤ i) ⊎ (k ≤ vertex_a (entry_at candidates i))
+            → k ≤ vertex_a (entry_at candidates q)
         above q m l (inl a) = absurd (omega arith)
         above q m l (inr a) = ⊎_elim (λ d. omega (arith, ap (λ k. vertex_a (entry_at candidates k)) d)) (λ d. omega (arith, up.up i q d l)) (eq-or-lt_of_le m)
 

@@ -13,7 +13,8 @@ use Rattle.polygon.specs.Normal.{normal, no_normal, is_none}
 use Rattle.polygon.specs.declared.normal.Normal.{Normal}
 use Rattle.polygon.proofs.Normals.{none_is}
 use Rattle.terms.specs.Limits.{max_vertices}
-use Rattle.rim_file.specs.File.{u16_at, signed16, i16_at, is_edition2, marker, record_size1, header_start, record_size_of, first_record, record_count, length_wrong, offset}
+use Rattle.rim_file.specs.File.{u16_at, signed16, i16_at, is_edition2, marker, record_size1}
+use Rattle.rim_file.specs.File.{header_start, record_size_of, first_record, record_count, length_wrong, offset}
 use Rattle.rim_file.specs.Record.{normal_in}
 use Rattle.rim_file.specs.Editions.{SameRim}
 use Rattle.rim_file.proofs.Layouts.{start_1, start_2, size_1, size_2}

@@ -29,7 +29,8 @@ use Rattle.conversion.proofs.Rims.{raised_size, first_small, lowered_edition, lo
 
 -- ---- a file laid out twice
 module _ (s : List ℕ) (w : Whole s) (opening ending : List ℕ)
-    (start : header_start (laid_out opening ending s) ≡ length opening) (stride : record_size_of (laid_out opening ending s) ≡ record_size1 + length ending) where
+    (start : header_start (laid_out opening ending s) ≡ length opening)
+    (stride : record_size_of (laid_out opening ending s) ≡ record_size1 + length ending) where
   abbrev t : List ℕ
   t = laid_out opening ending s
 
@@ -56,7 +57,8 @@ module _ (s : List ℕ) (w : Whole s) (opening ending : List ℕ)
       (λ k h l. ap (λ (b : List ℕ). b ++ ending') (record_same k (omega arith) (omega arith))))
 
 -- ---- a file laid out as it is
-module _ (s : List ℕ) (w : Whole s) (opening ending : List ℕ) (opens : take (header_start s) s ≡ opening) (stride : record_size_of s ≡ record_size1 + length ending)
+module _ (s : List ℕ) (w : Whole s) (opening ending : List ℕ) (opens : take (header_start s) s ≡ opening)
+    (stride : record_size_of s ≡ record_size1 + length ending)
     (ends : (k : ℕ) → 0 < k → k ≤ record_count s → bytes_at s (offset s k + record_size1) (length ending) ≡ ending) where
   -- a record with its ending
   piece : (k : ℕ) → 0 < k → k ≤ record_count s →

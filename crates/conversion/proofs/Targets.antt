@@ -85,4 +85,5 @@ module _ (s : List ℕ) where
         written
         ∙ ap (λ (x : List ℕ). sets x (l.header + header_size) records)
         (headed ∙ (λ i. sets (opened i) l.header (bytes_at s (at-is i) header_size)) ∙ stores_then opening (header_bytes s) d 0 l.header (omega arith))
-        ∙ stores_then (opening ++ header_bytes s) records d 0 (l.header + header_size) (omega (arith, length-append opening (header_bytes s), header_length s w))
+        ∙ stores_then (opening ++ header_bytes s) records d 0 (l.header + header_size)
+        (omega (arith, length-append opening (header_bytes s), header_length s w))

@@ -83,7 +83,8 @@ module _ (p : Polygon) (l : List ℕ) (b : Ball p l) where
     form = ball_form;
     below = below;
     on = λ i m. form_is (corner_at p i) ∙ sub_self _ _ (b.on i m);
-    outside = λ i h. ⊎_elim inl (λ o. let q = above (distance_from b.scale b.centre (corner_at p i)) b.radius o in inr (q.0, form_is (corner_at p i) ∙ q.1)) (b.outside i h);
+    outside = λ i h. ⊎_elim inl (λ o. let q = above (distance_from b.scale b.centre (corner_at p i)) b.radius o in
+        inr (q.0, form_is (corner_at p i) ∙ q.1)) (b.outside i h);
     independent = independent;
   }
 
@@ -108,7 +109,8 @@ module _ (p : Polygon) (l : List ℕ) (a : ℕ) (o : ℤ) (c : Vector) where
       (square_e (minus_e (scaled_e (var 0) (minus_e (vec 7) (vec 1))) (vec 4))) tt
 
   -- l at one distance, no vertex nearer, and only l at that distance
-  pub ball_round : (o ≡ pos 0 → ⊥) → ((i : ℕ) → Memᴰ i l → away i ≡ away a) → ((i : ℕ) → i < p.n → lt_z (away i) (away a) ≡ false) → ((i : ℕ) → i < p.n → equal (away i) (away a) ≡ true → Memᴰ i l) → Ball p l
+  pub ball_round : (o ≡ pos 0 → ⊥) → ((i : ℕ) → Memᴰ i l → away i ≡ away a) → ((i : ℕ) → i < p.n → lt_z (away i) (away a) ≡ false)
+      → ((i : ℕ) → i < p.n → equal (away i) (away a) ≡ true → Memᴰ i l) → Ball p l
   ball_round h on empty only = record {
     scale = pos 2 *ℤ o;
     not_zero = λ e. h (equal_yes o (pos 0) (sym (equal_multiple 1 o) ∙ equal_is e));

@@ -44,4 +44,5 @@ pub distinct_two : {i j : ℕ} → i < j → Distinct (i ∷ j ∷ [])
 distinct_two {i} {j} l = more {x = i} {l = j ∷ []} (λ k m e. omega (arith, l, e, Memᴰ.eq_of_singleton m)) (distinct_one j)
 
 pub distinct_three : {a b c : ℕ} → a < b → b < c → Distinct (triple a b c)
-distinct_three {a} {b} {c} l m = more {x = a} {l = b ∷ c ∷ []} (λ k h e. two_cases h (λ q. omega (arith, l, e, q)) (λ q. omega (arith, l, m, e, q))) (distinct_two m)
+distinct_three {a} {b} {c} l m = more {x = a} {l = b ∷ c ∷ []} (λ k h e. two_cases h (λ q. omega (arith, l, e, q)) (λ q. omega (arith, l, m, e, q)))
+    (distinct_two m)

@@ -83,7 +83,8 @@ module _ (p : Polygon) (a b c z : ℕ) (flat : orient_of (vertex p a) (vertex p 
     level : scaled_by (pos n) t ≡ plus (plus (scaled_by (pos (suc e)) u) (scaled_by (pos g.over -ℤ pos g.under) v)) (scaled_by (pos 0) (cross_of u v))
     level =
         (λ i. scaled_by (sym (square_size (cross_of u v)) i) t) ∙ spread u v t in_plane
-        ∙ (λ i. plus (plus (scaled_by ((ap (λ (q : ℤ). pos 0 -ℤ q) opposite ∙ +ℤ_idl (pos (suc e))) i) u) (scaled_by (g.is i) v)) (scaled_by (pos 0) (cross_of u v)))
+        ∙ (λ i. plus (plus (scaled_by ((ap (λ (q : ℤ). pos 0 -ℤ q) opposite ∙ +ℤ_idl (pos (suc e))) i) u) (scaled_by (g.is i) v))
+        (scaled_by (pos 0) (cross_of u v)))
 
     -- the same in each coordinate
     along : (A B C Z w : ℤ) → pos n *ℤ (Z -ℤ A) ≡ pos (suc e) *ℤ (B -ℤ A) +ℤ (pos g.over -ℤ pos g.under) *ℤ (C -ℤ A) +ℤ pos 0 *ℤ w →
@@ -92,7 +93,8 @@ module _ (p : Polygon) (a b c z : ℕ) (flat : orient_of (vertex p a) (vertex p 
 
     sums : k.over + (suc e + (g.over + 0)) ≡ k.under + (g.under + (n + 0))
     sums =
-        let q : k.over * 1 + (suc e * 1 + (g.over * 1 + 0)) ≡ k.under * 1 + (g.under * 1 + (n * 1 + 0)) = ap nat_abs (along (pos 1) (pos 1) (pos 1) (pos 1) (pos 0)
+        let q : k.over * 1 + (suc e * 1 + (g.over * 1 + 0))
+        ≡ k.under * 1 + (g.under * 1 + (n * 1 + 0)) = ap nat_abs (along (pos 1) (pos 1) (pos 1) (pos 1) (pos 0)
         (ring (pos n ∷ pos (suc e) ∷ pos g.over ∷ pos g.under ∷ []) (var 0 :* (con (pos 1) :- con (pos 1)))
         (var 1 :* (con (pos 1) :- con (pos 1)) :+ (var 2 :- var 3) :* (con (pos 1) :- con (pos 1)) :+ con (pos 0) :* con (pos 0)) tt)) in
         omega arith

@@ -36,7 +36,8 @@ module _ (q r s : GridPoint) where
 
   plane_is : (p : Polygon) (i : ℕ) → affine_at plane_of (corner_at p i) ≡ orient_of q (vertex p i) r s
   unfolding orient_of
-  plane_is p i = ring (of_points q (vertex p i) r s) (dot_e slope_e (vec 3) :+ (con (pos 0) :- dot_e slope_e (vec 0))) (orient_e (minus_e (vec 3) (vec 0)) (minus_e (vec 6) (vec 0)) (minus_e (vec 9) (vec 0))) tt
+  plane_is p i = ring (of_points q (vertex p i) r s) (dot_e slope_e (vec 3) :+ (con (pos 0) :- dot_e slope_e (vec 0)))
+      (orient_e (minus_e (vec 3) (vec 0)) (minus_e (vec 6) (vec 0)) (minus_e (vec 9) (vec 0))) tt
 
   -- its points
   orient_at : VectorE → E
@@ -80,7 +81,8 @@ module _ (p : Polygon) where
       (λ e. ap (λ (i : ℕ). orient_of (pt q) (pt i) (pt r) (pt s)) e ∙ at_s (pt q) (pt r) (pt s))
 
   -- the plane through three of them marks the fourth
-  fourth : (l : List ℕ) (i q r s : ℕ) → (orient_of (pt q) (pt i) (pt r) (pt s) ≡ pos 0 → ⊥) → ((j : ℕ) → Memᴰ j l → (j ≡ i) ⊎ Memᴰ j (triple q r s)) → Mark p l i
+  fourth : (l : List ℕ) (i q r s : ℕ) → (orient_of (pt q) (pt i) (pt r) (pt s) ≡ pos 0 → ⊥) → ((j : ℕ) → Memᴰ j l → (j ≡ i) ⊎ Memᴰ j (triple q r s))
+      → Mark p l i
   fourth l i q r s off rest = plane_mark p l i (pt q) (pt r) (pt s) off (λ j m. ⊎_elim inl (λ h. inr (on_plane q r s j h)) (rest j m))
 
   module _ (a b c d : ℕ) (solid : orient_of (pt a) (pt b) (pt c) (pt d) ≡ pos 0 → ⊥) where
@@ -100,7 +102,8 @@ module _ (p : Polygon) where
         (λ j m. four_cases m (λ e. inr (head e)) (λ e. inr (tail (head e))) inl (λ e. inr (tail (tail (head e)))))
 
     mark_d : Mark p four d
-    mark_d = fourth four d a b c (opposite_not_zero (orient_swap_qr (pt a) (pt b) (pt d) (pt c)) (opposite_not_zero (orient_swap_rs (pt a) (pt b) (pt c) (pt d)) solid))
+    mark_d = fourth four d a b c (opposite_not_zero (orient_swap_qr (pt a) (pt b) (pt d) (pt c))
+        (opposite_not_zero (orient_swap_rs (pt a) (pt b) (pt c) (pt d)) solid))
         (λ j m. four_cases m (λ e. inr (head e)) (λ e. inr (tail (head e))) (λ e. inr (tail (tail (head e)))) inl)
 
     pub four_independent : (i : ℕ) → Memᴰ i four → Mark p four i
@@ -128,10 +131,12 @@ module _ (q r s : GridPoint) where
   normal_e a b c = cross_e (minus_e b a) (minus_e c a)
 
   normal_swap_qr : dot_of (normal_of q r s) (normal_of r q s) ≡ pos 0 -ℤ square_of (normal_of q r s)
-  normal_swap_qr = ring (of_points q r s q) (dot_e (normal_e (vec 0) (vec 3) (vec 6)) (normal_e (vec 3) (vec 0) (vec 6))) (con (pos 0) :- dot_e (normal_e (vec 0) (vec 3) (vec 6)) (normal_e (vec 0) (vec 3) (vec 6))) tt
+  normal_swap_qr = ring (of_points q r s q) (dot_e (normal_e (vec 0) (vec 3) (vec 6)) (normal_e (vec 3) (vec 0) (vec 6)))
+      (con (pos 0) :- dot_e (normal_e (vec 0) (vec 3) (vec 6)) (normal_e (vec 0) (vec 3) (vec 6))) tt
 
   normal_swap_rs : dot_of (normal_of q r s) (normal_of q s r) ≡ pos 0 -ℤ square_of (normal_of q r s)
-  normal_swap_rs = ring (of_points q r s q) (dot_e (normal_e (vec 0) (vec 3) (vec 6)) (normal_e (vec 0) (vec 6) (vec 3))) (con (pos 0) :- dot_e (normal_e (vec 0) (vec 3) (vec 6)) (normal_e (vec 0) (vec 3) (vec 6))) tt
+  normal_swap_rs = ring (of_points q r s q) (dot_e (normal_e (vec 0) (vec 3) (vec 6)) (normal_e (vec 0) (vec 6) (vec 3)))
+      (con (pos 0) :- dot_e (normal_e (vec 0) (vec 3) (vec 6)) (normal_e (vec 0) (vec 3) (vec 6))) tt
 
 module _ (p : Polygon) (a b c : ℕ) (bent : square_of (normal_of (vertex p a) (vertex p b) (vertex p c)) ≡ pos 0 → ⊥) where
   abbrev three : List ℕ
@@ -141,10 +146,12 @@ module _ (p : Polygon) (a b c : ℕ) (bent : square_of (normal_of (vertex p a) (
   normal = normal_of (vertex p a) (vertex p b) (vertex p c)
 
   -- the plane through two of them along the normal marks the third
-  third : (i q r : ℕ) → (dot_of normal (normal_of (vertex p q) (vertex p i) (vertex p r)) ≡ pos 0 → ⊥) → ((j : ℕ) → Memᴰ j three → (j ≡ i) ⊎ ((j ≡ q) ⊎ (j ≡ r))) → Mark p three i
+  third : (i q r : ℕ) → (dot_of normal (normal_of (vertex p q) (vertex p i) (vertex p r)) ≡ pos 0 → ⊥)
+      → ((j : ℕ) → Memᴰ j three → (j ≡ i) ⊎ ((j ≡ q) ⊎ (j ≡ r))) → Mark p three i
   third i q r off rest =
       plane_mark p three i Q R S (λ z. off (sym (along_is Q (vertex p i) R normal) ∙ z))
-      (λ j m. ⊎_elim inl (λ h. inr (⊎_elim (λ e. ap (λ (k : ℕ). orient_of Q (vertex p k) R S) e ∙ at_q Q R S) (λ e. ap (λ (k : ℕ). orient_of Q (vertex p k) R S) e ∙ at_r Q R S) h)) (rest j m))
+      (λ j m. ⊎_elim inl (λ h. inr (⊎_elim (λ e. ap (λ (k : ℕ). orient_of Q (vertex p k) R S) e ∙ at_q Q R S)
+      (λ e. ap (λ (k : ℕ). orient_of Q (vertex p k) R S) e ∙ at_r Q R S) h)) (rest j m))
     where
       Q : GridPoint
       Q = vertex p q
@@ -158,9 +165,11 @@ module _ (p : Polygon) (a b c : ℕ) (bent : square_of (normal_of (vertex p a) (
   pub three_independent : (i : ℕ) → Memᴰ i three → Mark p three i
   three_independent i m =
       three_cases m
-      (at (third a b c (opposite_not_zero (normal_swap_qr (vertex p a) (vertex p b) (vertex p c)) bent) (λ j h. three_cases h inl (λ e. inr (inl e)) (λ e. inr (inr e)))))
+      (at (third a b c (opposite_not_zero (normal_swap_qr (vertex p a) (vertex p b) (vertex p c)) bent)
+      (λ j h. three_cases h inl (λ e. inr (inl e)) (λ e. inr (inr e)))))
       (at (third b a c bent (λ j h. three_cases h (λ e. inr (inl e)) inl (λ e. inr (inr e)))))
-      (at (third c a b (opposite_not_zero (normal_swap_rs (vertex p a) (vertex p b) (vertex p c)) bent) (λ j h. three_cases h (λ e. inr (inl e)) (λ e. inr (inr e)) inl)))
+      (at (third c a b (opposite_not_zero (normal_swap_rs (vertex p a) (vertex p b) (vertex p c)) bent)
+      (λ j h. three_cases h (λ e. inr (inl e)) (λ e. inr (inr e)) inl)))
     where
       at : {k : ℕ} → Mark p three k → i ≡ k → Mark p three i
       at h e = subst (λ (x : ℕ). Mark p three x) (sym e) h

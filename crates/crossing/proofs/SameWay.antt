@@ -64,7 +64,8 @@ module _ (u v t : Vector) (flat : dot_of u (cross_of v t) ≡ pos 0) where
   pub spread : scaled_by (square_of N) t ≡ plus (plus (scaled_by (pos 0 -ℤ dot_of N M) u) (scaled_by (dot_of N (cross_of u t)) v)) (scaled_by (pos 0) N)
   spread =
       let a = scaled_e (dot_e NE NE) (vec 6) in
-      let b = plus_e (plus_e (scaled_e (con (pos 0) :- dot_e NE ME) (vec 0)) (scaled_e (dot_e NE (cross_e (vec 0) (vec 6))) (vec 3))) (scaled_e (dot_e (vec 0) ME) NE) in
+      let b = plus_e (plus_e (scaled_e (con (pos 0) :- dot_e NE ME) (vec 0)) (scaled_e (dot_e NE (cross_e (vec 0) (vec 6))) (vec 3)))
+      (scaled_e (dot_e (vec 0) ME) NE) in
       (λ i. record { x = ring (of_vectors u v t) a.X b.X tt i; y = ring (of_vectors u v t) a.Y b.Y tt i; z = ring (of_vectors u v t) a.Z b.Z tt i })
       ∙ (λ i. plus (plus (scaled_by (pos 0 -ℤ dot_of N M) u) (scaled_by (dot_of N (cross_of u t)) v)) (scaled_by (flat i) N))
 
@@ -87,14 +88,20 @@ module _ (u v t : Vector) (flat : dot_of u (cross_of v t) ≡ pos 0) where
   scale = con (pos square_scale)
 
   -- where they point the same way, their product, in the scale of squares, is at least that of their lengths
-  long_enough : (x m k : ℕ) → dot_of N M ≡ pos x → m * m ≤ square_scale * nat_abs (square_of N) → k * k ≤ square_scale * nat_abs (square_of M) → m * k ≤ square_scale * x
+  long_enough : (x m k : ℕ) → dot_of N M ≡ pos x → m * m ≤ square_scale * nat_abs (square_of N) → k * k ≤ square_scale * nat_abs (square_of M)
+      → m * k ≤ square_scale * x
   long_enough x m k e hm hk =
       let n = nat_abs (square_of N) in
       let l = nat_abs (square_of M) in
       let s : n * l ≡ x * x = ap nat_abs (sym (λ i. square_size N i *ℤ square_size M i) ∙ squares ∙ (λ i. e i *ℤ e i)) in
-      let q : (m * k) * (m * k) ≡ (m * m) * (k * k) = ap nat_abs (ring (pos m ∷ pos k ∷ []) ((var 0 :* var 1) :* (var 0 :* var 1)) ((var 0 :* var 0) :* (var 1 :* var 1)) tt) in
-      let r : (square_scale * n) * (square_scale * l) ≡ square_scale * square_scale * (n * l) = ap nat_abs (ring (pos n ∷ pos l ∷ []) ((scale :* var 0) :* (scale :* var 1)) (scale :* scale :* (var 0 :* var 1)) tt) in
-      let z : (square_scale * x) * (square_scale * x) ≡ square_scale * square_scale * (x * x) = ap nat_abs (ring (pos x ∷ []) ((scale :* var 0) :* (scale :* var 0)) (scale :* scale :* (var 0 :* var 0)) tt) in
+      let q : (m * k) * (m * k) ≡ (m * m) * (k * k) =
+      ap nat_abs (ring (pos m ∷ pos k ∷ []) ((var 0 :* var 1) :* (var 0 :* var 1)) ((var 0 :* var 0) :* (var 1 :* var 1)) tt) in
+      let r : (square_scale * n) * (square_scale * l)
+      ≡ square_scale * square_scale * (n * l) =
+      ap nat_abs (ring (pos n ∷ pos l ∷ []) ((scale :* var 0) :* (scale :* var 1)) (scale :* scale :* (var 0 :* var 1)) tt) in
+      let z : (square_scale * x) * (square_scale * x)
+      ≡ square_scale * square_scale * (x * x) =
+      ap nat_abs (ring (pos x ∷ []) ((scale :* var 0) :* (scale :* var 0)) (scale :* scale :* (var 0 :* var 0)) tt) in
       root_order (m * k) (square_scale * x) (omega (arith, q, r, s, z, mul_le hm hk))
 
   -- so the bend is 0, unless they point opposite ways

@@ -140,7 +140,8 @@ module _ (x : ℕ) (v : ℕ → ℕ) where
       by later (fails q) =
           let n : y ≡ x → ⊥ = eqb-false y x q in
           ap (λ (z : ℤ). pos (v y) *ℤ F y +ℤ z) (later (λ k. ⊎_elim (λ e. absurd (n (sym e))) (λ r. r) (Memᴰ.cases_cons (h k))))
-          ∙ ring (pos (v x) ∷ F x ∷ pos (v y) ∷ F y ∷ sum_over F without u ∷ []) (var 2 :* var 3 :+ (var 0 :* var 1 :+ var 4)) (var 0 :* var 1 :+ (var 2 :* var 3 :+ var 4)) tt
+          ∙ ring (pos (v x) ∷ F x ∷ pos (v y) ∷ F y ∷ sum_over F without u ∷ []) (var 2 :* var 3 :+ (var 0 :* var 1 :+ var 4))
+          (var 0 :* var 1 :+ (var 2 :* var 3 :+ var 4)) tt
           ∙ sym (ap (λ (k : ℕ). pos (v x) *ℤ F x +ℤ (pos k *ℤ F y +ℤ sum_over F without u)) (without_other y n))
 
 -- where what has weight in either list belongs to both, the sums are the same

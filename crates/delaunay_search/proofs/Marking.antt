@@ -57,7 +57,8 @@ module _ {T : Type 0} {gives : ℕ → ℕ → ℕ → T} {due : T} where
         (next due ∙ ap (λ (t : Bool). either t (left' due)) f) k
 
     pub kept_mark : (marks' : List ℕ) → length marks' ≡ length marks →
-        ((x y z : ℕ) → x < max_vertices → y < max_vertices → z < max_vertices → has marks' x y z ≡ either (at (gives x y z)) (has marks x y z)) → at due ≡ false →
+        ((x y z : ℕ) → x < max_vertices → y < max_vertices → z < max_vertices → has marks' x y z ≡ either (at (gives x y z)) (has marks x y z))
+        → at due ≡ false →
         Kept gives due marks₀ marks' left₀ left'
     kept_mark marks' long e f = record {
       faces = λ x y z h i j.

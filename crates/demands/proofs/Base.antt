@@ -63,5 +63,6 @@ module _ (limit : ℕ) (file : List ℕ) where
   edition_1_answer one = zero_normals_answer (record { zero = λ k h l. normal_1 file (offset file k) one })
 
 -- a file of edition 2 with the same header and records as one of edition 1, so that its normals are all zero, has the answer of that one
-pub edition_2_answer : (limit : ℕ) {one two : List ℕ} → is_edition2 one ≡ false → SameRim two one → (t : Tables) → patch_file limit two t ≡ base_file limit one t
+pub edition_2_answer : (limit : ℕ) {one two : List ℕ} → is_edition2 one ≡ false → SameRim two one → (t : Tables) → patch_file limit two t
+    ≡ base_file limit one t
 edition_2_answer limit {one} e r t = (same_answers r limit).patch t ∙ edition_1_answer limit one e t

@@ -50,7 +50,8 @@ module _ (p : Polygon) (v : ValidPolygon p) where
     row_light = λ k h. (weights_allowed p v).of_row k h;
   }
     where
-      weigh : (k : ℕ) → k < length rows → row_weight (entry_at rows k) ≡ hinge_weight p (entry_at cs (inner (entry_at rows k))) (entry_at cs (outer (entry_at rows k)))
+      weigh : (k : ℕ) → k < length rows → row_weight (entry_at rows k)
+          ≡ hinge_weight p (entry_at cs (inner (entry_at rows k))) (entry_at cs (outer (entry_at rows k)))
       weigh k h =
           let f = row_hinge p cs (entry_at rows k) (entry_member rows [] k h) in
           subst (λ (r : List ℕ). row_weight r ≡ hinge_weight p (entry_at cs (inner r)) (entry_at cs (outer r))) (sym f.is) refl

@@ -44,7 +44,8 @@ use Rattle.pricing.specs.Quote.{priced}
 use Rattle.pricing.specs.Patch.{patched_at}
 use Rattle.validation.specs.Validation.{named, is_tiling, list_total, list_code}
 use Rattle.judge.specs.Call.{judge_code, judged}
-use Rattle.pipeline.specs.Patching.{tables, Patching, patching, problem_in, tables_short, patched, patch_by, polygon_number, file_number, patch_polygon, patch_file}
+use Rattle.pipeline.specs.Patching.{tables, Patching, patching, problem_in, tables_short}
+use Rattle.pipeline.specs.Patching.{patched, patch_by, polygon_number, file_number, patch_polygon, patch_file}
 use Rattle.demands.specs.Worked.{Case, of_file, of_tilings, file_p, file_n, lent_p, with_totals, worked}
 
 -- ---- rim file P and the same rim with normals

@@ -35,7 +35,8 @@ pub record Demand2 (p : Polygon) (candidates : List (List ℕ)) (weights : List 
       ≡ bend_weight_of p.bend_factor
       (bend_between (face_normal p (entry_at candidates (inner (entry_at rows k)))) (face_normal p (entry_at candidates (outer (entry_at rows k)))))
   -- every hanging pair has exactly one row, whatever its weight (rule 2.13)
-  pub row : (o i : ℕ) → o < length candidates → i < length candidates → hangs (entry_at candidates i) (entry_at candidates o) ≡ true → (k : ℕ) × IsRow rows k o i
+  pub row : (o i : ℕ) → o < length candidates → i < length candidates → hangs (entry_at candidates i) (entry_at candidates o) ≡ true → (k : ℕ)
+      × IsRow rows k o i
   pub one_row : (o i j k : ℕ) → IsRow rows j o i → IsRow rows k o i → j ≡ k
   -- rows rise by outer, then by inner (rule 2.13)
   pub rows_ascending : (j k : ℕ) → j < k → k < length rows → row_before (entry_at rows j) (entry_at rows k) ≡ true

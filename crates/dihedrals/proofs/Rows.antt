@@ -41,4 +41,5 @@ edge_rows p cs s o h =
 
 -- there are as many rows as hanging pairs
 pub row_count : (p : Polygon) (cs : List (List ℕ)) → length (rows_of p cs) ≡ length (inners_of cs)
-row_count p cs = over_lengths (rows_on p cs) (inners_on cs) 0 (length cs) (λ o l m. ap length (rows_of_inners p cs o) ∙ length-map (inners_on cs o) (row_at p cs o))
+row_count p cs = over_lengths (rows_on p cs) (inners_on cs) 0 (length cs)
+    (λ o l m. ap length (rows_of_inners p cs o) ∙ length-map (inners_on cs o) (row_at p cs o))

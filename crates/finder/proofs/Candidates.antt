@@ -57,7 +57,8 @@ module _ (n : ℕ) (P : ℕ → ℕ → ℕ → Bool) where
           ap vertex_a (when_member (P a w.at v.at) (triple a w.at v.at) x v.member).1
 
       third : (a b c d : ℕ) (x y : List ℕ) → c < d → x ≡ triple a b c → y ≡ triple a b d → Before x y
-      third a b c d x y h ex ey = by_c (ap vertex_a ex ∙ sym (ap vertex_a ey)) (ap vertex_b ex ∙ sym (ap vertex_b ey)) (omega (arith, ap vertex_c ex, ap vertex_c ey))
+      third a b c d x y h ex ey = by_c (ap vertex_a ex ∙ sym (ap vertex_a ey)) (ap vertex_b ex ∙ sym (ap vertex_b ey))
+          (omega (arith, ap vertex_c ex, ap vertex_c ey))
 
       second : (a b d : ℕ) (x y : List ℕ) → b < d → (vertex_a x ≡ a) × (vertex_b x ≡ b) → (vertex_a y ≡ a) × (vertex_b y ≡ d) → Before x y
       second a b d x y h ex ey = by_b (ex.0 ∙ sym ey.0) (omega (arith, ex.1, ey.1))

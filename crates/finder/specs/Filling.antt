@@ -47,4 +47,5 @@ fill_or13 p found trianglePlaces workPlaces candidates weights rows =
     (cond (short (length candidates) (length found)) (finding (Refused (refusal 13)) candidates weights rows)
     (cond (short (length weights) (length found)) (finding (Refused (refusal 13)) candidates weights rows)
     (cond (short (length rows) (length (rows_of p found))) (finding (Refused (refusal 13)) candidates weights rows)
-    (finding (Lists (length found) (length (rows_of p found))) (filled found candidates) (filled (weights_of p found) weights) (filled (rows_of p found) rows))))))
+    (finding (Lists (length found) (length (rows_of p found))) (filled found candidates) (filled (weights_of p found) weights)
+    (filled (rows_of p found) rows))))))

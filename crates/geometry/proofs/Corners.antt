@@ -16,7 +16,8 @@ use Rattle.geometry.proofs.Terms.{VectorE, vec, scaled_e, plus_e, minus_e, oppos
 use Rattle.geometry.proofs.Centres.{centre, corner_q}
 
 -- the opposite orientation and the opposite centre give the same distances
-distance_opposite : (o : ℤ) (c v : Vector) → square_of (minus (scaled_by (pos 2 *ℤ (pos 0 -ℤ o)) v) (opposite c)) ≡ square_of (minus (scaled_by (pos 2 *ℤ o) v) c)
+distance_opposite : (o : ℤ) (c v : Vector) → square_of (minus (scaled_by (pos 2 *ℤ (pos 0 -ℤ o)) v) (opposite c))
+    ≡ square_of (minus (scaled_by (pos 2 *ℤ o) v) c)
 distance_opposite o c v =
     ring (o ∷ c.x ∷ c.y ∷ c.z ∷ v.x ∷ v.y ∷ v.z ∷ [])
     (distance_e (con (pos 0) :- var 0) (opposite_e (vec 1)) (vec 4)) (distance_e (var 0) (vec 1) (vec 4)) tt

@@ -1,5 +1,6 @@
 -- The size of a signed number from -1000 on, as the program prints it. Assumes nothing.
-use Rattle.std.proofs.Common.{◌≡◌, ◌^◌, ◌<◌, true, false, T, ℤ, pos, negsuc, ◌-ℤ◌, nat_abs, sym, subst, arith, to_z-of_z, w64, Fits, SFits, to_z, of_z, ltb-false, ltb-true}
+use Rattle.std.proofs.Common.{◌≡◌, ◌^◌, ◌<◌, true, false, T, ℤ, pos, negsuc, ◌-ℤ◌, nat_abs}
+use Rattle.std.proofs.Common.{sym, subst, arith, to_z-of_z, w64, Fits, SFits, to_z, of_z, ltb-false, ltb-true}
 use lib.Signed.{mag, lt_z, non_neg}
 
 -- below zero: its negation is from 1 to 1000

@@ -169,7 +169,8 @@ module _ (ρ : List ℤ) where
 
   add_p_is : (p q : Poly) → eval_p ρ (add_p p q) ≡ eval_p ρ p +ℤ eval_p ρ q
   add_p_is nil q = sym (+ℤ_idl (eval_p ρ q))
-  add_p_is (mon c m p) q = ins_p_is c m (add_p p q) ∙ ap (λ (x : ℤ). c *ℤ eval_m ρ m +ℤ x) (add_p_is p q) ∙ sym (+ℤ_assoc (c *ℤ eval_m ρ m) (eval_p ρ p) (eval_p ρ q))
+  add_p_is (mon c m p) q = ins_p_is c m (add_p p q) ∙ ap (λ (x : ℤ). c *ℤ eval_m ρ m +ℤ x) (add_p_is p q)
+      ∙ sym (+ℤ_assoc (c *ℤ eval_m ρ m) (eval_p ρ p) (eval_p ρ q))
 
   mul_m_is : (c : ℤ) (m : List ℕ) (q r : Poly) → eval_p ρ (mul_m c m q r) ≡ (c *ℤ eval_m ρ m) *ℤ eval_p ρ q +ℤ eval_p ρ r
   mul_m_is c m nil r = sym (ap (λ (x : ℤ). x +ℤ eval_p ρ r) (*ℤ-zero (c *ℤ eval_m ρ m)) ∙ +ℤ_idl (eval_p ρ r))

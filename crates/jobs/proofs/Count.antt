@@ -63,7 +63,11 @@ module _ (n : ℕ) where
   from_last_falls s t o q (by_b e h) =
       let x = q.a_b in let y = q.b_c in let z = q.c_n in
       let d = ap (λ a. choose3 (n - 1 - a)) e in
-      omega (arith, place_q (n - 1 - vertex_a t) (n - 1 - vertex_b t) (n - 1 - vertex_c t) (n - 1 - vertex_b s) (n - 1 - vertex_c s) (omega arith) (omega arith))
+      omega (
+        arith,
+        place_q (n - 1 - vertex_a t) (n - 1 - vertex_b t) (n - 1 - vertex_c t) (n - 1 - vertex_b s) (n - 1 - vertex_c s) (omega arith)
+            (omega arith),
+      )
   from_last_falls s t o q (by_c e f h) =
       let z = q.c_n in
       let d = ap (λ a. choose3 (n - 1 - a)) e in

@@ -110,4 +110,5 @@ module _ (job : Problem) where
   pub same_code : (list list' : List ℕ) (stated : ℕ) → SameNumbers list list' → list_code job list stated ≡ list_code job list' stated
   unfolding list_code list_total is_tiling
   same_code list list' stated h =
-      ap₂ (λ b s. unless (both b (is_triangulation job s)) 21 (unless (eqb stated (total_weight job s)) 22 0)) (names_same list list' h) (same_named list list' h)
+      ap₂ (λ b s. unless (both b (is_triangulation job s)) 21 (unless (eqb stated (total_weight job s)) 22 0)) (names_same list list' h)
+      (same_named list list' h)

@@ -60,7 +60,8 @@ module _ (job : Problem) (before : List ℕ) where
     start = omega (arith, f.start);
     end = omega arith;
     ready = λ u l w. ⊎_elim
-        (λ q. ap (λ x. get_or (set work t d) x 0) q ∙ get_or-set_same work t d 0 (omega (arith, f.long)) ∙ e ∙ ap (λ x. cost_of (best_from job job.n x)) (sym q))
+        (λ q. ap (λ x. get_or (set work t d) x 0) q ∙ get_or-set_same work t d 0 (omega (arith, f.long)) ∙ e
+        ∙ ap (λ x. cost_of (best_from job job.n x)) (sym q))
         (λ (q : u ≢ t). get_or-set_other work t u d 0 q ∙ f.ready u l (⊎_elim inl (λ (m : (low ≤ u) × (u < t + 1)). inr (m.0, omega arith)) w))
         (same? u t);
   }
@@ -88,7 +89,8 @@ module _ (n : ℕ) (candidates : List (List ℕ)) (weights : List ℕ) (rows : L
     left_ready u l ea ec = f.ready u l (inr (low, high))
       where
         low : get_or starts v 0 ≤ u
-        low = ⊎_elim (λ k. k) (λ (k : u < get_or starts v 0). absurd (omega (arith, first, (blocks.at v (omega arith)).below u k))) (order (get_or starts v 0) u)
+        low = ⊎_elim (λ k. k) (λ (k : u < get_or starts v 0). absurd (omega (arith, first, (blocks.at v (omega arith)).below u k)))
+            (order (get_or starts v 0) u)
 
         high : u < t
         high = ⊎_elim

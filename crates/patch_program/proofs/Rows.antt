@@ -75,7 +75,8 @@ pub record Counted (rows : List (List ℕ)) : Type 0 where
 
 counted : (rows : List (List ℕ)) (n : ℕ) → RowsAscend rows → Apart rows → Counted (rows ++ zeros n)
 counted rows n a h =
-    let e : take (row_count_of (rows ++ zeros n)) (rows ++ zeros n) ≡ rows = take_at rows (zeros n) (row_count_of (rows ++ zeros n)) (sym (count_all rows n h)) in
+    let e : take (row_count_of (rows ++ zeros n)) (rows ++ zeros n)
+    ≡ rows = take_at rows (zeros n) (row_count_of (rows ++ zeros n)) (sym (count_all rows n h)) in
     record {
       ascend = subst RowsAscend (sym e) a;
       same = λ o i. ap (λ (l : List (List ℕ)). pair_weight l o i) e ∙ sym (past_rows rows n o i);

@@ -82,7 +82,8 @@ module _ (limit : ℕ) (s : List ℕ) {r : Reading} where
   pub sizes_refused : {k : Refusal} → r.status ≡ status.Refused k → r ≡ reading_of limit s →
       (sizes.Refused k ≡ sizes_file limit s) × ((k.number ≡ sizes_number limit s) × (no_places ≡ due_places (sizes_number limit s) (polygon_of s)))
   unfolding sizes_file
-  sizes_refused d e = sized_values limit s (by_refusal limit s e sizes_by (λ (k : Refusal). sizes.Refused k) (λ k. refl) (λ (p : Polygon). number_due false p) d)
+  sizes_refused d e = sized_values limit s
+      (by_refusal limit s e sizes_by (λ (k : Refusal). sizes.Refused k) (λ k. refl) (λ (p : Polygon). number_due false p) d)
 
   pub sizes_read : {x : Sizes} → r.status ≡ status.Complete → r ≡ reading_of limit s → x ≡ sizes_of r.polygon →
       (x ≡ sizes_file limit s) × ((number_of x ≡ sizes_number limit s) × (places_in x ≡ due_places (sizes_number limit s) (polygon_of s)))
@@ -133,7 +134,8 @@ module _ (limit : ℕ) (s : List ℕ) (candidates : List (List ℕ)) (weights : 
 
 -- the finder's call goes by the reading alone: two files, each under a limit, that are read alike are answered alike (rules 1.16, 3.11)
 pub lists_alike : (small large : ℕ) (s t : List ℕ) → reading_of small s ≡ reading_of large t →
-    (candidates : List (List ℕ)) (weights : List ℕ) (rows : List (List ℕ)) → find_file small s candidates weights rows ≡ find_file large t candidates weights rows
+    (candidates : List (List ℕ)) (weights : List ℕ) (rows : List (List ℕ)) → find_file small s candidates weights rows
+    ≡ find_file large t candidates weights rows
 lists_alike small large s t e candidates weights rows =
     after_reading small s candidates weights rows
     ∙ ap (λ (x : Reading). find_after x.status x.polygon candidates weights rows) e

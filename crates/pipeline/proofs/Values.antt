@@ -47,7 +47,11 @@ module _ (p : Polygon) (t : Tables) where
 pub file_values_lem : (limit : ℕ) (s : List ℕ) (t : Tables) {o : Outcome} {left : Tables} → patching o left ≡ patch_file limit s t →
     (patching o left ≡ patch_file limit s t) × (values_of o ≡ due_values (file_number limit s t) (polygon_of s).n (best (problem_in (polygon_of s))))
 unfolding patch_file
-file_values_lem limit s t e = (e, ap (λ (x : Patching). values_of x.outcome) e ∙ by_number (polygon_of s) t (file_number limit s t) (by (reader.number_due limit s)))
+file_values_lem limit s t e = (
+  e,
+  ap (λ (x : Patching). values_of x.outcome) e
+      ∙ by_number (polygon_of s) t (file_number limit s t) (by (reader.number_due limit s)),
+)
   where
     by : (k : ℕ) → first_due k (polygon_number (polygon_of s) t) ≡ 0 → ValidPolygon (polygon_of s)
     by zero e = none_valid (polygon_of s) t e

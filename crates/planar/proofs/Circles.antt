@@ -39,7 +39,8 @@ corners_computed = (refl, refl)
 -- ---- points on one line
 
 -- three points are on one line exactly where each coordinate of their normal is 0
-pub collinear_zero : (p q r : GridPoint) → collinear p q r ≡ true → ((normal_of p q r).x ≡ pos 0) × ((normal_of p q r).y ≡ pos 0) × ((normal_of p q r).z ≡ pos 0)
+pub collinear_zero : (p q r : GridPoint) → collinear p q r ≡ true → ((normal_of p q r).x ≡ pos 0) × ((normal_of p q r).y ≡ pos 0)
+    × ((normal_of p q r).z ≡ pos 0)
 collinear_zero p q r h = zero_vector_lem (normal_of p q r) (equal_yes (square_of (normal_of p q r)) (pos 0) h)
 
 pub zero_collinear : (p q r : GridPoint) → (normal_of p q r).x ≡ pos 0 → (normal_of p q r).y ≡ pos 0 → (normal_of p q r).z ≡ pos 0 → collinear p q r ≡ true

@@ -52,7 +52,8 @@ module _ (u v e t : Vector) where
   powers =
       ring known
       (dot_e normal_e normal_e :* (dot_e normal_e (vec 6) :* dot_e (vec 9) (vec 9) :- dot_e (seen_e (vec 6)) (vec 9)))
-      (dot_e normal_e (vec 6) :* (dot_e normal_e normal_e :* dot_e (vec 9) (vec 9) :- dot_e centre_e (vec 9)) :+ dot_e normal_e (vec 9) :* dot_e centre_e (vec 6)) tt
+      (dot_e normal_e (vec 6) :* (dot_e normal_e normal_e :* dot_e (vec 9) (vec 9) :- dot_e centre_e (vec 9)) :+ dot_e normal_e (vec 9) :* dot_e
+      centre_e (vec 6)) tt
 
 -- that power, along an axis, is the determinant of the other two coordinates and the squared lengths of u, v and t
 module _ (u v t : Vector) where

@@ -48,7 +48,8 @@ module _ (vertices : List GridPoint) (normals : List Normal) where
   clear_each i (suc k) h j l m = by (vertex_code vertices normals i) refl h (λ d q. clear_each (suc i) k d j q (omega arith)) (below_or_same i j l)
     where
       by : (c : ℕ) → vertex_code vertices normals i ≡ c → first_due c (vertices_code_from vertices normals (suc i) k) ≡ 0 →
-          (vertices_code_from vertices normals (suc i) k ≡ 0 → i < j → vertex_code vertices normals j ≡ 0) → (i < j) ⊎ (i ≡ j) → vertex_code vertices normals j ≡ 0
+          (vertices_code_from vertices normals (suc i) k ≡ 0 → i < j → vertex_code vertices normals j ≡ 0) → (i < j) ⊎ (i ≡ j)
+          → vertex_code vertices normals j ≡ 0
       by zero e d later (inl q) = later d q
       by zero e d later (inr q) = ap (vertex_code vertices normals) (sym q) ∙ e
       by (suc c) e d later o = absurd (omega arith)
@@ -80,7 +81,8 @@ module _ (vertices : List GridPoint) (normals : List Normal) where
   pub clear : (i : ℕ) → vertex_code vertices normals i ≡ 0 → Clear i
   clear i h = by (point_on_grid (vertex_at vertices i)) (normal_in_range (normal_at normals i)) refl refl h
     where
-      by : (g r : Bool) → point_on_grid (vertex_at vertices i) ≡ g → normal_in_range (normal_at normals i) ≡ r → ◌≡◌ {A = ℕ} (cond g (cond r 0 18) 9) 0 → Clear i
+      by : (g r : Bool) → point_on_grid (vertex_at vertices i) ≡ g → normal_in_range (normal_at normals i) ≡ r
+          → ◌≡◌ {A = ℕ} (cond g (cond r 0 18) 9) 0 → Clear i
       by true true e d z = record { on_grid = e; ranged = d }
       by true false e d z = absurd (omega arith)
       by false r e d z = absurd (omega arith)

@@ -23,7 +23,8 @@ module _ (vertices : List GridPoint) (n : ℕ) where
   unfolding repeated_vertex
   repeated_none h i j l k e =
       some_none 0 n (λ j. some 0 j (λ i. same_point (vertex_at vertices i) (vertex_at vertices j))) h j (omega arith) k
-      (some_here 0 j (λ i. same_point (vertex_at vertices i) (vertex_at vertices j)) i (omega arith) l (point_same (vertex_at vertices i) (vertex_at vertices j) e))
+      (some_here 0 j (λ i. same_point (vertex_at vertices i) (vertex_at vertices j)) i (omega arith) l
+      (point_same (vertex_at vertices i) (vertex_at vertices j) e))
 
   pub repeated_nowhere : ((i j : ℕ) → i < j → j < n → vertex_at vertices i ≡ vertex_at vertices j → ⊥) → repeated_vertex vertices n ≡ false
   unfolding repeated_vertex

@@ -126,7 +126,8 @@ module _ {job : Problem} (t : HasTriangulation job) where
           → Listing job (patch_of t) before new m (count + 1) (set table count u)
       one_turn {new} {m} r w = record {
         listed = ap₂ (λ x v. set x count v) e.listed (first ∙ sym next_triangle)
-            ∙ filled_next (take count (patch_of t)) before (get_or (patch_of t) count 0) count (sym (length-take-le count (patch_of t) (omega arith))) (omega arith)
+            ∙ filled_next (take count (patch_of t)) before (get_or (patch_of t) count 0) count (sym (length-take-le count (patch_of t) (omega arith)))
+            (omega arith)
             ∙ ap (λ l. filled l before) (sym (ap (λ k. take k (patch_of t)) (add-one count) ∙ take-suc (patch_of t) count 0 turn-due));
         waits = record { parts = w.parts ∙ next_parts; places = w.places };
         no_more_wait = omega (arith, no_more_wait t (count + 1), ap length (w.parts ∙ next_parts), waiting_length new m);

@@ -15,7 +15,8 @@ use Rattle.terms.proofs.Numbers.{due_neither}
 use Rattle.polygon.specs.declared.Polygon.{Polygon}
 use Rattle.polygon.specs.declared.normal.Normal.{Normal}
 use Rattle.rim_file.specs.File.{area_factor_of, bend_factor_of, record_count, length_wrong}
-use Rattle.reader.specs.Chain.{met_before, over_limit, link_code, record_code, position_code, code_from, end_from, chain_code, vertex_count, vertices_of, normals_of}
+use Rattle.reader.specs.Chain.{met_before, over_limit, link_code, record_code, position_code}
+use Rattle.reader.specs.Chain.{code_from, end_from, chain_code, vertex_count, vertices_of, normals_of}
 use Rattle.reader.specs.Chain as chain
 use Rattle.reader.specs.Steps.{walked, chain_of}
 use Rattle.reader.specs.Reading.{file_code, number_due, polygon_of, refused_reading, answer, reading_of, status_number}
@@ -35,7 +36,8 @@ over_least limit = by (eqb limit max_vertices)
 module _ (limit : ℕ) (s : List ℕ) where
   -- one step of the code, from position i
   pub code_step : (i k : ℕ) →
-      code_from limit s i (suc k) ≡ cond (eqb (chain.link s i) 0) 0 (cond (eqb (position_code limit s i) 0) (code_from limit s (suc i) k) (position_code limit s i))
+      code_from limit s i (suc k) ≡ cond (eqb (chain.link s i) 0) 0
+      (cond (eqb (position_code limit s i) 0) (code_from limit s (suc i) k) (position_code limit s i))
   unfolding code_from
   code_step i k = refl
 
@@ -182,7 +184,8 @@ module _ (limit : ℕ) (s : List ℕ) where
 
 -- no number is due: the answer is the polygon
 pub answer_complete : (limit : ℕ) (s : List ℕ) {n area bend : ℕ} {vertices : List GridPoint} {normals : List Normal} → number_due limit s ≡ 0 →
-    n ≡ vertex_count s → area ≡ area_factor_of s → bend ≡ bend_factor_of s → vertices ≡ vertices_of s (vertex_count s) → normals ≡ normals_of s (vertex_count s) →
+    n ≡ vertex_count s → area ≡ area_factor_of s → bend ≡ bend_factor_of s → vertices ≡ vertices_of s (vertex_count s) → normals
+    ≡ normals_of s (vertex_count s) →
     ◌≡◌ {A = Reading}
     (record { status = Complete; polygon = record { n = n; area_factor = area; bend_factor = bend; vertices = vertices; normals = normals } })
     (reading_of limit s)

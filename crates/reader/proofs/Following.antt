@@ -16,7 +16,8 @@ use Rattle.polygon.specs.Polygon.{origin}
 use Rattle.polygon.specs.declared.normal.Normal.{Normal}
 use Rattle.grid.specs.declared.GridPoint.{GridPoint}
 use Rattle.rim_file.specs.Record.{point_of}
-use Rattle.reader.specs.Chain.{link, vertex_at_position, normal_at_position, position_code, code_from, end_from, chain_code, vertex_count, vertices_of, normals_of}
+use Rattle.reader.specs.Chain.{link, vertex_at_position, normal_at_position, position_code, code_from}
+use Rattle.reader.specs.Chain.{end_from, chain_code, vertex_count, vertices_of, normals_of}
 use Rattle.reader.specs.Steps.{Walking, Stepped, stopped_at, walked, chain_of}
 use Rattle.reader.specs.declared.Progress.{Progress}
 use Rattle.reader.proofs.Tables.{table_next}

@@ -55,7 +55,8 @@ module _ (s : List ℕ) where
     up_to = omega (arith, l.before);
     point = l.is_point;
     last = λ m a b e. ⊎_elim (λ q. l.none_between m a q e) (λ d. omega (arith, sym (ap (λ (n : ℕ). kind_at s n) d) ∙ e, k)) (below_or_same m i b);
-    z = point_rounds j l.is_point h (third_number s (record_start s j)) (mathlib.Core.List.Memᴰ.tail (mathlib.Core.List.Memᴰ.tail (mathlib.Core.List.Memᴰ.head refl)));
+    z = point_rounds j l.is_point h (third_number s (record_start s j))
+        (mathlib.Core.List.Memᴰ.tail (mathlib.Core.List.Memᴰ.tail (mathlib.Core.List.Memᴰ.head refl)));
   }
 
   -- rules 1.6 to 1.10, of every vertex of every file that is read

@@ -93,7 +93,8 @@ module _ (s : List ℕ) (i : ℕ) where
   normal_first f = by (number_of (vertex_at_position s i)) refl
     where
       by : (c : ℕ) → number_of (vertex_at_position s i) ≡ c → UpTo 18 (record_code s i)
-      by zero e = let d : record_code s i ≡ 18 = due_on (normal_code (normal_at_position s i)) e ∙ no 0 18 f in record { some = omega arith; most = omega arith }
+      by zero e = let d : record_code s i ≡ 18 = due_on (normal_code (normal_at_position s i)) e
+          ∙ no 0 18 f in record { some = omega arith; most = omega arith }
       by (suc c) e = record_first 18 (record { some = omega arith; most = omega (arith, record_most s i) })
 
 module _ (limit : ℕ) (s : List ℕ) where
@@ -216,7 +217,8 @@ module _ (limit : ℕ) (s : List ℕ) (whole : Whole s) (i : ℕ) (r : Reached s
       has : HasRecords s (suc i)
       has = (linked l).next
 
-      number : (j : ℕ) → number_of (vertex_at_position s i) ≡ j → first_due j (normal_code (normal_at_position s i)) ≡ suc c → FileDue limit s (at_record i) (suc c)
+      number : (j : ℕ) → number_of (vertex_at_position s i) ≡ j → first_due j (normal_code (normal_at_position s i)) ≡ suc c
+          → FileDue limit s (at_record i) (suc c)
       number (suc j) d e = record_due s i limit has c (d ∙ e)
       number zero d e = by (normal_in_range (normal_at_position s i)) refl
         where

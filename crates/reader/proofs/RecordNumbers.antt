@@ -36,7 +36,8 @@ module _ (s : List ℕ) (i : ℕ) where
   pub record_most : number_of (vertex_at_position s i) ≤ 9
   record_most = by (eqb (kind_at s i) 1) (eqb (kind_at s i) 2) (known (height_before s i)) (tail_zero_at s i) record_number
     where
-      by : (one two kn tail : Bool) → number_of (vertex_at_position s i) ≡ tests one two kn tail point_floats level_floats → number_of (vertex_at_position s i) ≤ 9
+      by : (one two kn tail : Bool) → number_of (vertex_at_position s i) ≡ tests one two kn tail point_floats level_floats
+          → number_of (vertex_at_position s i) ≤ 9
       by true two kn tail e = omega (arith, e, numbers_most point_floats)
       by false true true true e = omega (arith, e, numbers_most level_floats)
       by false true true false e = omega (arith, e)
@@ -44,7 +45,8 @@ module _ (s : List ℕ) (i : ℕ) where
       by false false kn tail e = omega (arith, e)
 
   -- ---- of a level point
-  level_number : kind_at s i ≡ 2 → number_of (vertex_at_position s i) ≡ cond (known (height_before s i)) (cond (tail_zero_at s i) (numbers_code level_floats) 8) 7
+  level_number : kind_at s i ≡ 2 → number_of (vertex_at_position s i)
+      ≡ cond (known (height_before s i)) (cond (tail_zero_at s i) (numbers_code level_floats) 8) 7
   level_number k = record_number ∙ no _ _ (ne_eqb (kind_at s i) 1 (λ e. omega arith)) ∙ yes _ _ (eq-eqb (kind_at s i) 2 k)
 
   -- ---- a number that is due on the record: the one that is given is at most that

@@ -31,7 +31,8 @@ pub same_point : {x y z x' y' z' : ℤ} → x ≡ x' → y ≡ y' → z ≡ z' �
 same_point p q r = cc
 
 -- three grid numbers that are values
-pub values_placed : (x y z : GridNumber) → is_finite x ≡ true → is_finite y ≡ true → is_finite z ≡ true → is_value x ≡ true → is_value y ≡ true → is_value z ≡ true →
+pub values_placed : (x y z : GridNumber) → is_finite x ≡ true → is_finite y ≡ true → is_finite z ≡ true → is_value x ≡ true → is_value y ≡ true
+    → is_value z ≡ true →
     placed x y z ≡ At (point (value_of x) (value_of y) (value_of z))
 unfolding placed
 values_placed x y z fx fy fz vx vy vz = rw (fx, fy, fz, vx, vy, vz)

@@ -61,7 +61,8 @@ point_vertexed x y z p e =
       ap (λ (q : GridPoint). q.z) d.1,
     )
 
-level_vertexed : (x y : Float) (h : ℤ) (p : GridPoint) → OnGrid h → vertex_unless (numbers_code (x ∷ y ∷ [])) (point (round_eighths x) (round_eighths y) h) ≡ At p →
+level_vertexed : (x y : Float) (h : ℤ) (p : GridPoint) → OnGrid h
+    → vertex_unless (numbers_code (x ∷ y ∷ [])) (point (round_eighths x) (round_eighths y) h) ≡ At p →
     PointOnGrid p × (h ≡ p.z)
 level_vertexed x y h p g e =
     let d = vertex_unless_lem (numbers_code (x ∷ y ∷ [])) (point (round_eighths x) (round_eighths y) h) p e in
@@ -137,7 +138,8 @@ number_unless (suc k) p = refl
 abbrev pub tests : (one two kn tail : Bool) (three_floats two_floats : List Float) → ℕ
 tests one two kn tail three_floats two_floats = cond one (numbers_code three_floats) (cond two (cond kn (cond tail (numbers_code two_floats) 8) 7) 6)
 
-shape_number : (one two kn tail : Bool) (x y z : Float) (h : ℤ) → number_of (shape one two kn tail x y z h) ≡ tests one two kn tail (x ∷ y ∷ z ∷ []) (x ∷ y ∷ [])
+shape_number : (one two kn tail : Bool) (x y z : Float) (h : ℤ) → number_of (shape one two kn tail x y z h)
+    ≡ tests one two kn tail (x ∷ y ∷ z ∷ []) (x ∷ y ∷ [])
 unfolding shape
 shape_number true two kn tail x y z h = number_unless (numbers_code (x ∷ y ∷ z ∷ [])) (point (round_eighths x) (round_eighths y) (round_eighths z))
 shape_number false true true true x y z h = number_unless (numbers_code (x ∷ y ∷ [])) (point (round_eighths x) (round_eighths y) h)

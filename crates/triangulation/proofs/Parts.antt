@@ -120,7 +120,8 @@ module _ (job : Problem) where
 
   module _ (good : ValidProblem job) where
     -- each edge is in as many triangles on one side as on the other, but for the edge (i, j) and the rim
-    pub boundary : {i j : ℕ} {l : List ℕ} {x : ℕ} → Part i j l x → (p q : ℕ) → count_outside job l p q + is_edge i j p q ≡ count_between job l p q + is_step i j p q
+    pub boundary : {i j : ℕ} {l : List ℕ} {x : ℕ} → Part i j l x → (p q : ℕ) → count_outside job l p q + is_edge i j p q
+        ≡ count_between job l p q + is_step i j p q
     unfolding count_between count_outside
     boundary (edge {i} {j} e) p q = omega (arith, step_is i j p q e)
     boundary (node {i} {j} {l} {r} u h ei ej wl wr) p q =

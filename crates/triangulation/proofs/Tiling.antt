@@ -37,7 +37,8 @@ subset_ascends i zero s m = ⊎_elim (λ e. rw e empty) (λ z. absurd (Memᴰ.no
 subset_ascends i (suc c) s m = go (split i c s m) (λ r n. subset_ascends (suc i) c r n)
   where
     go : Split i c s → ((r : List ℕ) → Memᴰ r (subsets (numbers_from (suc i) c)) → Ascends r) → Ascends s
-    go (with_it r n e) ih = rw e (more {x = i} (λ k (q : Mem k r). omega (arith, up_from_mem (suc i) c k (subset_mem (numbers_from (suc i) c) r n k q))) (ih r n))
+    go (with_it r n e) ih = rw e (more {x = i}
+        (λ k (q : Mem k r). omega (arith, up_from_mem (suc i) c k (subset_mem (numbers_from (suc i) c) r n k q))) (ih r n))
     go (without n) ih = ih s n
 
 ascends : (s : List ℕ) → ((x y : ℕ) → x < y → y < length s → get_or s x 0 < get_or s y 0) → Ascends s

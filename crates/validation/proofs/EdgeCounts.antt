@@ -48,7 +48,12 @@ added_at t i j hi hj len p q hp hq = go (eqb i p) (eqb j q) refl refl
 -- the second edge of a triangle keeps its room
 pub room_kept : (t : List ℕ) (a b c : ℕ) → a < b → b < max_vertices → c < max_vertices → Room t b c → Room (added t a b) b c
 unfolding added
-room_kept t a b c h hb hc r = omega (arith, r, get_or-set_other t (edge_at a b) (edge_at b c) (count_at t a b + 1) 0 (λ (z : edge_at b c ≡ edge_at a b). omega arith))
+room_kept t a b c h hb hc r = omega (
+  arith,
+  r,
+  get_or-set_other t (edge_at a b) (edge_at b c) (count_at t a b + 1) 0
+      (λ (z : edge_at b c ≡ edge_at a b). omega arith),
+)
 
 module _ (candidates : List (List ℕ)) (list : List ℕ) (ok : Triangles candidates list) where
   pub triangle_at_lem : (i : ℕ) → i < length list → Triangle candidates (get_or list i 0)

@@ -39,7 +39,8 @@ edges_in_range {p} {t} v c =
     }
 
 -- where no edge has a surface outside, the own weight is the area weight
-pub none_outside : (area bend : ℕ) (normal : Vector) (e : EdgeNormals) → all_none e ≡ true → own_weight_of area bend normal e ≡ area_weight_of area (length_of normal)
+pub none_outside : (area bend : ℕ) (normal : Vector) (e : EdgeNormals) → all_none e ≡ true → own_weight_of area bend normal e
+    ≡ area_weight_of area (length_of normal)
 none_outside area bend normal e h =
     let rest = both_right (is_none e.ab) (both (is_none e.bc) (is_none e.ac)) h in
     omega (

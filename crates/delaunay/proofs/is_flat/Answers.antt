@@ -59,7 +59,11 @@ pub bounds-lifted-c : goal.bounds-lifted-c
 bounds-lifted-c c = omega (arith, c.requires.most, c.loop-c-test.true)
 
 pub pencil_through-pencil-requires : goal.pencil_through-pencil-requires
-pencil_through-pencil-requires c = (vertex_in c.requires c.lift_vertices-lifted.ensures 1 (omega (arith, c.requires.least)), vertex_in c.requires c.lift_vertices-lifted.ensures c.loop-c.c c.loop-c-test.true)
+pencil_through-pencil-requires c = (
+  vertex_in c.requires c.lift_vertices-lifted.ensures 1 (omega (arith, c.requires.least)),
+  vertex_in c.requires
+      c.lift_vertices-lifted.ensures c.loop-c.c c.loop-c-test.true,
+)
 
 pub overflow_step-d : goal.overflow_step-d
 overflow_step-d c = omega (arith, c.requires.most, c.loop-c-test.true)
@@ -74,7 +78,10 @@ pub bounds-lifted-d : goal.bounds-lifted-d
 bounds-lifted-d c = omega (arith, c.requires.most, c.loop-d-test.true)
 
 pub circumsphere-ball-requires : goal.circumsphere-ball-requires
-circumsphere-ball-requires c = (pencil_within c.requires c.lift_vertices-lifted.ensures c.loop-c.c c.loop-c-test.true c.pencil_through-pencil.ensures, vertex_in c.requires c.lift_vertices-lifted.ensures c.loop-d.d c.loop-d-test.true)
+circumsphere-ball-requires c = (
+  pencil_within c.requires c.lift_vertices-lifted.ensures c.loop-c.c c.loop-c-test.true c.pencil_through-pencil.ensures,
+  vertex_in c.requires c.lift_vertices-lifted.ensures c.loop-d.d c.loop-d-test.true,
+)
 
 pub returns-then-ball-ne0 : goal.returns-then-ball-ne0
 returns-then-ball-ne0 c =

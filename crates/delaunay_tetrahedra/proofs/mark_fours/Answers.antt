@@ -29,7 +29,8 @@ use Rattle.delaunay_tetrahedra.proofs.mark_fours.Goals as goal
 
 three_of : {p : Polygon} {a b c : ℕ} {lifted : List Lifted} {k : Pencil} → ValidPolygon p → a < p.n - 3 → b < p.n - 2 → c < p.n - 1 →
     Lifts p a lifted → k ≡ pencil_of (get_or lifted b unlifted) (get_or lifted c unlifted) → Three p a b c lifted k
-three_of valid a<n b<n c<n lifts spans = record { valid = valid; a<n = omega (arith, a<n); b<n = omega (arith, b<n); c<n = omega (arith, c<n); lifts = lifts; spans = spans }
+three_of valid a<n b<n c<n lifts spans =
+    record { valid = valid; a<n = omega (arith, a<n); b<n = omega (arith, b<n); c<n = omega (arith, c<n); lifts = lifts; spans = spans }
 
 -- at three corners
 module _ (g : goal.In-three) where
@@ -233,7 +234,8 @@ pub bounds-lifted-v : goal.bounds-lifted-v
 bounds-lifted-v c = omega (arith, c.requires.0.most, v<n (goal.at.bounds-lifted-v c).After-scanned-v)
 
 pub locate-requires : goal.locate-requires
-locate-requires c = let w = (goal.at.locate-requires c).After-scanned-v in (ball_in (goal.at.locate-requires c).At-loop-i, vertex_in (four (goal.at.locate-requires c).At-loop-i).three _ (v<n w))
+locate-requires c = let w = (goal.at.locate-requires c).After-scanned-v in
+    (ball_in (goal.at.locate-requires c).At-loop-i, vertex_in (four (goal.at.locate-requires c).At-loop-i).three _ (v<n w))
 
 pub offset_bounds-lifted-d-in-Inside : goal.offset_bounds-lifted-d-in-Inside
 offset_bounds-lifted-d-in-Inside c = let f = four (goal.at.offset_bounds-lifted-d-in-Inside c).At-loop-i in omega (arith, c.requires.0.most, f.d<n)
@@ -248,13 +250,15 @@ pub bounds-lifted-v-in-Inside : goal.bounds-lifted-v-in-Inside
 bounds-lifted-v-in-Inside c = let w = (goal.at.bounds-lifted-v-in-Inside c).After-scanned-v in omega (arith, c.requires.0.most, v<n w)
 
 pub separates-requires : goal.separates-requires
-separates-requires c = let w = (goal.at.separates-requires c).After-scanned-v in let f = four (goal.at.separates-requires c).At-loop-i in (pencil_in f.three, vertex_in f.three _ f.d<n, vertex_in f.three _ (v<n w))
+separates-requires c = let w = (goal.at.separates-requires c).After-scanned-v in let f = four (goal.at.separates-requires c).At-loop-i in
+    (pencil_in f.three, vertex_in f.three _ f.d<n, vertex_in f.three _ (v<n w))
 
 pub overflow_step-c-then-separates : goal.overflow_step-c-then-separates
 overflow_step-c-then-separates c = let f = four (goal.at.overflow_step-c-then-separates c).At-loop-i in omega (arith, c.requires.0.most, f.three.c<n)
 
 pub three-smaller-then-separates : goal.three-smaller-then-separates
-three-smaller-then-separates c = let l = (goal.at.three-smaller-then-separates c).At-loop-i in omega (arith, c<n (goal.at.three-smaller-then-separates c).In-three)
+three-smaller-then-separates c = let l = (goal.at.three-smaller-then-separates c).At-loop-i in
+    omega (arith, c<n (goal.at.three-smaller-then-separates c).In-three)
 
 pub three-preserved-then-separates : goal.three-preserved-then-separates
 three-preserved-then-separates c =
@@ -294,7 +298,8 @@ loop-i-preserved c =
       same_d = refl;
       ahead = omega (arith, w.loop-i-test.true);
       known = l.loop-i.invariant.known;
-      scanned = vertex_passed (four l) _ (v<n w) c.locate.ensures (c.in_default.not-Inside) l.loop-i.last l.loop-i.i w.scanned-v.ensures l.loop-i.invariant.scanned;
+      scanned = vertex_passed (four l) _ (v<n w) c.locate.ensures (c.in_default.not-Inside) l.loop-i.last l.loop-i.i w.scanned-v.ensures
+          l.loop-i.invariant.scanned;
     }
 
 pub offset_bounds-lifted-v-in-loop-v : goal.offset_bounds-lifted-v-in-loop-v

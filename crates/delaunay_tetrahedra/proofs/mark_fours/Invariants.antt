@@ -13,7 +13,8 @@ abbrev pub invariant-loop-v : goal.invariant-loop-v
 invariant-loop-v l = Passed l.p.n (is_fifth l.p l.a l.b l.c l.d) l.v
 
 abbrev pub invariant-four : goal.invariant-four
-invariant-four l = (l.c ≡ l.initial.c) × Hints l.n l.last l.apex × Kept l.p l.initial.masks l.masks (λ P. left4 l.n P l.a l.b l.initial.c l.initial.d) (λ P. left4 l.n P l.a l.b l.c l.d)
+invariant-four l = (l.c ≡ l.initial.c) × Hints l.n l.last l.apex
+    × Kept l.p l.initial.masks l.masks (λ P. left4 l.n P l.a l.b l.initial.c l.initial.d) (λ P. left4 l.n P l.a l.b l.c l.d)
 
 abbrev pub decreases-four : goal.decreases-four
 decreases-four l = l.n - l.d

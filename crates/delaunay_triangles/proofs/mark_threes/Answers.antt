@@ -137,7 +137,8 @@ pub bounds-lifted-v : goal.bounds-lifted-v
 bounds-lifted-v c = omega (arith, c.requires.0.most, v<n (goal.at.bounds-lifted-v c).After-scanned-v)
 
 pub locate-requires : goal.locate-requires
-locate-requires c = let w = (goal.at.locate-requires c).After-scanned-v in let t = three (goal.at.locate-requires c).At-loop-i in (circle_in t, vertex_in t _ (v<n w))
+locate-requires c = let w = (goal.at.locate-requires c).After-scanned-v in let t = three (goal.at.locate-requires c).At-loop-i in
+    (circle_in t, vertex_in t _ (v<n w))
 
 pub overflow_step-c-in-Inside : goal.overflow_step-c-in-Inside
 overflow_step-c-in-Inside c = let t = three (goal.at.overflow_step-c-in-Inside c).At-loop-i in omega (arith, c.requires.0.most, t.c<n)
@@ -186,7 +187,8 @@ returns-then-is_fourth c =
     twelve_due c.args.p
     (sym g.loop-a.invariant.1.twelve ∙ into2 _ P _ (a<n g)
     ∙ sym g.loop-b.invariant.1.twelve ∙ into3 _ P _ _ (b<n g)
-    ∙ three_cocircular (three l) (proper l) (full l c.loop-i-test.false) _ c.loop-w-test.true c.locate-in-loop-w.ensures c.is_fourth.ensures c.if-is_fourth.true)
+    ∙ three_cocircular (three l) (proper l) (full l c.loop-i-test.false) _ c.loop-w-test.true c.locate-in-loop-w.ensures c.is_fourth.ensures
+    c.if-is_fourth.true)
 
 pub overflow_step-w : goal.overflow_step-w
 overflow_step-w c = omega (arith, c.requires.0.most, c.loop-w-test.true)

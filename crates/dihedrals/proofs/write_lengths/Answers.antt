@@ -15,7 +15,8 @@ use Rattle.dihedrals.proofs.Faces.{face_within, Read, a<limit, b<limit, c<limit,
 use Rattle.dihedrals.proofs.write_lengths.Invariants.{measure}
 use Rattle.dihedrals.proofs.write_lengths.Goals as goal
 
-corners : {p : Polygon} {cs : List (List ℕ)} {i a b c : ℕ} → ProperCandidates p cs → i < length cs → a ≡ vertex_a (entry_at cs i) → b ≡ vertex_b (entry_at cs i) →
+corners : {p : Polygon} {cs : List (List ℕ)} {i a b c : ℕ} → ProperCandidates p cs → i < length cs → a ≡ vertex_a (entry_at cs i) → b
+    ≡ vertex_b (entry_at cs i) →
     c ≡ vertex_c (entry_at cs i) → Read p (entry_at cs i) a b c
 corners {i = i} s h ea eb ec = record { valid = s.valid; corners = s.corners i h; a_is = ea; b_is = eb; c_is = ec }
 
@@ -55,15 +56,19 @@ normal_length-requires c =
 
 pub offset_bounds-out-i : goal.offset_bounds-out-i
 offset_bounds-out-i c = let h = place (next c.args.p c.args.candidates.now c.loop-i.i c.normal_length.result c.loop-i-test.true
-    (c.normal_length.ensures ∙ ap length_of (normal_is (corners c.requires.0 c.loop-i-test.true c.wide-a.ensures c.wide-b.ensures c.wide-c.ensures) c.normal-normal.ensures)) c.loop-i.invariant) in omega arith
+    (c.normal_length.ensures ∙ ap length_of
+    (normal_is (corners c.requires.0 c.loop-i-test.true c.wide-a.ensures c.wide-b.ensures c.wide-c.ensures) c.normal-normal.ensures))
+    c.loop-i.invariant) in omega arith
 
 pub bounds-out-i : goal.bounds-out-i
 bounds-out-i c = place (next c.args.p c.args.candidates.now c.loop-i.i c.normal_length.result c.loop-i-test.true
-    (c.normal_length.ensures ∙ ap length_of (normal_is (corners c.requires.0 c.loop-i-test.true c.wide-a.ensures c.wide-b.ensures c.wide-c.ensures) c.normal-normal.ensures)) c.loop-i.invariant)
+    (c.normal_length.ensures ∙ ap length_of
+    (normal_is (corners c.requires.0 c.loop-i-test.true c.wide-a.ensures c.wide-b.ensures c.wide-c.ensures) c.normal-normal.ensures)) c.loop-i.invariant)
 
 pub loop-i-preserved : goal.loop-i-preserved
 loop-i-preserved c = push (next c.args.p c.args.candidates.now c.loop-i.i c.normal_length.result c.loop-i-test.true
-    (c.normal_length.ensures ∙ ap length_of (normal_is (corners c.requires.0 c.loop-i-test.true c.wide-a.ensures c.wide-b.ensures c.wide-c.ensures) c.normal-normal.ensures)) c.loop-i.invariant)
+    (c.normal_length.ensures ∙ ap length_of
+    (normal_is (corners c.requires.0 c.loop-i-test.true c.wide-a.ensures c.wide-b.ensures c.wide-c.ensures) c.normal-normal.ensures)) c.loop-i.invariant)
 
 pub shape_of-out : goal.shape_of-out
 shape_of-out c = c.loop-i.invariant.long

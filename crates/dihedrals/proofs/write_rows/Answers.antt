@@ -46,16 +46,19 @@ length_is : (p : Polygon) (cs : List (List ℕ)) {lengths : List ℕ} → length
     get_or lengths i 0 ≡ length_of (face_normal p (entry_at cs i))
 length_is p cs e i h = ap (λ (l : List ℕ). get_or l i 0) e ∙ length_at p cs i h
 
-corners : {p : Polygon} {cs : List (List ℕ)} (i : ℕ) {a b c : ℕ} → ProperCandidates p cs → i < length cs → a ≡ vertex_a (entry_at cs i) → b ≡ vertex_b (entry_at cs i) →
+corners : {p : Polygon} {cs : List (List ℕ)} (i : ℕ) {a b c : ℕ} → ProperCandidates p cs → i < length cs → a ≡ vertex_a (entry_at cs i) → b
+    ≡ vertex_b (entry_at cs i) →
     c ≡ vertex_c (entry_at cs i) → Read p (entry_at cs i) a b c
 corners i s h ea eb ec = record { valid = s.valid; corners = s.corners i h; a_is = ea; b_is = eb; c_is = ec }
 
 -- the block of an edge begins there, and ends where that of the next vertex begins
-block_from : {cs : List (List ℕ)} {starts : List ℕ} → Sorted cs → Starts cs starts → (o e first : ℕ) → o < length cs → e < 2 → first ≡ get_or (entry_at cs o) e 0 →
+block_from : {cs : List (List ℕ)} {starts : List ℕ} → Sorted cs → Starts cs starts → (o e first : ℕ) → o < length cs → e < 2 → first
+    ≡ get_or (entry_at cs o) e 0 →
     BlockStart cs first (get_or starts first 0)
 block_from {cs} s b o e first h k is = b.at first (omega (arith, is, edge_small cs s o e h k))
 
-block_to : {cs : List (List ℕ)} {starts : List ℕ} → Sorted cs → Starts cs starts → (o e first : ℕ) → o < length cs → e < 2 → first ≡ get_or (entry_at cs o) e 0 →
+block_to : {cs : List (List ℕ)} {starts : List ℕ} → Sorted cs → Starts cs starts → (o e first : ℕ) → o < length cs → e < 2 → first
+    ≡ get_or (entry_at cs o) e 0 →
     BlockStart cs (first + 1) (get_or starts (first + 1) 0)
 block_to {cs} s b o e first h k is = b.at (first + 1) (omega (arith, is, edge_small cs s o e h k))
 
@@ -93,19 +96,22 @@ pub bounds-lengths-o : goal.bounds-lengths-o
 bounds-lengths-o c = omega (arith, c.loop-o-test.true, lengths_there c.args.p c.args.candidates.now c.requires.2)
 
 pub offset_bounds-vertices-a : goal.offset_bounds-vertices-a
-offset_bounds-vertices-a c = let h = a<limit (corners c.loop-o.o c.requires.0 c.loop-o-test.true c.wide-a.ensures c.wide-b.ensures c.wide-c.ensures) in omega arith
+offset_bounds-vertices-a c = let h = a<limit (corners c.loop-o.o c.requires.0 c.loop-o-test.true c.wide-a.ensures c.wide-b.ensures c.wide-c.ensures)
+    in omega arith
 
 pub bounds-vertices-a : goal.bounds-vertices-a
 bounds-vertices-a c = a<limit (corners c.loop-o.o c.requires.0 c.loop-o-test.true c.wide-a.ensures c.wide-b.ensures c.wide-c.ensures)
 
 pub offset_bounds-vertices-b : goal.offset_bounds-vertices-b
-offset_bounds-vertices-b c = let h = b<limit (corners c.loop-o.o c.requires.0 c.loop-o-test.true c.wide-a.ensures c.wide-b.ensures c.wide-c.ensures) in omega arith
+offset_bounds-vertices-b c = let h = b<limit (corners c.loop-o.o c.requires.0 c.loop-o-test.true c.wide-a.ensures c.wide-b.ensures c.wide-c.ensures)
+    in omega arith
 
 pub bounds-vertices-b : goal.bounds-vertices-b
 bounds-vertices-b c = b<limit (corners c.loop-o.o c.requires.0 c.loop-o-test.true c.wide-a.ensures c.wide-b.ensures c.wide-c.ensures)
 
 pub offset_bounds-vertices-c : goal.offset_bounds-vertices-c
-offset_bounds-vertices-c c = let h = c<limit (corners c.loop-o.o c.requires.0 c.loop-o-test.true c.wide-a.ensures c.wide-b.ensures c.wide-c.ensures) in omega arith
+offset_bounds-vertices-c c = let h = c<limit (corners c.loop-o.o c.requires.0 c.loop-o-test.true c.wide-a.ensures c.wide-b.ensures c.wide-c.ensures)
+    in omega arith
 
 pub bounds-vertices-c : goal.bounds-vertices-c
 bounds-vertices-c c = c<limit (corners c.loop-o.o c.requires.0 c.loop-o-test.true c.wide-a.ensures c.wide-b.ensures c.wide-c.ensures)
@@ -131,26 +137,50 @@ pub bounds-t-edge-in-loop-edge : goal.bounds-t-edge-in-loop-edge
 bounds-t-edge-in-loop-edge c = omega (arith, c.loop-edge-test.true)
 
 pub offset_bounds-starts-first : goal.offset_bounds-starts-first
-offset_bounds-starts-first c = omega (arith, c.wide-first.ensures, edge_small c.args.candidates.now c.requires.0.sorted c.loop-o.o c.loop-edge.edge c.loop-o-test.true c.loop-edge-test.true)
+offset_bounds-starts-first c = omega (
+  arith,
+  c.wide-first.ensures,
+  edge_small c.args.candidates.now c.requires.0.sorted c.loop-o.o c.loop-edge.edge
+      c.loop-o-test.true c.loop-edge-test.true,
+)
 
 pub bounds-starts-first : goal.bounds-starts-first
-bounds-starts-first c = omega (arith, c.wide-first.ensures, edge_small c.args.candidates.now c.requires.0.sorted c.loop-o.o c.loop-edge.edge c.loop-o-test.true c.loop-edge-test.true)
+bounds-starts-first c = omega (
+  arith,
+  c.wide-first.ensures,
+  edge_small c.args.candidates.now c.requires.0.sorted c.loop-o.o c.loop-edge.edge
+      c.loop-o-test.true c.loop-edge-test.true,
+)
 
 pub overflow_add-end : goal.overflow_add-end
-overflow_add-end c = omega (arith, c.wide-first.ensures, edge_small c.args.candidates.now c.requires.0.sorted c.loop-o.o c.loop-edge.edge c.loop-o-test.true c.loop-edge-test.true)
+overflow_add-end c = omega (
+  arith,
+  c.wide-first.ensures,
+  edge_small c.args.candidates.now c.requires.0.sorted c.loop-o.o c.loop-edge.edge
+      c.loop-o-test.true c.loop-edge-test.true,
+)
 
 pub offset_bounds-starts-first-in-loop-edge : goal.offset_bounds-starts-first-in-loop-edge
-offset_bounds-starts-first-in-loop-edge c = omega (arith, c.wide-first.ensures, edge_small c.args.candidates.now c.requires.0.sorted c.loop-o.o c.loop-edge.edge c.loop-o-test.true c.loop-edge-test.true)
+offset_bounds-starts-first-in-loop-edge c =
+    omega (
+      arith,
+      c.wide-first.ensures,
+      edge_small c.args.candidates.now c.requires.0.sorted c.loop-o.o c.loop-edge.edge c.loop-o-test.true
+          c.loop-edge-test.true,
+    )
 
 pub bounds-starts-first-in-loop-edge : goal.bounds-starts-first-in-loop-edge
-bounds-starts-first-in-loop-edge c = omega (arith, c.wide-first.ensures, edge_small c.args.candidates.now c.requires.0.sorted c.loop-o.o c.loop-edge.edge c.loop-o-test.true c.loop-edge-test.true)
+bounds-starts-first-in-loop-edge c = omega
+    (arith, c.wide-first.ensures, edge_small c.args.candidates.now c.requires.0.sorted c.loop-o.o c.loop-edge.edge c.loop-o-test.true c.loop-edge-test.true)
 
 pub loop-i-init : goal.loop-i-init
 loop-i-init c =
     let cs = c.args.candidates.now in
     let e = c.wide-first.ensures in
-    let from = block_from c.requires.0.sorted c.requires.1 c.loop-o.o c.loop-edge.edge c.wide-first.result c.loop-o-test.true c.loop-edge-test.true c.wide-first.ensures in
-    let to = block_to c.requires.0.sorted c.requires.1 c.loop-o.o c.loop-edge.edge c.wide-first.result c.loop-o-test.true c.loop-edge-test.true c.wide-first.ensures in (
+    let from = block_from c.requires.0.sorted c.requires.1 c.loop-o.o c.loop-edge.edge c.wide-first.result c.loop-o-test.true c.loop-edge-test.true
+    c.wide-first.ensures in
+    let to = block_to c.requires.0.sorted c.requires.1 c.loop-o.o c.loop-edge.edge c.wide-first.result c.loop-o-test.true c.loop-edge-test.true
+    c.wide-first.ensures in (
       start_order cs from to (omega arith),
       to.within,
       enter (over_more c.loop-edge.edge 2 (rows_at c.args.p cs c.loop-o.o) (rest c.args.p cs c.loop-o.o) c.loop-edge-test.true
@@ -167,62 +197,91 @@ pub bounds-candidates-i : goal.bounds-candidates-i
 bounds-candidates-i c = omega (arith, c.loop-i-test.true, c.loop-i.invariant.1)
 
 pub offset_bounds-lengths-i : goal.offset_bounds-lengths-i
-offset_bounds-lengths-i c = omega (arith, c.loop-i-test.true, c.loop-i.invariant.1, c.requires.0.sorted.few, lengths_there c.args.p c.args.candidates.now c.requires.2)
+offset_bounds-lengths-i c = omega (
+  arith,
+  c.loop-i-test.true,
+  c.loop-i.invariant.1,
+  c.requires.0.sorted.few,
+  lengths_there c.args.p
+      c.args.candidates.now c.requires.2,
+)
 
 pub bounds-lengths-i : goal.bounds-lengths-i
 bounds-lengths-i c = omega (arith, c.loop-i-test.true, c.loop-i.invariant.1, lengths_there c.args.p c.args.candidates.now c.requires.2)
 
 pub offset_bounds-vertices-x : goal.offset_bounds-vertices-x
-offset_bounds-vertices-x c = let h = a<limit (corners c.loop-i.i c.requires.0 (omega (arith, c.loop-i-test.true, c.loop-i.invariant.1)) c.wide-x.ensures c.wide-y.ensures c.wide-z.ensures) in omega arith
+offset_bounds-vertices-x c = let h = a<limit
+    (corners c.loop-i.i c.requires.0 (omega (arith, c.loop-i-test.true, c.loop-i.invariant.1)) c.wide-x.ensures c.wide-y.ensures c.wide-z.ensures) in
+    omega arith
 
 pub bounds-vertices-x : goal.bounds-vertices-x
-bounds-vertices-x c = a<limit (corners c.loop-i.i c.requires.0 (omega (arith, c.loop-i-test.true, c.loop-i.invariant.1)) c.wide-x.ensures c.wide-y.ensures c.wide-z.ensures)
+bounds-vertices-x c = a<limit (corners c.loop-i.i c.requires.0 (omega (arith, c.loop-i-test.true, c.loop-i.invariant.1)) c.wide-x.ensures
+    c.wide-y.ensures c.wide-z.ensures)
 
 pub offset_bounds-vertices-y : goal.offset_bounds-vertices-y
-offset_bounds-vertices-y c = let h = b<limit (corners c.loop-i.i c.requires.0 (omega (arith, c.loop-i-test.true, c.loop-i.invariant.1)) c.wide-x.ensures c.wide-y.ensures c.wide-z.ensures) in omega arith
+offset_bounds-vertices-y c = let h = b<limit
+    (corners c.loop-i.i c.requires.0 (omega (arith, c.loop-i-test.true, c.loop-i.invariant.1)) c.wide-x.ensures c.wide-y.ensures c.wide-z.ensures) in
+    omega arith
 
 pub bounds-vertices-y : goal.bounds-vertices-y
-bounds-vertices-y c = b<limit (corners c.loop-i.i c.requires.0 (omega (arith, c.loop-i-test.true, c.loop-i.invariant.1)) c.wide-x.ensures c.wide-y.ensures c.wide-z.ensures)
+bounds-vertices-y c = b<limit (corners c.loop-i.i c.requires.0 (omega (arith, c.loop-i-test.true, c.loop-i.invariant.1)) c.wide-x.ensures
+    c.wide-y.ensures c.wide-z.ensures)
 
 pub offset_bounds-vertices-z : goal.offset_bounds-vertices-z
-offset_bounds-vertices-z c = let h = c<limit (corners c.loop-i.i c.requires.0 (omega (arith, c.loop-i-test.true, c.loop-i.invariant.1)) c.wide-x.ensures c.wide-y.ensures c.wide-z.ensures) in omega arith
+offset_bounds-vertices-z c = let h = c<limit
+    (corners c.loop-i.i c.requires.0 (omega (arith, c.loop-i-test.true, c.loop-i.invariant.1)) c.wide-x.ensures c.wide-y.ensures c.wide-z.ensures) in
+    omega arith
 
 pub bounds-vertices-z : goal.bounds-vertices-z
-bounds-vertices-z c = c<limit (corners c.loop-i.i c.requires.0 (omega (arith, c.loop-i-test.true, c.loop-i.invariant.1)) c.wide-x.ensures c.wide-y.ensures c.wide-z.ensures)
+bounds-vertices-z c = c<limit (corners c.loop-i.i c.requires.0 (omega (arith, c.loop-i-test.true, c.loop-i.invariant.1)) c.wide-x.ensures
+    c.wide-y.ensures c.wide-z.ensures)
 
 pub normal-inner-requires : goal.normal-inner-requires
-normal-inner-requires c = on_grid (corners c.loop-i.i c.requires.0 (omega (arith, c.loop-i-test.true, c.loop-i.invariant.1)) c.wide-x.ensures c.wide-y.ensures c.wide-z.ensures)
+normal-inner-requires c = on_grid (corners c.loop-i.i c.requires.0 (omega (arith, c.loop-i-test.true, c.loop-i.invariant.1)) c.wide-x.ensures
+    c.wide-y.ensures c.wide-z.ensures)
 
 pub row-requires : goal.row-requires
 row-requires c =
     let s = c.requires.0 in (
       s.valid.bend_factor,
       omega (arith, c.loop-o-test.true, s.sorted.few),
-      face_measured s c.loop-o.o c.loop-o-test.true (normal_is (corners c.loop-o.o c.requires.0 c.loop-o-test.true c.wide-a.ensures c.wide-b.ensures c.wide-c.ensures) c.normal-outer.ensures)
+      face_measured s c.loop-o.o c.loop-o-test.true
+          (normal_is (corners c.loop-o.o c.requires.0 c.loop-o-test.true c.wide-a.ensures c.wide-b.ensures c.wide-c.ensures) c.normal-outer.ensures)
           (length_is c.args.p c.args.candidates.now c.requires.2 c.loop-o.o c.loop-o-test.true),
       omega (arith, c.loop-i-test.true, c.loop-i.invariant.1, s.sorted.few),
-      face_measured s c.loop-i.i (omega (arith, c.loop-i-test.true, c.loop-i.invariant.1)) (normal_is (corners c.loop-i.i c.requires.0 (omega (arith, c.loop-i-test.true, c.loop-i.invariant.1)) c.wide-x.ensures c.wide-y.ensures c.wide-z.ensures) c.normal-inner.ensures)
+      face_measured s c.loop-i.i (omega (arith, c.loop-i-test.true, c.loop-i.invariant.1))
+          (normal_is (corners c.loop-i.i c.requires.0 (omega (arith, c.loop-i-test.true, c.loop-i.invariant.1)) c.wide-x.ensures c.wide-y.ensures
+          c.wide-z.ensures) c.normal-inner.ensures)
           (length_is c.args.p c.args.candidates.now c.requires.2 c.loop-i.i (omega (arith, c.loop-i-test.true, c.loop-i.invariant.1))),
     )
 
 pub offset_bounds-out-count : goal.offset_bounds-out-count
 offset_bounds-out-count c =
-    let h = place (next c.args.p c.args.candidates.now c.loop-o.o c.loop-edge.edge c.loop-i.i (get_or c.args.starts.now (c.wide-first.result + 1) 0) (get_or (entry_at c.args.candidates.now c.loop-o.o) (c.loop-edge.edge + 1) 0)
-    c.loop-i-test.true c.loop-i.invariant.2 c.if-s-last.true c.row.result (normal_is (corners c.loop-o.o c.requires.0 c.loop-o-test.true c.wide-a.ensures c.wide-b.ensures c.wide-c.ensures) c.normal-outer.ensures)
-    (normal_is (corners c.loop-i.i c.requires.0 (omega (arith, c.loop-i-test.true, c.loop-i.invariant.1)) c.wide-x.ensures c.wide-y.ensures c.wide-z.ensures) c.normal-inner.ensures) c.row.ensures) in
+    let h = place (next c.args.p c.args.candidates.now c.loop-o.o c.loop-edge.edge c.loop-i.i (get_or c.args.starts.now (c.wide-first.result + 1) 0)
+    (get_or (entry_at c.args.candidates.now c.loop-o.o) (c.loop-edge.edge + 1) 0)
+    c.loop-i-test.true c.loop-i.invariant.2 c.if-s-last.true c.row.result
+    (normal_is (corners c.loop-o.o c.requires.0 c.loop-o-test.true c.wide-a.ensures c.wide-b.ensures c.wide-c.ensures) c.normal-outer.ensures)
+    (normal_is (corners c.loop-i.i c.requires.0 (omega (arith, c.loop-i-test.true, c.loop-i.invariant.1)) c.wide-x.ensures c.wide-y.ensures
+    c.wide-z.ensures) c.normal-inner.ensures) c.row.ensures) in
     omega (arith, h, c.loop-i.invariant.2.long, c.loop-edge.invariant.1.long, c.loop-o.invariant.1.long, c.type_inv)
 
 pub bounds-out-count : goal.bounds-out-count
 bounds-out-count c =
-    place (next c.args.p c.args.candidates.now c.loop-o.o c.loop-edge.edge c.loop-i.i (get_or c.args.starts.now (c.wide-first.result + 1) 0) (get_or (entry_at c.args.candidates.now c.loop-o.o) (c.loop-edge.edge + 1) 0)
-    c.loop-i-test.true c.loop-i.invariant.2 c.if-s-last.true c.row.result (normal_is (corners c.loop-o.o c.requires.0 c.loop-o-test.true c.wide-a.ensures c.wide-b.ensures c.wide-c.ensures) c.normal-outer.ensures)
-    (normal_is (corners c.loop-i.i c.requires.0 (omega (arith, c.loop-i-test.true, c.loop-i.invariant.1)) c.wide-x.ensures c.wide-y.ensures c.wide-z.ensures) c.normal-inner.ensures) c.row.ensures)
+    place (next c.args.p c.args.candidates.now c.loop-o.o c.loop-edge.edge c.loop-i.i (get_or c.args.starts.now (c.wide-first.result + 1) 0)
+    (get_or (entry_at c.args.candidates.now c.loop-o.o) (c.loop-edge.edge + 1) 0)
+    c.loop-i-test.true c.loop-i.invariant.2 c.if-s-last.true c.row.result
+    (normal_is (corners c.loop-o.o c.requires.0 c.loop-o-test.true c.wide-a.ensures c.wide-b.ensures c.wide-c.ensures) c.normal-outer.ensures)
+    (normal_is (corners c.loop-i.i c.requires.0 (omega (arith, c.loop-i-test.true, c.loop-i.invariant.1)) c.wide-x.ensures c.wide-y.ensures
+    c.wide-z.ensures) c.normal-inner.ensures) c.row.ensures)
 
 pub overflow_add-count : goal.overflow_add-count
 overflow_add-count c =
-    let h = place (next c.args.p c.args.candidates.now c.loop-o.o c.loop-edge.edge c.loop-i.i (get_or c.args.starts.now (c.wide-first.result + 1) 0) (get_or (entry_at c.args.candidates.now c.loop-o.o) (c.loop-edge.edge + 1) 0)
-    c.loop-i-test.true c.loop-i.invariant.2 c.if-s-last.true c.row.result (normal_is (corners c.loop-o.o c.requires.0 c.loop-o-test.true c.wide-a.ensures c.wide-b.ensures c.wide-c.ensures) c.normal-outer.ensures)
-    (normal_is (corners c.loop-i.i c.requires.0 (omega (arith, c.loop-i-test.true, c.loop-i.invariant.1)) c.wide-x.ensures c.wide-y.ensures c.wide-z.ensures) c.normal-inner.ensures) c.row.ensures) in
+    let h = place (next c.args.p c.args.candidates.now c.loop-o.o c.loop-edge.edge c.loop-i.i (get_or c.args.starts.now (c.wide-first.result + 1) 0)
+    (get_or (entry_at c.args.candidates.now c.loop-o.o) (c.loop-edge.edge + 1) 0)
+    c.loop-i-test.true c.loop-i.invariant.2 c.if-s-last.true c.row.result
+    (normal_is (corners c.loop-o.o c.requires.0 c.loop-o-test.true c.wide-a.ensures c.wide-b.ensures c.wide-c.ensures) c.normal-outer.ensures)
+    (normal_is (corners c.loop-i.i c.requires.0 (omega (arith, c.loop-i-test.true, c.loop-i.invariant.1)) c.wide-x.ensures c.wide-y.ensures
+    c.wide-z.ensures) c.normal-inner.ensures) c.row.ensures) in
     omega (arith, h, c.loop-i.invariant.2.long, c.loop-edge.invariant.1.long, c.loop-o.invariant.1.long, c.type_inv)
 
 pub overflow_step-i : goal.overflow_step-i
@@ -236,10 +295,16 @@ loop-i-preserved c = (
   omega (arith, c.loop-i-test.true),
   c.loop-i.invariant.1,
   elim c.if-s-last.branch [
-    | then-s-last w ↦ moved w.out-is w.count-is (push (next c.args.p c.args.candidates.now c.loop-o.o c.loop-edge.edge c.loop-i.i (get_or c.args.starts.now (c.wide-first.result + 1) 0) (get_or (entry_at c.args.candidates.now c.loop-o.o) (c.loop-edge.edge + 1) 0)
-        c.loop-i-test.true c.loop-i.invariant.2 w.if-s-last.true w.row.result (normal_is (corners c.loop-o.o c.requires.0 c.loop-o-test.true c.wide-a.ensures c.wide-b.ensures c.wide-c.ensures) c.normal-outer.ensures)
-        (normal_is (corners c.loop-i.i c.requires.0 (omega (arith, c.loop-i-test.true, c.loop-i.invariant.1)) w.wide-x.ensures w.wide-y.ensures w.wide-z.ensures) w.normal-inner.ensures) w.row.ensures))
-    | else-s-last w ↦ moved w.out-is w.count-is (after c.args.p c.args.candidates.now c.loop-o.o c.loop-edge.edge c.loop-i.i (get_or c.args.starts.now (c.wide-first.result + 1) 0) (get_or (entry_at c.args.candidates.now c.loop-o.o) (c.loop-edge.edge + 1) 0)
+    | then-s-last w ↦ moved w.out-is w.count-is
+        (push (next c.args.p c.args.candidates.now c.loop-o.o c.loop-edge.edge c.loop-i.i (get_or c.args.starts.now (c.wide-first.result + 1) 0)
+        (get_or (entry_at c.args.candidates.now c.loop-o.o) (c.loop-edge.edge + 1) 0)
+        c.loop-i-test.true c.loop-i.invariant.2 w.if-s-last.true w.row.result
+        (normal_is (corners c.loop-o.o c.requires.0 c.loop-o-test.true c.wide-a.ensures c.wide-b.ensures c.wide-c.ensures) c.normal-outer.ensures)
+        (normal_is (corners c.loop-i.i c.requires.0 (omega (arith, c.loop-i-test.true, c.loop-i.invariant.1)) w.wide-x.ensures w.wide-y.ensures
+        w.wide-z.ensures) w.normal-inner.ensures) w.row.ensures))
+    | else-s-last w ↦ moved w.out-is w.count-is
+        (after c.args.p c.args.candidates.now c.loop-o.o c.loop-edge.edge c.loop-i.i (get_or c.args.starts.now (c.wide-first.result + 1) 0)
+        (get_or (entry_at c.args.candidates.now c.loop-o.o) (c.loop-edge.edge + 1) 0)
         c.loop-i-test.true c.loop-i.invariant.2 false (ne_eqb _ _ w.if-s-last.false))
   ],
 )
@@ -254,7 +319,8 @@ pub loop-edge-preserved : goal.loop-edge-preserved
 loop-edge-preserved c = (
   omega (arith, c.loop-edge-test.true),
   leave (ending_end (row_at c.args.p c.args.candidates.now c.loop-o.o) c.args.candidates.now c.loop-i.i (get_or c.args.starts.now (c.wide-first.result + 1) 0)
-      (get_or (entry_at c.args.candidates.now c.loop-o.o) (c.loop-edge.edge + 1) 0) (others c.args.p c.args.candidates.now c.loop-o.o c.loop-edge.edge) c.loop-i-test.false) c.loop-edge.invariant.1 c.loop-i.invariant.2,
+      (get_or (entry_at c.args.candidates.now c.loop-o.o) (c.loop-edge.edge + 1) 0)
+      (others c.args.p c.args.candidates.now c.loop-o.o c.loop-edge.edge) c.loop-i-test.false) c.loop-edge.invariant.1 c.loop-i.invariant.2,
 )
 
 pub overflow_step-o : goal.overflow_step-o
@@ -266,7 +332,8 @@ loop-o-smaller c = omega (arith, c.loop-o-test.true)
 pub loop-o-preserved : goal.loop-o-preserved
 loop-o-preserved c = (
   omega (arith, c.loop-o-test.true),
-  leave (over_none c.loop-edge.edge 2 (rows_at c.args.p c.args.candidates.now c.loop-o.o) (rest c.args.p c.args.candidates.now c.loop-o.o) c.loop-edge-test.false)
+  leave (over_none c.loop-edge.edge 2 (rows_at c.args.p c.args.candidates.now c.loop-o.o) (rest c.args.p c.args.candidates.now c.loop-o.o)
+      c.loop-edge-test.false)
       c.loop-o.invariant.1 c.loop-edge.invariant.1,
 )
 

@@ -24,10 +24,12 @@ invariant-loop-i l =
 abbrev pub invariant-loop-edge : goal.invariant-loop-edge
 invariant-loop-edge l =
     (l.edge ≤ 2) × Writing (rows_of (kept l.factor l.vertices) l.candidates)
-    (over l.edge 2 (rows_at (kept l.factor l.vertices) l.candidates l.o) ++ over (l.o + 1) (length l.candidates) (rows_on (kept l.factor l.vertices) l.candidates))
+    (over l.edge 2 (rows_at (kept l.factor l.vertices) l.candidates l.o) ++ over (l.o + 1) (length l.candidates)
+    (rows_on (kept l.factor l.vertices) l.candidates))
     l.initial.out l.initial.count l.out l.count
 
 abbrev pub invariant-loop-o : goal.invariant-loop-o
 invariant-loop-o l =
     (l.o ≤ length l.candidates)
-    × Writing (rows_of (kept l.factor l.vertices) l.candidates) (over l.o (length l.candidates) (rows_on (kept l.factor l.vertices) l.candidates)) l.initial.out l.initial.count l.out l.count
+    × Writing (rows_of (kept l.factor l.vertices) l.candidates) (over l.o (length l.candidates) (rows_on (kept l.factor l.vertices) l.candidates))
+    l.initial.out l.initial.count l.out l.count

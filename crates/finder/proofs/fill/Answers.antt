@@ -54,7 +54,8 @@ returns-then-candidates-count c =
     let g = (goal.at.returns-then-candidates-count c).After-count_places-needed in
     let n = count_is g in
     ap (λ (r : Refusal). finding (Refused r) c.args.candidates.now c.args.weights.now c.args.rows.now) c.new-then-candidates-count.ensures
-    ∙ (sym (no _ _ (ge_via (triangles_are g) h.if-triangle_places-triangles.false) ∙ no _ _ (ge_via n h.if-work_places-count.false) ∙ yes _ _ (gt_via n h.if-candidates-count.true)))
+    ∙ (sym (no _ _ (ge_via (triangles_are g) h.if-triangle_places-triangles.false) ∙ no _ _ (ge_via n h.if-work_places-count.false)
+    ∙ yes _ _ (gt_via n h.if-candidates-count.true)))
 
 pub returns-then-weights-count : goal.returns-then-weights-count
 unfolding fill_or13

@@ -18,7 +18,8 @@ use Rattle.finder.specs.Filling.{faces_of, Room}
 use Rattle.finder.proofs.write_lists.Goals as goal
 
 -- the triangles stand in the candidate table
-module _ (polygon : Polygon) (masks : List ℕ) {candidates rows out : List (List ℕ)} {weights : List ℕ} {count : ℕ} (proper_set : ProperCandidates polygon (faces_of polygon masks))
+module _ (polygon : Polygon) (masks : List ℕ) {candidates rows out : List (List ℕ)} {weights : List ℕ} {count : ℕ}
+    (proper_set : ProperCandidates polygon (faces_of polygon masks))
     (places : Room polygon (faces_of polygon masks) candidates weights rows) (count_is : count ≡ length (faces_of polygon masks))
     (listed : out ≡ filled (faces_of polygon masks) candidates) where
   abbrev triangles : List (List ℕ)
@@ -47,16 +48,22 @@ module _ (polygon : Polygon) (masks : List ℕ) {candidates rows out : List (Lis
         ap (λ (k : ℕ). take k table) count_is ∙ first_lengths polygon triangles weights made ∙ ap (lengths_of polygon) (sym found_are)
 
 pub slice_bounds-found-end-2 : goal.slice_bounds-found-end-2
-slice_bounds-found-end-2 c = c.list-count.ensures.0 ∙ sym (ap length (found_are c.args.p c.args.masks.now c.requires.0 c.requires.1 c.list-count.ensures.0 c.list-count.ensures.1))
+slice_bounds-found-end-2 c = c.list-count.ensures.0
+    ∙ sym (ap length (found_are c.args.p c.args.masks.now c.requires.0 c.requires.1 c.list-count.ensures.0 c.list-count.ensures.1))
 
 pub block_starts-starts-requires : goal.block_starts-starts-requires
 block_starts-starts-requires c = (proper c.args.p c.args.masks.now c.requires.0 c.requires.1 c.list-count.ensures.0 c.list-count.ensures.1).sorted.by_first
 
 pub write_lengths-requires : goal.write_lengths-requires
-write_lengths-requires c = (proper c.args.p c.args.masks.now c.requires.0 c.requires.1 c.list-count.ensures.0 c.list-count.ensures.1, omega (arith, ap length (found_are c.args.p c.args.masks.now c.requires.0 c.requires.1 c.list-count.ensures.0 c.list-count.ensures.1), c.requires.1.for_weights))
+write_lengths-requires c = (
+  proper c.args.p c.args.masks.now c.requires.0 c.requires.1 c.list-count.ensures.0 c.list-count.ensures.1,
+  omega
+      (arith, ap length (found_are c.args.p c.args.masks.now c.requires.0 c.requires.1 c.list-count.ensures.0 c.list-count.ensures.1), c.requires.1.for_weights),
+)
 
 pub slice_bounds-write_rows-end-2 : goal.slice_bounds-write_rows-end-2
-slice_bounds-write_rows-end-2 c = sym (length-take-le c.list-count.result c.write_lengths.new.out (room c.args.p c.args.masks.now c.requires.0 c.requires.1 c.list-count.ensures.0 c.list-count.ensures.1 c.write_lengths.ensures))
+slice_bounds-write_rows-end-2 c = sym (length-take-le c.list-count.result c.write_lengths.new.out
+    (room c.args.p c.args.masks.now c.requires.0 c.requires.1 c.list-count.ensures.0 c.list-count.ensures.1 c.write_lengths.ensures))
 
 pub write_rows-requires : goal.write_rows-requires
 write_rows-requires c =
@@ -64,13 +71,28 @@ write_rows-requires c =
       v,
       starts_of_lem (take c.list-count.result c.list-count.new.out) v.sorted.by_first c.block_starts-starts.ensures,
       lengths_are c.args.p c.args.masks.now c.requires.0 c.requires.1 c.list-count.ensures.0 c.list-count.ensures.1 c.write_lengths.ensures,
-      omega (arith, ap (λ (l : List (List ℕ)). length (rows_of c.args.p l)) (found_are c.args.p c.args.masks.now c.requires.0 c.requires.1 c.list-count.ensures.0 c.list-count.ensures.1), c.requires.1.for_rows),
+      omega (
+        arith,
+        ap (λ (l : List (List ℕ)). length (rows_of c.args.p l))
+            (found_are c.args.p c.args.masks.now c.requires.0 c.requires.1 c.list-count.ensures.0 c.list-count.ensures.1),
+        c.requires.1.for_rows,
+      ),
     )
 
 pub write_weights-requires : goal.write_weights-requires
 write_weights-requires c =
-    let same = sym (ap length (found_are c.args.p c.args.masks.now c.requires.0 c.requires.1 c.list-count.ensures.0 c.list-count.ensures.1)) in
-    (proper c.args.p c.args.masks.now c.requires.0 c.requires.1 c.list-count.ensures.0 c.list-count.ensures.1, omega (arith, c.list-count.ensures.0, same, room c.args.p c.args.masks.now c.requires.0 c.requires.1 c.list-count.ensures.0 c.list-count.ensures.1 c.write_lengths.ensures), ap (λ (k : ℕ). take k c.write_lengths.new.out) (sym same ∙ sym c.list-count.ensures.0) ∙ lengths_are c.args.p c.args.masks.now c.requires.0 c.requires.1 c.list-count.ensures.0 c.list-count.ensures.1 c.write_lengths.ensures)
+    let same = sym (ap length (found_are c.args.p c.args.masks.now c.requires.0 c.requires.1 c.list-count.ensures.0 c.list-count.ensures.1)) in (
+      proper c.args.p c.args.masks.now c.requires.0 c.requires.1 c.list-count.ensures.0 c.list-count.ensures.1,
+      omega (
+        arith,
+        c.list-count.ensures.0,
+        same,
+        room c.args.p c.args.masks.now c.requires.0 c.requires.1 c.list-count.ensures.0 c.list-count.ensures.1
+            c.write_lengths.ensures,
+      ),
+      ap (λ (k : ℕ). take k c.write_lengths.new.out) (sym same ∙ sym c.list-count.ensures.0)
+          ∙ lengths_are c.args.p c.args.masks.now c.requires.0 c.requires.1 c.list-count.ensures.0 c.list-count.ensures.1 c.write_lengths.ensures,
+    )
 
 pub returns : goal.returns
 returns c =
@@ -81,7 +103,8 @@ returns c =
       the_candidates = c.list-count.ensures.1;
       the_weights =
           c.write_weights.ensures
-          ∙ (λ i. filled (weights_of p (are i)) (made c.args.p c.args.masks.now c.requires.0 c.requires.1 c.list-count.ensures.0 c.list-count.ensures.1 c.write_lengths.ensures i))
+          ∙ (λ i. filled (weights_of p (are i))
+          (made c.args.p c.args.masks.now c.requires.0 c.requires.1 c.list-count.ensures.0 c.list-count.ensures.1 c.write_lengths.ensures i))
           ∙ filled_over (weights_of p triangles) (lengths_of p triangles) c.args.weights.now
           (length-map triangles (own_weight p) ∙ sym (length-map triangles (λ t. length_of (face_normal p t))));
       the_rows = c.write_rows.ensures ∙ ap (λ (l : List (List ℕ)). filled (rows_of p l) c.args.rows.now) are;

@@ -21,4 +21,5 @@ float_from_bits-result c =
 pub returns-then-bits-gt2139095040 : goal.returns-then-bits-gt2139095040
 returns-then-bits-gt2139095040 c =
     let b = c.args.bits in
-    made ∙ sym (nan_is (of_bits binary32 b) (sym (nan_bits_is binary32 b) ∙ nan_bits_above binary32 b ∙ lt-ltb 2139095040 (b % 2147483648) c.if-bits-gt2139095040.true))
+    made ∙ sym (nan_is (of_bits binary32 b)
+    (sym (nan_bits_is binary32 b) ∙ nan_bits_above binary32 b ∙ lt-ltb 2139095040 (b % 2147483648) c.if-bits-gt2139095040.true))

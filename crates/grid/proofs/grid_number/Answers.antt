@@ -32,7 +32,8 @@ pub float_to_bits-bits : goal.float_to_bits-bits
 float_to_bits-bits c = product_no_nan _ _ (held (goal.at.float_to_bits-bits c).Start) (omega (arith, c.if-size-ge2139095040.false)) (omega arith)
 
 pub returns-then-pattern-gt1148846080 : goal.returns-then-pattern-gt1148846080
-returns-then-pattern-gt1148846080 c = too_far _ (held (goal.at.returns-then-pattern-gt1148846080 c).Start) c.if-size-ge2139095040.false (omega (arith, c.if-pattern-gt1148846080.true))
+returns-then-pattern-gt1148846080 c = too_far _ (held (goal.at.returns-then-pattern-gt1148846080 c).Start) c.if-size-ge2139095040.false
+    (omega (arith, c.if-pattern-gt1148846080.true))
 
 pub rounded-number-requires : goal.rounded-number-requires
 rounded-number-requires c = omega (arith, c.if-pattern-gt1148846080.false)
@@ -47,12 +48,14 @@ pub returns-then-bits-lt2147483648 : goal.returns-then-bits-lt2147483648
 returns-then-bits-lt2147483648 c =
     let at = (goal.at.returns-then-bits-lt2147483648 c).Start in
     let b = to_bits binary32 (mul binary32 at.args.v eight) in
-    ap Value (plus (leb 2147483648 b) (below (goal.at.returns-then-bits-lt2147483648 c).After-rounded-number) c.rounded-number.ensures (lt-leb 2147483648 b c.if-bits-lt2147483648.true))
+    ap Value (plus (leb 2147483648 b) (below (goal.at.returns-then-bits-lt2147483648 c).After-rounded-number) c.rounded-number.ensures
+    (lt-leb 2147483648 b c.if-bits-lt2147483648.true))
     ∙ sym (grid_is _ (held at) c.if-size-ge2139095040.false c.if-pattern-gt1148846080.false)
 
 pub returns-else-bits-lt2147483648 : goal.returns-else-bits-lt2147483648
 returns-else-bits-lt2147483648 c =
     let at = (goal.at.returns-else-bits-lt2147483648 c).Start in
     let b = to_bits binary32 (mul binary32 at.args.v eight) in
-    ap Value (less (leb 2147483648 b) (below (goal.at.returns-else-bits-lt2147483648 c).After-rounded-number) c.rounded-number.ensures (le-leb 2147483648 b c.if-bits-lt2147483648.false))
+    ap Value (less (leb 2147483648 b) (below (goal.at.returns-else-bits-lt2147483648 c).After-rounded-number) c.rounded-number.ensures
+    (le-leb 2147483648 b c.if-bits-lt2147483648.false))
     ∙ sym (grid_is _ (held at) c.if-size-ge2139095040.false c.if-pattern-gt1148846080.false)

@@ -51,10 +51,15 @@ loop-c-init c =
     count_turn (into3 u.args.n (hung (has u.args.masks.now)) u.loop-a.a m.loop-b.b (omega arith)) m.loop-b.invariant
 
 pub overflow_add-count : goal.overflow_add-count
-overflow_add-count c = omega (arith, few (goal.at.overflow_add-count c).After-contains c.if-contains.true c.count_beneath-first.ensures c.count_beneath-second.ensures)
+overflow_add-count c = omega (
+  arith,
+  few (goal.at.overflow_add-count c).After-contains c.if-contains.true c.count_beneath-first.ensures
+      c.count_beneath-second.ensures,
+)
 
 pub overflow_add-count-then-contains : goal.overflow_add-count-then-contains
-overflow_add-count-then-contains c = omega (arith, few (goal.at.overflow_add-count-then-contains c).After-contains c.if-contains.true c.count_beneath-first.ensures c.count_beneath-second.ensures)
+overflow_add-count-then-contains c = omega
+    (arith, few (goal.at.overflow_add-count-then-contains c).After-contains c.if-contains.true c.count_beneath-first.ensures c.count_beneath-second.ensures)
 
 pub loop-c-preserved : goal.loop-c-preserved
 loop-c-preserved c =

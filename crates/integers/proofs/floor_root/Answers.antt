@@ -1,4 +1,5 @@
 -- `integers::floor_root` meets its contract. The loop's invariant: the guess is at least the root, and its square fits. The measure is
+-- the guess (`next_below` of proofs/Newton.antt).
 use mathlib.Core.Path.{◌≡◌, sym, ◌∙◌, subst}
 use Prim.Native.Nat.{ℕ, ◌+◌, ◌*◌, ◌/◌, ◌%◌, ◌^◌, ◌≤◌, ◌<◌}
 use native.Mathlib.Nat.{le_trans, lt_of_le_of_lt, mul-le-mul_left, mul-le-mul_right, div-le_self, one-mul}

@@ -17,8 +17,15 @@ slice_bounds-best_triangulation-end-3 c = sym (length-take-le _ _ c.requires.cou
 
 pub best_triangulation-requires : goal.best_triangulation-requires
 best_triangulation-requires c =
-    let a = c in
-    (a.requires.well_formed, omega (arith, length-take-le a.args.count a.args.candidates.now a.requires.count_in_bounds.0, a.requires.count_in_bounds.3), a.requires.count_in_bounds.4)
+    let a = c in (
+      a.requires.well_formed,
+      omega (
+        arith,
+        length-take-le a.args.count a.args.candidates.now a.requires.count_in_bounds.0,
+        a.requires.count_in_bounds.3,
+      ),
+      a.requires.count_in_bounds.4,
+    )
 
 pub returns : goal.returns
 returns c =

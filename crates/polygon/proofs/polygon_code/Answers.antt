@@ -17,7 +17,8 @@ returns-then-area_factor-gt-MAX_AREA_FACTOR c =
 
 pub returns-then-bend_factor-gt-MAX_BEND_FACTOR : goal.returns-then-bend_factor-gt-MAX_BEND_FACTOR
 unfolding code_of
-returns-then-bend_factor-gt-MAX_BEND_FACTOR c = sym (no _ _ (le-ltb _ _ c.if-area_factor-gt-MAX_AREA_FACTOR.false) ∙ yes _ _ (lt-ltb _ _ c.if-bend_factor-gt-MAX_BEND_FACTOR.true))
+returns-then-bend_factor-gt-MAX_BEND_FACTOR c =
+    sym (no _ _ (le-ltb _ _ c.if-area_factor-gt-MAX_AREA_FACTOR.false) ∙ yes _ _ (lt-ltb _ _ c.if-bend_factor-gt-MAX_BEND_FACTOR.true))
 
 pub returns-then-n-gt-MAX_VERTICES : goal.returns-then-n-gt-MAX_VERTICES
 unfolding code_of

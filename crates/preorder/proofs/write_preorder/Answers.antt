@@ -77,7 +77,8 @@ module _ (c : goal.Joined-j-b-gt1) where
       (beneath chosen middle part.last ++ waiting c.loop-count.stack (c.loop-count.height - 1))
   right =
       let ok = c.requires.well_formed.0 in
-      let w = rest_waits (tiled ok c.requires.all_ready.1) c.loop-count.invariant (due ok c.requires.all_ready.1 c.loop-count.invariant c.loop-count-test.true) in
+      let w = rest_waits (tiled ok c.requires.all_ready.1) c.loop-count.invariant
+      (due ok c.requires.all_ready.1 c.loop-count.invariant c.loop-count-test.true) in
       elim c.if-j-b-gt1.branch [
         | then-j-b-gt1 z ↦ put chosen middle part.last w (place ok c.requires.all_ready.1 c.loop-count.invariant c.loop-count-test.true)
             (omega (arith, z.if-j-b-gt1.true)) z.new.ensures z.stack-is z.height-is

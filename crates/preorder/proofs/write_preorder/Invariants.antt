@@ -8,4 +8,5 @@ use Rattle.preorder.proofs.write_preorder.Given as goal
 abbrev pub invariant-loop-count : goal.invariant-loop-count
 invariant-loop-count l =
     Listing (problem_from l.n l.candidates l.weights l.rows)
-    (rest_of (best_under (problem_from l.n l.candidates l.weights l.rows) l.n (length l.candidates) 0 (l.n - 1))) l.initial.triangles l.stack l.height l.count l.triangles
+    (rest_of (best_under (problem_from l.n l.candidates l.weights l.rows) l.n (length l.candidates) 0 (l.n - 1))) l.initial.triangles l.stack l.height
+    l.count l.triangles

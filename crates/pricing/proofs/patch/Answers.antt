@@ -78,5 +78,6 @@ returns c =
     let s = g in
     let e = h.solve-least.ensures in
     let p = patch_whole s.args.n _ (due g) s.args.agreed (zero g) s.args.triangles.now s.args.work.now (key g) e.triangles e.work
-    _ e.total h.if-least-ge-NONE.false (omega (arith, c.if-least-agreed.false)) (λ x l q. best_length (problem_of (job g)) (formed g).valid x l (ap answer_of q)) in
+    _ e.total h.if-least-ge-NONE.false (omega (arith, c.if-least-agreed.false))
+    (λ x l q. best_length (problem_of (job g)) (formed g).valid x l (ap answer_of q)) in
     record { tables = p.0; values = p.1 }

@@ -115,5 +115,6 @@ returns c =
     (sym (followed_code _ _ followed) ∙ fine.if-code-ne0.false)
     (omega (arith, followed_count _ _ followed fine.if-code-ne0.false, enough.if-n-lt-MIN_VERTICES.false))
     (repeated_as_found _ _ followed fine.if-code-ne0.false distinct.has_repeated_vertex.ensures ∙ distinct.if-has_repeated_vertex.false))
-    (followed_count _ _ followed fine.if-code-ne0.false) (area.u16_at-area_factor.ensures.0 ∙ number_as _ layout 4) (c.u16_at-bend_factor.ensures.0 ∙ number_as _ layout 6)
+    (followed_count _ _ followed fine.if-code-ne0.false) (area.u16_at-area_factor.ensures.0 ∙ number_as _ layout 4)
+    (c.u16_at-bend_factor.ensures.0 ∙ number_as _ layout 6)
     (followed_vertices _ _ followed fine.if-code-ne0.false) (followed_normals _ _ followed fine.if-code-ne0.false))

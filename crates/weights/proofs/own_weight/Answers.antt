@@ -59,7 +59,8 @@ pub weight-requires : goal.weight-requires
 weight-requires c = let k = (goal.at.weight-requires c).After-normal-normal in (k.requires.1, measured k, search rules)
 
 pub overflow_add-result : goal.overflow_add-result
-overflow_add-result c = let k = (goal.at.overflow_add-result c).After-normal-normal in omega (arith, area_most (goal.at.overflow_add-result c).After-area_weight-area, bend_most k _ c.weight.ensures)
+overflow_add-result c = let k = (goal.at.overflow_add-result c).After-normal-normal in
+    omega (arith, area_most (goal.at.overflow_add-result c).After-area_weight-area, bend_most k _ c.weight.ensures)
 
 pub weight-requires-2 : goal.weight-requires-2
 weight-requires-2 c = let k = (goal.at.weight-requires-2 c).After-normal-normal in (k.requires.1, measured k, search rules)

@@ -27,7 +27,8 @@ same_place i x y e =
     ap (λ (k : ℕ). get_or x k 0) (sym (add-zero i)) ∙ sym (get_or-drop i x 0 0) ∙ ap (λ (l : List ℕ). get_or l 0 0) e
     ∙ get_or-drop i y 0 0 ∙ ap (λ (k : ℕ). get_or y k 0) (add-zero i)
 
-corners : {p : Polygon} {cs : List (List ℕ)} (i : ℕ) {a b c : ℕ} → ProperCandidates p cs → i < length cs → a ≡ vertex_a (entry_at cs i) → b ≡ vertex_b (entry_at cs i) →
+corners : {p : Polygon} {cs : List (List ℕ)} (i : ℕ) {a b c : ℕ} → ProperCandidates p cs → i < length cs → a ≡ vertex_a (entry_at cs i) → b
+    ≡ vertex_b (entry_at cs i) →
     c ≡ vertex_c (entry_at cs i) → Read p (entry_at cs i) a b c
 corners i s h ea eb ec = record { valid = s.valid; corners = s.corners i h; a_is = ea; b_is = eb; c_is = ec }
 
@@ -65,40 +66,47 @@ pub bounds-weights-i : goal.bounds-weights-i
 bounds-weights-i c = omega (arith, c.loop-i-test.true, c.requires.1, c.loop-i.invariant.long, c.requires.0.sorted.few)
 
 pub offset_bounds-normals-a : goal.offset_bounds-normals-a
-offset_bounds-normals-a c = let h = a<limit (corners c.loop-i.i c.requires.0 c.loop-i-test.true c.wide-a.ensures c.wide-b.ensures c.wide-c.ensures) in omega arith
+offset_bounds-normals-a c = let h = a<limit (corners c.loop-i.i c.requires.0 c.loop-i-test.true c.wide-a.ensures c.wide-b.ensures c.wide-c.ensures) in
+    omega arith
 
 pub bounds-normals-a : goal.bounds-normals-a
 bounds-normals-a c = a<limit (corners c.loop-i.i c.requires.0 c.loop-i-test.true c.wide-a.ensures c.wide-b.ensures c.wide-c.ensures)
 
 pub offset_bounds-normals-b : goal.offset_bounds-normals-b
-offset_bounds-normals-b c = let h = b<limit (corners c.loop-i.i c.requires.0 c.loop-i-test.true c.wide-a.ensures c.wide-b.ensures c.wide-c.ensures) in omega arith
+offset_bounds-normals-b c = let h = b<limit (corners c.loop-i.i c.requires.0 c.loop-i-test.true c.wide-a.ensures c.wide-b.ensures c.wide-c.ensures) in
+    omega arith
 
 pub bounds-normals-b : goal.bounds-normals-b
 bounds-normals-b c = b<limit (corners c.loop-i.i c.requires.0 c.loop-i-test.true c.wide-a.ensures c.wide-b.ensures c.wide-c.ensures)
 
 pub offset_bounds-normals-c : goal.offset_bounds-normals-c
-offset_bounds-normals-c c = let h = c<limit (corners c.loop-i.i c.requires.0 c.loop-i-test.true c.wide-a.ensures c.wide-b.ensures c.wide-c.ensures) in omega arith
+offset_bounds-normals-c c = let h = c<limit (corners c.loop-i.i c.requires.0 c.loop-i-test.true c.wide-a.ensures c.wide-b.ensures c.wide-c.ensures) in
+    omega arith
 
 pub bounds-normals-c : goal.bounds-normals-c
 bounds-normals-c c = c<limit (corners c.loop-i.i c.requires.0 c.loop-i-test.true c.wide-a.ensures c.wide-b.ensures c.wide-c.ensures)
 
 pub edge_normals-edges-requires : goal.edge_normals-edges-requires
-edge_normals-edges-requires c = let r = corners c.loop-i.i c.requires.0 c.loop-i-test.true c.wide-a.ensures c.wide-b.ensures c.wide-c.ensures in (a<limit r, b<limit r, c<limit r)
+edge_normals-edges-requires c = let r = corners c.loop-i.i c.requires.0 c.loop-i-test.true c.wide-a.ensures c.wide-b.ensures c.wide-c.ensures in
+    (a<limit r, b<limit r, c<limit r)
 
 pub offset_bounds-vertices-a : goal.offset_bounds-vertices-a
-offset_bounds-vertices-a c = let h = a<limit (corners c.loop-i.i c.requires.0 c.loop-i-test.true c.wide-a.ensures c.wide-b.ensures c.wide-c.ensures) in omega arith
+offset_bounds-vertices-a c = let h = a<limit (corners c.loop-i.i c.requires.0 c.loop-i-test.true c.wide-a.ensures c.wide-b.ensures c.wide-c.ensures)
+    in omega arith
 
 pub bounds-vertices-a : goal.bounds-vertices-a
 bounds-vertices-a c = a<limit (corners c.loop-i.i c.requires.0 c.loop-i-test.true c.wide-a.ensures c.wide-b.ensures c.wide-c.ensures)
 
 pub offset_bounds-vertices-b : goal.offset_bounds-vertices-b
-offset_bounds-vertices-b c = let h = b<limit (corners c.loop-i.i c.requires.0 c.loop-i-test.true c.wide-a.ensures c.wide-b.ensures c.wide-c.ensures) in omega arith
+offset_bounds-vertices-b c = let h = b<limit (corners c.loop-i.i c.requires.0 c.loop-i-test.true c.wide-a.ensures c.wide-b.ensures c.wide-c.ensures)
+    in omega arith
 
 pub bounds-vertices-b : goal.bounds-vertices-b
 bounds-vertices-b c = b<limit (corners c.loop-i.i c.requires.0 c.loop-i-test.true c.wide-a.ensures c.wide-b.ensures c.wide-c.ensures)
 
 pub offset_bounds-vertices-c : goal.offset_bounds-vertices-c
-offset_bounds-vertices-c c = let h = c<limit (corners c.loop-i.i c.requires.0 c.loop-i-test.true c.wide-a.ensures c.wide-b.ensures c.wide-c.ensures) in omega arith
+offset_bounds-vertices-c c = let h = c<limit (corners c.loop-i.i c.requires.0 c.loop-i-test.true c.wide-a.ensures c.wide-b.ensures c.wide-c.ensures)
+    in omega arith
 
 pub bounds-vertices-c : goal.bounds-vertices-c
 bounds-vertices-c c = c<limit (corners c.loop-i.i c.requires.0 c.loop-i-test.true c.wide-a.ensures c.wide-b.ensures c.wide-c.ensures)
@@ -115,7 +123,10 @@ own_weight-requires c =
       q.2,
       face_measured s c.loop-i.i c.loop-i-test.true (normal_is r refl)
           (length_is c.args.p c.args.candidates.now c.args.weights.now c.loop-i.weights c.loop-i.i c.loop-i-test.true c.requires.2 c.loop-i.invariant.kept),
-      subst (λ (x : EdgeNormals). EdgesInRange x) (sym (edges_are c.args.p (entry_at c.args.candidates.now c.loop-i.i) (corners c.loop-i.i c.requires.0 c.loop-i-test.true c.wide-a.ensures c.wide-b.ensures c.wide-c.ensures) c.edge_normals-edges.ensures)) (edges_in_range s.valid (s.corners c.loop-i.i c.loop-i-test.true)),
+      subst (λ (x : EdgeNormals). EdgesInRange x)
+          (sym (edges_are c.args.p (entry_at c.args.candidates.now c.loop-i.i)
+          (corners c.loop-i.i c.requires.0 c.loop-i-test.true c.wide-a.ensures c.wide-b.ensures c.wide-c.ensures) c.edge_normals-edges.ensures))
+          (edges_in_range s.valid (s.corners c.loop-i.i c.loop-i-test.true)),
     )
 
 pub offset_bounds-weights-i-in-loop-i : goal.offset_bounds-weights-i-in-loop-i
@@ -124,7 +135,9 @@ offset_bounds-weights-i-in-loop-i c = omega (arith, c.loop-i-test.true, c.requir
 pub bounds-weights-i-in-loop-i : goal.bounds-weights-i-in-loop-i
 bounds-weights-i-in-loop-i c = place (next c.args.p c.args.candidates.now c.loop-i.i c.own_weight.result c.requires.0 c.loop-i-test.true
     (corners c.loop-i.i c.requires.0 c.loop-i-test.true c.wide-a.ensures c.wide-b.ensures c.wide-c.ensures)
-    c.own_weight.ensures (edges_are c.args.p (entry_at c.args.candidates.now c.loop-i.i) (corners c.loop-i.i c.requires.0 c.loop-i-test.true c.wide-a.ensures c.wide-b.ensures c.wide-c.ensures) c.edge_normals-edges.ensures) c.loop-i.invariant)
+    c.own_weight.ensures (edges_are c.args.p (entry_at c.args.candidates.now c.loop-i.i)
+    (corners c.loop-i.i c.requires.0 c.loop-i-test.true c.wide-a.ensures c.wide-b.ensures c.wide-c.ensures) c.edge_normals-edges.ensures)
+    c.loop-i.invariant)
 
 pub overflow_step-i : goal.overflow_step-i
 overflow_step-i c = omega (arith, c.loop-i-test.true, c.requires.1, c.loop-i.invariant.long, c.requires.0.sorted.few)
@@ -135,7 +148,9 @@ loop-i-smaller c = omega (arith, c.loop-i-test.true)
 pub loop-i-preserved : goal.loop-i-preserved
 loop-i-preserved c = push (next c.args.p c.args.candidates.now c.loop-i.i c.own_weight.result c.requires.0 c.loop-i-test.true
     (corners c.loop-i.i c.requires.0 c.loop-i-test.true c.wide-a.ensures c.wide-b.ensures c.wide-c.ensures)
-    c.own_weight.ensures (edges_are c.args.p (entry_at c.args.candidates.now c.loop-i.i) (corners c.loop-i.i c.requires.0 c.loop-i-test.true c.wide-a.ensures c.wide-b.ensures c.wide-c.ensures) c.edge_normals-edges.ensures) c.loop-i.invariant)
+    c.own_weight.ensures (edges_are c.args.p (entry_at c.args.candidates.now c.loop-i.i)
+    (corners c.loop-i.i c.requires.0 c.loop-i-test.true c.wide-a.ensures c.wide-b.ensures c.wide-c.ensures) c.edge_normals-edges.ensures)
+    c.loop-i.invariant)
 
 pub shape_of-weights : goal.shape_of-weights
 shape_of-weights c = c.loop-i.invariant.long

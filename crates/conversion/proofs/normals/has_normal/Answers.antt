@@ -60,7 +60,8 @@ pub returns-then-not-is_none : goal.returns-then-not-is_none
 unfolding normal_lost
 returns-then-not-is_none c =
     let l = c.loop-k in
-    sym (sym l.invariant.2 ∙ some_stop l.k _ _ (inside (goal.at.returns-then-not-is_none c).After-is_none) (tested (goal.at.returns-then-not-is_none c).After-is_none ∙ c.if-not-is_none.true-raw))
+    sym (sym l.invariant.2 ∙ some_stop l.k _ _ (inside (goal.at.returns-then-not-is_none c).After-is_none)
+    (tested (goal.at.returns-then-not-is_none c).After-is_none ∙ c.if-not-is_none.true-raw))
 
 pub overflow_step-k : goal.overflow_step-k
 overflow_step-k c =
@@ -75,7 +76,8 @@ loop-k-preserved c =
     let l = c.loop-k in (
       omega arith,
       omega (arith, c.loop-k-test.true),
-      sym (some_on l.k _ _ (inside (goal.at.loop-k-preserved c).After-is_none) (tested (goal.at.loop-k-preserved c).After-is_none ∙ c.if-not-is_none.false-raw)) ∙ l.invariant.2,
+      sym (some_on l.k _ _ (inside (goal.at.loop-k-preserved c).After-is_none)
+          (tested (goal.at.loop-k-preserved c).After-is_none ∙ c.if-not-is_none.false-raw)) ∙ l.invariant.2,
     )
 
 pub returns : goal.returns

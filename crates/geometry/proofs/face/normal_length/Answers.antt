@@ -42,7 +42,10 @@ pub floor_root-requires : goal.floor_root-requires
 floor_root-requires c = lt_of_le_of_lt (at_most_held (stored tt (scaled c.dot-square.ensures c.requires _))).size (lit< tt)
 
 pub overflow_cast-result : goal.overflow_cast-result
-overflow_cast-result c = record { fits = subst (λ (x : ℕ). x < 2 ^ 32) (sym (length! (goal.at.overflow_cast-result c).After-floor_root)) (lt_of_le_of_lt (length_bound c.requires) (lit< tt)) }
+overflow_cast-result c = record {
+  fits =
+      subst (λ (x : ℕ). x < 2 ^ 32) (sym (length! (goal.at.overflow_cast-result c).After-floor_root)) (lt_of_le_of_lt (length_bound c.requires) (lit< tt));
+}
 
 pub returns : goal.returns
 returns c = length! (goal.at.returns c).After-floor_root

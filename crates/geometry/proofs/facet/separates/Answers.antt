@@ -30,10 +30,12 @@ pub dot-j-requires : goal.dot-j-requires
 dot-j-requires c = products_fit tt tt tt c.requires.0.normal_in c.requires.2.vector_in
 
 pub returns-then-i-lt0 : goal.returns-then-i-lt0
-returns-then-i-lt0 c = rw (negative (goal.at.returns-then-i-lt0 c).After-dot-j c.if-i-lt0.true) (ap (λ (z : ℤ). le_z (pos 0) z) (second (goal.at.returns-then-i-lt0 c).After-dot-j))
+returns-then-i-lt0 c = rw (negative (goal.at.returns-then-i-lt0 c).After-dot-j c.if-i-lt0.true)
+    (ap (λ (z : ℤ). le_z (pos 0) z) (second (goal.at.returns-then-i-lt0 c).After-dot-j))
 
 pub returns-then-i-gt0 : goal.returns-then-i-gt0
-returns-then-i-gt0 c = let d = (goal.at.returns-then-i-gt0 c).After-dot-j in rw (negative d c.if-i-lt0.false, positive d c.if-i-gt0.true) (ap (λ (z : ℤ). le_z z (pos 0)) (second d))
+returns-then-i-gt0 c = let d = (goal.at.returns-then-i-gt0 c).After-dot-j in
+    rw (negative d c.if-i-lt0.false, positive d c.if-i-gt0.true) (ap (λ (z : ℤ). le_z z (pos 0)) (second d))
 
 pub returns : goal.returns
 returns c = let d = (goal.at.returns c).After-dot-j in rw (negative d c.if-i-lt0.false, positive d c.if-i-gt0.false)

@@ -48,7 +48,8 @@ turn-requires c =
     let s = c in (
       at_most_held (held (goal.at.turn-requires c).After-dot-o),
       within_as c.scaled_sum-centre.ensures
-          (within_plus (crossed (goal.at.turn-requires c).After-cross-c) (within_scaled (at_most_held (given tt s.requires.1.square_in)) s.requires.0.normal_in)),
+          (within_plus (crossed (goal.at.turn-requires c).After-cross-c)
+          (within_scaled (at_most_held (given tt s.requires.1.square_in)) s.requires.0.normal_in)),
     )
 
 pub returns : goal.returns

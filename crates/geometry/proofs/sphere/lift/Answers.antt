@@ -14,7 +14,8 @@ pub difference-vector-requires : goal.difference-vector-requires
 difference-vector-requires c = (c.requires.1, c.requires.0)
 
 pub dot-square-requires : goal.dot-square-requires
-dot-square-requires c = products_fit tt tt tt (inside (goal.at.dot-square-requires c).After-difference-vector) (inside (goal.at.dot-square-requires c).After-difference-vector)
+dot-square-requires c = products_fit tt tt tt (inside (goal.at.dot-square-requires c).After-difference-vector)
+    (inside (goal.at.dot-square-requires c).After-difference-vector)
 
 pub returns : goal.returns
 returns c =

@@ -8,4 +8,5 @@ use Rattle.jobs.proofs.weights.row_weights_fit.Given as goal
 
 abbrev pub invariant-loop-i : goal.invariant-loop-i
 invariant-loop-i l =
-    every l.i (length l.rows) (λ i. leb (row_weight (entry_at l.rows i)) max_weight) ≡ every 0 (length l.rows) (λ i. leb (row_weight (entry_at l.rows i)) max_weight)
+    every l.i (length l.rows) (λ i. leb (row_weight (entry_at l.rows i)) max_weight)
+    ≡ every 0 (length l.rows) (λ i. leb (row_weight (entry_at l.rows i)) max_weight)
