@@ -3,10 +3,13 @@
 #![tactic(auto)]
 
 ghost use Rattle.std.specs.Prelude.{◌≡◌};
-ghost use Rattle.codes.specs.Refusals.{refusal};
+ghost use Rattle.codes.specs.Refusals.{refusal, number_of};
 
-// What a refusing call tells its caller (rule 4.30).
-#[derive(Clone, Copy)]
+use std::error::Error;
+use std::fmt;
+
+// What a refusing call tells its caller (rule 4.30): the error of each Result here.
+#[derive(Clone, Copy, Debug, PartialEq, Eq)]
 pub struct Refusal {
     pub number: u32,
 }
@@ -17,6 +20,70 @@ impl Refusal {
         ensures { result ≡ refusal number }
     {
         Refusal { number }
+    }
+
+    pub const LENGTH: Refusal = Refusal { number: 1 };
+
+    pub const AREA_FACTOR: Refusal = Refusal { number: 2 };
+
+    pub const LINK: Refusal = Refusal { number: 3 };
+
+    pub const RECORD_REPEATED: Refusal = Refusal { number: 4 };
+
+    pub const TOO_MANY_VERTICES: Refusal = Refusal { number: 5 };
+
+    pub const KIND: Refusal = Refusal { number: 6 };
+
+    pub const NO_HEIGHT: Refusal = Refusal { number: 7 };
+
+    pub const NOT_FINITE: Refusal = Refusal { number: 8 };
+
+    pub const OUT_OF_RANGE: Refusal = Refusal { number: 9 };
+
+    pub const NORMAL: Refusal = Refusal { number: 18 };
+
+    pub const OVER_LIMIT: Refusal = Refusal { number: 20 };
+
+    pub const TOO_FEW_VERTICES: Refusal = Refusal { number: 10 };
+
+    pub const VERTEX_REPEATED: Refusal = Refusal { number: 11 };
+
+    pub const COSPHERICAL: Refusal = Refusal { number: 12 };
+
+    pub const TABLE_TOO_SHORT: Refusal = Refusal { number: 13 };
+
+    pub const VERTEX_COUNT: Refusal = Refusal { number: 14 };
+
+    pub const CANDIDATE: Refusal = Refusal { number: 15 };
+
+    pub const ROW: Refusal = Refusal { number: 16 };
+
+    pub const WEIGHT: Refusal = Refusal { number: 17 };
+
+    pub const NORMAL_LOST: Refusal = Refusal { number: 19 };
+
+    pub const NOT_A_TRIANGULATION: Refusal = Refusal { number: 21 };
+
+    pub const WRONG_TOTAL: Refusal = Refusal { number: 22 };
+
+    pub const NOT_LEAST: Refusal = Refusal { number: 23 };
+}
+
+impl fmt::Display for Refusal {
+    fn fmt<W: fmt::Write>(&self, f: &mut fmt::Formatter<W>) -> fmt::Result {
+        write!(f, "refused {}", self.number)
+    }
+}
+
+impl Error for Refusal {}
+
+// The number of a refusal; 0 where there is none.
+pub fn number_of<T>(answer: &Result<T, Refusal>) -> u32
+    ensures { result ≡ number_of answer.now }
+{
+    match answer {
+        Ok(_) => 0,
+        Err(refusal) => refusal.number,
     }
 }
 

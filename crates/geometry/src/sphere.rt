@@ -31,7 +31,7 @@ pub struct Sphere {
     pub centre: Vector,
 }
 
-#[derive(Clone, Copy)]
+#[derive(Clone, Copy, Debug, PartialEq, Eq)]
 pub enum Position {
     Inside,
     On,

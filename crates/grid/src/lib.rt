@@ -9,7 +9,7 @@ ghost use Rattle.grid.specs.Pattern.{units};
 ghost use Rattle.grid.specs.Point.{point, OnGrid, coordinate_on_grid, point_on_grid};
 
 // A point in grid steps.
-#[derive(Clone, Copy)]
+#[derive(Clone, Copy, Debug, PartialEq, Eq)]
 pub struct GridPoint {
     pub x: i64,
     pub y: i64,

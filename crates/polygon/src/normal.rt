@@ -5,7 +5,7 @@ ghost use Rattle.polygon.specs.Normal.{no_normal, is_none, normal_in_range};
 use grid::GridPoint;
 
 // A normal as the file holds it: three whole numbers, all 0 where there is no surface.
-#[derive(Clone, Copy)]
+#[derive(Clone, Copy, Debug, PartialEq, Eq)]
 pub struct Normal {
     pub x: i16,
     pub y: i16,
