@@ -3,8 +3,9 @@ use mathlib.Core.Path.{◌≡◌, refl, sym, ◌∙◌, subst}
 use mathlib.Core.List.{List}
 use Prim.Native.Nat.{ℕ, zero, suc, ◌+◌, ◌-◌, ◌<◌}
 use native.Mathlib.Omega.{arith}
-use lib.ListN.{length, get_or, set, length-set}
+use lib.ListN.{length, get_or, set, take, length-set}
 use lib.Seq.{get_or-set_same, get_or-set_other}
+use Rattle.std.proofs.lemmas.List.{length-take-le, get_or-take}
 use Rattle.terms.specs.Limits.{max_vertices}
 use Rattle.grid.specs.declared.GridPoint.{GridPoint}
 use Rattle.polygon.specs.declared.Polygon.{Polygon}
@@ -34,3 +35,10 @@ lifted_more {base} {vertices} {v} {lifted} l h e f = record { long = length-set 
 pub lift_in : {p : Polygon} {a : ℕ} {lifted : List Lifted} → ValidPolygon p → a < p.n → Lifts p a lifted → (v : ℕ) → v < p.n →
     LiftedBounds (get_or lifted v unlifted)
 lift_in {a = a} g h l v k = subst (λ (l : Lifted). LiftedBounds l) (sym (l.at v k)) (lift_bounds (g.on_grid a h) (g.on_grid v k))
+
+-- the first places, which are those of the vertices
+pub seen_long : {p : Polygon} {a : ℕ} {lifted : List Lifted} → ValidPolygon p → Lifts p a lifted → length (take p.n lifted) ≡ p.n
+seen_long {p} {lifted = lifted} valid l = length-take-le p.n lifted (omega (arith, valid.most, l.long))
+
+pub seen_at : (p : Polygon) (lifted : List Lifted) (v : ℕ) → v < p.n → get_or (take p.n lifted) v unlifted ≡ get_or lifted v unlifted
+seen_at p lifted v h = get_or-take p.n lifted v unlifted h
