@@ -1,4 +1,4 @@
--- `faces::list` meets its contract, by what is left to write at each loop's head. Assumes nothing.
+-- `faces::TriangleSet::list` meets its contract, by what is left to write at each loop's head. Assumes nothing.
 use mathlib.Core.Path.{◌≡◌, sym, ◌∙◌}
 use mathlib.Core.Bool.{true, false}
 use mathlib.Core.List.{◌∷◌}
@@ -10,17 +10,17 @@ use Rattle.terms.specs.Entries.{triple}
 use Rattle.faces.specs.Faces.{triples_of}
 use Rattle.faces.specs.Masks.{has}
 use Rattle.faces.proofs.Triples.{left3, listed, next_listed}
-use Rattle.faces.proofs.list.Goals.{then-contains, else-contains, After-contains}
-use Rattle.faces.proofs.list.Goals as goal
+use Rattle.faces.proofs.TriangleSet.list.Goals.{then-contains, else-contains, After-contains}
+use Rattle.faces.proofs.TriangleSet.list.Goals as goal
 
 -- the triple that is written next
 written : (c : goal.After-contains) → c.contains.result ≡ true →
     let n = c.args.n in
-    let P = has c.args.masks.now in
+    let P = has c.args.self.now in
     Writing (triples_of n P) (triple c.loop-a.a c.loop-b.b c.loop-c.c ∷ left3 n (listed P) c.loop-a.a c.loop-b.b (c.loop-c.c + 1))
     c.loop-b.out c.loop-b.count c.loop-c.out c.loop-c.count
 written c t =
-    turn (next_listed c.args.n (has c.args.masks.now) c.loop-a.a c.loop-b.b c.loop-c.c
+    turn (next_listed c.args.n (has c.args.self.now) c.loop-a.a c.loop-b.b c.loop-c.c
     {t = true} (omega arith) (sym t ∙ c.contains.ensures)) c.loop-c.invariant
 
 pub loop-a-init : goal.loop-a-init
@@ -45,7 +45,7 @@ loop-c-preserved c =
     let u = m in
     elim c.if-contains.branch [
       | then-contains w ↦ moved w.out-is w.count-is (push (written (goal.at.loop-c-preserved c).After-contains w.if-contains.true))
-      | else-contains w ↦ moved w.out-is w.count-is (turn (next_listed u.args.n (has u.args.masks.now) u.loop-a.a m.loop-b.b
+      | else-contains w ↦ moved w.out-is w.count-is (turn (next_listed u.args.n (has u.args.self.now) u.loop-a.a m.loop-b.b
           l.loop-c.c {t = false} (omega arith) (sym w.if-contains.false ∙ c.contains.ensures)) l.loop-c.invariant)
     ]
 
