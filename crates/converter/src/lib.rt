@@ -58,7 +58,7 @@ pub fn convert(file: &[u8], out: &mut [u8]) -> Result<Converted, Refusal>
     ensures tables { converting result out.new ≡ convert_call file.now out.old }
     ensures values { values_of result ≡ due_values (number_due file.now out.old) file.now }
 {
-    reader::read_polygon(terms::MAX_VERTICES, file)?;
+    let _polygon = reader::read_polygon(terms::MAX_VERTICES, file)?;
     carry(file, out)
 }
 

@@ -4,13 +4,13 @@ use Rattle.std.proofs.lemmas.Result.{err_from_is_err_and}
 use Rattle.converter.proofs.Answers.{read_zero, right_length, call_refused, call_read}
 use Rattle.converter.proofs.convert.Goals as goal
 
-pub returns-in_err-read_polygon-clause-tables : goal.returns-in_err-read_polygon-clause-tables
-returns-in_err-read_polygon-clause-tables c =
+pub returns-in_err-_polygon-clause-tables : goal.returns-in_err-_polygon-clause-tables
+returns-in_err-_polygon-clause-tables c =
     let p = err_from_is_err_and c.from_residual.result c.from_residual.ensures.1 in
-    rw (p.1, p.2) (call_refused c.args.file.now c.args.out.now c.in_err-read_polygon.ensures.0)
+    rw (p.1, p.2) (call_refused c.args.file.now c.args.out.now c.in_err-_polygon.ensures.0)
 
 pub carry-requires : goal.carry-requires
-carry-requires c = right_length _ _ (read_zero _ _ c.in_ok-read_polygon.ensures.0)
+carry-requires c = right_length _ _ (read_zero _ _ c.in_ok-_polygon.ensures.0)
 
 pub returns-clause-tables : goal.returns-clause-tables
-returns-clause-tables c = c.carry.ensures ∙ call_read c.args.file.now c.args.out.now (read_zero _ _ c.in_ok-read_polygon.ensures.0)
+returns-clause-tables c = c.carry.ensures ∙ call_read c.args.file.now c.args.out.now (read_zero _ _ c.in_ok-_polygon.ensures.0)
