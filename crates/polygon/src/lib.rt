@@ -11,7 +11,7 @@ ghost use Rattle.terms.specs.Limits.{max_vertices};
 ghost use Rattle.polygon.specs.Polygon.{empty_polygon, same_point, repeated_vertex, vertices_code, code_of};
 
 // The vertices are the first n places; the places after them belong to no vertex. Place i of the normals is for the edge from vertex i to the next.
-#[derive(Clone, Copy)]
+#[derive(Clone, Copy, Debug, PartialEq, Eq)]
 pub struct Polygon {
     pub n: usize,
     pub area_factor: u32,
