@@ -4,6 +4,7 @@ use mathlib.Core.Bool.{false}
 use mathlib.Core.List.{List}
 use Prim.Native.Nat.{ℕ, zero, suc}
 use native.Mathlib.Omega.{arith}
+use Rattle.std.proofs.Common.{Err}
 use Rattle.codes.specs.declared.Refusal.{Refusal}
 use Rattle.codes.specs.Refusals.{refusal}
 use Rattle.polygon.specs.declared.Polygon.{Polygon}
@@ -19,7 +20,6 @@ use Rattle.finder.specs.declared.Sizes.{Sizes}
 use Rattle.finder.specs.declared.Sizes.TheVariants as sizes
 use Rattle.finder.specs.Sizes.{no_places, number_of, places_in, due_places, sizes_by, sizes_of}
 use Rattle.finder.proofs.Answers.{sizes_values}
-use Rattle.triangulator.specs.declared.Outcome.TheVariants.{Refused}
 use Rattle.pipeline.specs.Finding.{find_file_number, find_file_values, find_file}
 use Rattle.pipeline.specs.Patching.{Tables, Patching, patching, patch_by, polygon_number, patch_polygon, patch_file}
 use Rattle.pipeline.specs.Sizes.{sizes_number, sizes_file}
@@ -60,16 +60,16 @@ module _ (limit : ℕ) (s : List ℕ) {r : Reading} (e : r ≡ reading_of limit 
         ∙ ap (call (first_due (reader.number_due limit s) (f (polygon_of s)))) (read_polygon d)
 
 module _ (limit : ℕ) (s : List ℕ) (t : Tables) {r : Reading} where
-  pub file_refused : {k : Refusal} → r.status ≡ status.Refused k → r ≡ reading_of limit s → patching (Refused k) t ≡ patch_file limit s t
+  pub file_refused : {k : Refusal} → r.status ≡ status.Refused k → r ≡ reading_of limit s → patching (Err k) t ≡ patch_file limit s t
   unfolding patch_file
   file_refused d e =
-      by_refusal limit s e (λ (k : ℕ) (p : Polygon). patch_by k p t) (λ (k : Refusal). patching (Refused k) t)
+      by_refusal limit s e (λ (k : ℕ) (p : Polygon). patch_by k p t) (λ (k : Refusal). patching (Err k) t)
       (λ k. refl) (λ (p : Polygon). polygon_number p t) d
 
   pub file_read : {x : Patching} → r.status ≡ status.Complete → r ≡ reading_of limit s → x ≡ patch_polygon r.polygon t → x ≡ patch_file limit s t
   unfolding patch_file patch_polygon
   file_read d e f =
-      f ∙ by_polygon limit s e (λ (k : ℕ) (p : Polygon). patch_by k p t) (λ (k : Refusal). patching (Refused k) t)
+      f ∙ by_polygon limit s e (λ (k : ℕ) (p : Polygon). patch_by k p t) (λ (k : Refusal). patching (Err k) t)
       (λ k. refl) (λ (p : Polygon). polygon_number p t) d
 
 -- the equation of the sizing call gives its number and places

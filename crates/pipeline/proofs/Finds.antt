@@ -7,6 +7,7 @@ use native.Mathlib.Omega.{arith}
 use borrow.Author.Tests.{ltb-false}
 use lib.Dec.{ltb}
 use lib.ListN.{length}
+use Rattle.std.proofs.Common.{None, Ok, Err}
 use Rattle.codes.specs.declared.Refusal.{Refusal}
 use Rattle.codes.specs.Refusals.{refusal}
 use Rattle.lists.specs.Lists.{either, filled}
@@ -18,8 +19,7 @@ use Rattle.finder.specs.declared.Found.{Found}
 use Rattle.finder.specs.declared.Found.TheVariants.{Lists}
 use Rattle.finder.specs.declared.Found.TheVariants as found
 use Rattle.finder.specs.Finding.{Finding, finding, short_tables, number_due, find_by, beside_number, find_beside_call}
-use Rattle.triangulator.specs.declared.Outcome.{Outcome}
-use Rattle.triangulator.specs.declared.Outcome.TheVariants.{None, Refused}
+use Rattle.triangulator.specs.Call.{Outcome}
 use Rattle.pipeline.specs.Patching.{Tables, tables, Patching, patching, weights_in, rows_in, tables_short, patch_by, patched, polygon_number, patch_polygon}
 
 module _ (p : Polygon) (triangles : List ℕ) (candidates : List (List ℕ)) (weights : List ℕ) (rows : List (List ℕ)) (work : List ℕ) where
@@ -37,8 +37,8 @@ module _ (p : Polygon) (triangles : List ℕ) (candidates : List (List ℕ)) (we
       (sym (either_assoc (ltb (length triangles) (p.n - 2)) (ltb (length work) (length (candidates_of p))) (short_tables p candidates weights rows)))
 
   as_outcome : Found → Outcome
-  as_outcome (Lists x y) = None
-  as_outcome (found.Refused k) = Refused k
+  as_outcome (Lists x y) = Ok None
+  as_outcome (found.Refused k) = Err k
 
   -- the finder's answer as that of the call
   as_patching : Finding → Patching
@@ -47,12 +47,12 @@ module _ (p : Polygon) (triangles : List ℕ) (candidates : List (List ℕ)) (we
   -- the finder refuses: so does the call
   pub find_refused : {f : Found} {k : Refusal} {c r : List (List ℕ)} {w : List ℕ} → f ≡ found.Refused k →
       finding f c w r ≡ find_beside_call p (length triangles) (length work) candidates weights rows →
-      patching (Refused k) (tables triangles c w r work) ≡ patch_polygon p (tables triangles candidates weights rows work)
+      patching (Err k) (tables triangles c w r work) ≡ patch_polygon p (tables triangles candidates weights rows work)
   unfolding patch_polygon as_outcome as_patching
   find_refused {f} {k} {c} {r} {w} d e = by number (ap (λ (g : Found). finding g c w r) (sym d) ∙ e) ∙ ap (λ (n : ℕ). patch_by n p lent) number_same
     where
       by : (n : ℕ) → finding (found.Refused k) c w r ≡ find_by n p candidates weights rows →
-          patching (Refused k) (tables triangles c w r work) ≡ patch_by n p lent
+          patching (Err k) (tables triangles c w r work) ≡ patch_by n p lent
       by zero e =
           let f : found.Refused k ≡ Lists (length (candidates_of p)) (length (rows_in p)) = ap (λ (g : Finding). g.answer) e in
           absurd (let n : ◌≡◌ {A = ℕ} 0 1 = cc in omega arith)

@@ -15,10 +15,11 @@ ghost use Rattle.pipeline.specs.Finding.{find_file_values, find_file};
 ghost use Rattle.pipeline.specs.Patching.{tables, patching, polygon_values, patch_polygon, file_values, patch_file};
 ghost use Rattle.pipeline.specs.Sizes.{sizes_number, sizes_file};
 
+use codes::Refusal;
 use finder::{Found, Sizes};
 use polygon::Polygon;
 use reader::Status;
-use triangulator::Outcome;
+use triangulator::Patch;
 
 // The best triangulation by the lists in the first places of the tables.
 fn triangulate_first(
@@ -30,7 +31,7 @@ fn triangulate_first(
     row_count: usize,
     triangles: &mut [u16],
     work: &mut [u64],
-) -> Outcome
+) -> Result<Option<Patch>, Refusal>
     requires count_in_bounds { (count ≤ length candidates.now) × (count ≤ length weights.now) × (row_count ≤ length rows.now)
         × (count ≤ length work.old) × (n ≤ length triangles.old + 2) }
     requires well_formed { WellFormed n (take count candidates.now) (take count weights.now) (take row_count rows.now) }
@@ -56,7 +57,7 @@ pub fn patch_polygon(
     weights: &mut [u32],
     rows: &mut [[u32; 3]],
     work: &mut [u64],
-) -> Outcome
+) -> Result<Option<Patch>, Refusal>
     ensures tables { patching result (tables triangles.new candidates.new weights.new rows.new work.new)
         ≡ patch_polygon p (tables triangles.old candidates.old weights.old rows.old work.old) }
     ensures values { values_of result
@@ -65,7 +66,7 @@ pub fn patch_polygon(
     let n = p.n;
     let found = finder::find_beside(p, triangles.len(), work.len(), candidates, weights, rows);
     match found {
-        Found::Refused(refusal) => Outcome::Refused(refusal),
+        Found::Refused(refusal) => Err(refusal),
         Found::Lists {
             candidates: count,
             rows: row_count,
@@ -84,7 +85,7 @@ pub fn patch_file(
     weights: &mut [u32],
     rows: &mut [[u32; 3]],
     work: &mut [u64],
-) -> Outcome
+) -> Result<Option<Patch>, Refusal>
     ensures tables { patching result (tables triangles.new candidates.new weights.new rows.new work.new)
         ≡ patch_file limit file.now
         (tables triangles.old candidates.old weights.old rows.old work.old) }
@@ -96,7 +97,7 @@ pub fn patch_file(
     let status = reading.status;
     let p = reading.polygon;
     match status {
-        Status::Refused(refusal) => Outcome::Refused(refusal),
+        Status::Refused(refusal) => Err(refusal),
         Status::Complete => patch_polygon(p, triangles, candidates, weights, rows, work),
     }
 }
