@@ -13,7 +13,7 @@ ghost use Rattle.codes.specs.Refusals.{or_refused};
 ghost use Rattle.polygon.specs.Polygon.{empty_polygon, repeated_vertex, vertices_code, code_of};
 
 // The vertices are the first n places; the places after them belong to no vertex. Place i of the normals is for the edge from vertex i to the next.
-#[derive(Clone, Copy)]
+#[derive(Clone, Copy, Debug, PartialEq, Eq)]
 pub struct Polygon {
     pub n: usize,
     pub area_factor: u32,
