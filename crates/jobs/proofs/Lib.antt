@@ -1,4 +1,5 @@
 pub mod First
+pub mod Refusing
 pub mod Order
 pub mod Lists
 pub mod Failing
