@@ -1,5 +1,4 @@
 pub mod First
-pub mod Refusing
 pub mod Order
 pub mod Lists
 pub mod Failing

@@ -7,31 +7,31 @@ use Rattle.judge.proofs.judge.Goals as goal
 
 pub check_list-requires : goal.check_list-requires
 check_list-requires c =
-    let w = (formed (job_in c.args.job.now) _ (sym c.check_without_triangles.ensures ∙ c.in_ok-check_without_triangles.was)).0 in
+    let w = (formed (job_in c.args.job.now) _ (sym c.in_ok-check_without_triangles.was ∙ c.check_without_triangles.ensures)).0 in
     (w.valid, w.bounded.few, w.weights_there, w.rows_ascend)
 
 pub least-least-requires : goal.least-least-requires
-least-least-requires c = formed (job_in c.args.job.now) _ (sym c.check_without_triangles.ensures ∙ c.in_ok-check_without_triangles.was)
+least-least-requires c = formed (job_in c.args.job.now) _ (sym c.in_ok-check_without_triangles.was ∙ c.check_without_triangles.ensures)
 
 pub overflow_sub-result : goal.overflow_sub-result
 overflow_sub-result c =
-    let o = over (job_in c.args.job.now) _ (sym c.check_without_triangles.ensures ∙ c.in_ok-check_without_triangles.was) _ _
-    (sym c.check_list.ensures ∙ c.in_ok-check_list.was) in
+    let o = over (job_in c.args.job.now) _ (sym c.in_ok-check_without_triangles.was ∙ c.check_without_triangles.ensures) _ _
+    (sym c.in_ok-check_list.was ∙ c.check_list.ensures) in
     omega (arith, o.0, c.least-least.ensures.total)
 
 pub returns-clause-tables : goal.returns-clause-tables
 unfolding judged
 returns-clause-tables c =
-    let a = sym c.check_without_triangles.ensures ∙ c.in_ok-check_without_triangles.was in
-    let b = sym c.check_list.ensures ∙ c.in_ok-check_list.was in
+    let a = sym c.in_ok-check_without_triangles.was ∙ c.check_without_triangles.ensures in
+    let b = sym c.in_ok-check_list.was ∙ c.check_list.ensures in
     let z = none_due (job_in c.args.job.now) _ a _ _ b in
     let o = over (job_in c.args.job.now) _ a _ _ b in
     search rules
 
 pub returns-clause-values : goal.returns-clause-values
 returns-clause-values c =
-    let a = sym c.check_without_triangles.ensures ∙ c.in_ok-check_without_triangles.was in
-    let b = sym c.check_list.ensures ∙ c.in_ok-check_list.was in
+    let a = sym c.in_ok-check_without_triangles.was ∙ c.check_without_triangles.ensures in
+    let b = sym c.in_ok-check_list.was ∙ c.check_list.ensures in
     let z = none_due (job_in c.args.job.now) _ a _ _ b in
     let o = over (job_in c.args.job.now) _ a _ _ b in
     search rules
