@@ -21,7 +21,8 @@ use Rattle.rim_file.specs.declared.Record.{Record}
 use Rattle.rim_file.proofs.Editions.{normal_agree, next_agree, kind_agree, float_agree, record_agree}
 use Rattle.reader.specs.Chain.{link, met_before, height_before, vertex_at_position, normal_at_position, over_limit}
 use Rattle.reader.specs.Chain.{link_code, position_code, code_from, end_from, vertex_count, vertices_of, normals_of}
-use Rattle.reader.specs.Reading.{file_code, number_due, polygon_of, answer, reading_of}
+use Rattle.codes.specs.Refusals.{or_refused}
+use Rattle.reader.specs.Reading.{file_code, number_due, polygon_of, reading_of}
 
 module _ {s t : List ℕ} (same : SameRim s t) where
   -- ---- position by position
@@ -115,4 +116,4 @@ module _ {s t : List ℕ} (same : SameRim s t) where
 
   -- so the answer is
   pub reading_same : (limit : ℕ) → reading_of limit s ≡ reading_of limit t
-  reading_same limit = λ j. answer (number_same limit j) (polygon_same j)
+  reading_same limit = λ j. or_refused (number_same limit j) (polygon_same j)

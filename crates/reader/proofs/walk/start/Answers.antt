@@ -14,4 +14,4 @@ u16_at-requires c = let w = whole _ c.requires.1 in omega (arith, header_as _ c.
 pub returns : goal.returns
 returns c =
     let s = c.args.file.now in
-    ((λ limit. walking_start limit s _ (c.u16_at.ensures.0 ∙ ap (λ (h : ℕ). u16_at s h) (header_as s c.requires.0))), refl)
+    ((λ limit. walking_start limit s _ _ (c.u16_at.ensures.0 ∙ ap (λ (h : ℕ). u16_at s h) (header_as s c.requires.0))), refl)
