@@ -42,9 +42,6 @@ module _ (s : goal.In-loop-seen) where
       subst (λ (w : Lifted). LiftedBounds w) (sym (after_at s.args.p.n s.loop-c.c s.lift_vertices-lifted.result s.loop-seen.seen-index seen<n))
       (vertex_in s.requires s.lift_vertices-lifted.ensures (s.loop-c.c + 1 + s.loop-seen.seen-index) seen<n)
 
-pub loop-c-init : goal.loop-c-init
-loop-c-init c = (omega arith, record { pairs = λ k l h i. absurd (omega arith) })
-
 pub pencil_through-pencil-requires : goal.pencil_through-pencil-requires
 pencil_through-pencil-requires c = (
   vertex_in c.requires c.lift_vertices-lifted.ensures 1 (omega (arith, c.requires.least)),

@@ -17,7 +17,7 @@ use Rattle.delaunay_search.specs.Search.{Lifts, unlifted}
 use Rattle.geometry.specs.Bounds.{SphereBounds}
 use Rattle.faces.proofs.Fours.{left3, left4, into2, into3, into4, out2, out3, out4}
 use Rattle.delaunay_tetrahedra.specs.Tetrahedra.{counts}
-use Rattle.delaunay_search.proofs.Marking.{kept_start, kept_turn, kept_then}
+use Rattle.delaunay_search.proofs.Marking.{kept_turn, kept_then}
 use Rattle.delaunay_search.proofs.Scanning.{scanned_in}
 use Rattle.delaunay_tetrahedra.proofs.Counting.{not_counts_flat}
 use Rattle.delaunay_search.proofs.Lifting.{lift_in, seen_long, seen_at}
@@ -133,62 +133,11 @@ seen_place k =
     let h : k.loop-v.v < k.args.p.n = omega (arith, seen_long k.requires k.lift_vertices-lifted.ensures, k.loop-v-test.true) in
     k.locate-in-loop-v.ensures ∙ ap (λ (s : Lifted). position_by k.circumsphere-ball.result s) (seen_at k.args.p _ _ h)
 
-pub overflow_sub-a-end : goal.overflow_sub-a-end
-overflow_sub-a-end c = c.requires.least
-
-pub loop-a-init : goal.loop-a-init
-loop-a-init c = (omega (arith, c.requires.least), kept_start)
-
-pub lift_vertices-lifted-requires : goal.lift_vertices-lifted-requires
-lift_vertices-lifted-requires c = (c.requires, omega (arith, c.loop-a-test.true))
-
-pub overflow_step-b : goal.overflow_step-b
-overflow_step-b c = omega (arith, c.requires.most, c.loop-a-test.true)
-
-pub overflow_sub-b-end : goal.overflow_sub-b-end
-overflow_sub-b-end c = omega (arith, c.requires.least)
-
-pub loop-b-init : goal.loop-b-init
-loop-b-init c = (c.loop-a.invariant.0, kept_start)
-
-pub overflow_step-c : goal.overflow_step-c
-overflow_step-c c = omega (arith, c.requires.most, c.loop-b-test.true)
-
-pub overflow_sub-c-end : goal.overflow_sub-c-end
-overflow_sub-c-end c = omega (arith, c.requires.least)
-
-pub three-init : goal.three-init
-three-init c = (c.loop-b.invariant.0, kept_start)
-
-pub offset_bounds-lifted-b : goal.offset_bounds-lifted-b
-offset_bounds-lifted-b c = omega (arith, c.requires.most, b<n (goal.at.offset_bounds-lifted-b c).In-three)
-
-pub bounds-lifted-b : goal.bounds-lifted-b
-bounds-lifted-b c = omega (arith, c.requires.most, b<n (goal.at.bounds-lifted-b c).In-three)
-
-pub offset_bounds-lifted-c : goal.offset_bounds-lifted-c
-offset_bounds-lifted-c c = omega (arith, c.requires.most, c<n (goal.at.offset_bounds-lifted-c c).In-three)
-
-pub bounds-lifted-c : goal.bounds-lifted-c
-bounds-lifted-c c = omega (arith, c.requires.most, c<n (goal.at.bounds-lifted-c c).In-three)
-
 pub pencil_through-pencil-requires : goal.pencil_through-pencil-requires
 pencil_through-pencil-requires c =
     let g = (goal.at.pencil_through-pencil-requires c).In-three in
     let l = g.lift_vertices-lifted.ensures in
     (lift_in (valid g) (a<n g) l (B g) (b<n g), lift_in (valid g) (a<n g) l (C g) (c<n g))
-
-pub offset_bounds-lifted-apex : goal.offset_bounds-lifted-apex
-offset_bounds-lifted-apex c = omega (arith, c.requires.most, (hints (goal.at.offset_bounds-lifted-apex c).In-three).apex<n)
-
-pub bounds-lifted-apex : goal.bounds-lifted-apex
-bounds-lifted-apex c = omega (arith, c.requires.most, (hints (goal.at.bounds-lifted-apex c).In-three).apex<n)
-
-pub offset_bounds-lifted-last : goal.offset_bounds-lifted-last
-offset_bounds-lifted-last c = let g = (goal.at.offset_bounds-lifted-last c).In-three in omega (arith, c.requires.most, (hints g).last<n)
-
-pub bounds-lifted-last : goal.bounds-lifted-last
-bounds-lifted-last c = let g = (goal.at.bounds-lifted-last c).In-three in omega (arith, c.requires.most, (hints g).last<n)
 
 pub still_refuted-requires : goal.still_refuted-requires
 still_refuted-requires c =
@@ -196,38 +145,14 @@ still_refuted-requires c =
     let g = (goal.at.still_refuted-requires c).In-three in
     (c.requires.most, c<n g, pencil_in (three k), vertex_in (three k) _ (hints g).apex<n, vertex_in (three k) _ (hints g).last<n)
 
-pub overflow_step-c-then-still_refuted : goal.overflow_step-c-then-still_refuted
-overflow_step-c-then-still_refuted c = let g = (goal.at.overflow_step-c-then-still_refuted c).In-three in omega (arith, c.requires.most, c<n g)
-
-pub three-smaller-then-still_refuted : goal.three-smaller-then-still_refuted
-three-smaller-then-still_refuted c = let g = (goal.at.three-smaller-then-still_refuted c).In-three in omega (arith, c<n g)
-
 pub three-preserved-then-still_refuted : goal.three-preserved-then-still_refuted
 three-preserved-then-still_refuted c =
     let k = (goal.at.three-preserved-then-still_refuted c).After-pencil_through-pencil in
     let g = (goal.at.three-preserved-then-still_refuted c).In-three in
     (hints g, kept_leave _ _ _ _ _ (entered g) (none_counts (three k) _ _ (hints g).apex<n (hints g).last<n (c.still_refuted.ensures c.if-still_refuted.true)))
 
-pub overflow_step-d : goal.overflow_step-d
-overflow_step-d c = let g = (goal.at.overflow_step-d c).In-three in omega (arith, c.requires.most, c<n g)
-
-pub four-init : goal.four-init
-four-init c = (refl, hints (goal.at.four-init c).In-three, kept_start)
-
-pub offset_bounds-lifted-d : goal.offset_bounds-lifted-d
-offset_bounds-lifted-d c = omega (arith, c.requires.most, d<n (goal.at.offset_bounds-lifted-d c).In-four)
-
-pub bounds-lifted-d : goal.bounds-lifted-d
-bounds-lifted-d c = omega (arith, c.requires.most, d<n (goal.at.bounds-lifted-d c).In-four)
-
 pub circumsphere-ball-requires : goal.circumsphere-ball-requires
 circumsphere-ball-requires c = let s = (goal.at.circumsphere-ball-requires c).In-four in (pencil_in (triangle s), vertex_in (triangle s) (D s) (d<n s))
-
-pub overflow_step-d-then-ball-eq0 : goal.overflow_step-d-then-ball-eq0
-overflow_step-d-then-ball-eq0 c = let s = (goal.at.overflow_step-d-then-ball-eq0 c).In-four in omega (arith, c.requires.most, d<n s)
-
-pub four-smaller-then-ball-eq0 : goal.four-smaller-then-ball-eq0
-four-smaller-then-ball-eq0 c = let s = (goal.at.four-smaller-then-ball-eq0 c).In-four in omega (arith, d<n s)
 
 pub four-preserved-then-ball-eq0 : goal.four-preserved-then-ball-eq0
 four-preserved-then-ball-eq0 c =
@@ -236,44 +161,13 @@ four-preserved-then-ball-eq0 c =
     let flat = zero_bits _ (signed_fits tt (sphere_in (triangle s) (D s) (d<n s) e).orient_in) c.if-ball-eq0.true in
     (refl, known s, kept_skip _ _ _ _ (D s) s.four.invariant.2 (d<n s) (not_counts_flat _ _ _ _ _ (sym (flat_is (triangle s) (D s) (d<n s) e) ∙ flat)))
 
-pub overflow_add-i-end : goal.overflow_add-i-end
-overflow_add-i-end c = let s = (goal.at.overflow_add-i-end c).In-four in omega (arith, c.requires.most)
-
-pub loop-i-init : goal.loop-i-init
-loop-i-init c = record { same_c = refl; same_d = refl; ahead = omega arith; known = known (goal.at.loop-i-init c).In-four; scanned = refl }
-
-pub offset_bounds-lifted-v : goal.offset_bounds-lifted-v
-offset_bounds-lifted-v c = omega (arith, c.requires.most, v<n (goal.at.offset_bounds-lifted-v c).After-scanned-v)
-
-pub bounds-lifted-v : goal.bounds-lifted-v
-bounds-lifted-v c = omega (arith, c.requires.most, v<n (goal.at.bounds-lifted-v c).After-scanned-v)
-
 pub locate-requires : goal.locate-requires
 locate-requires c = let w = (goal.at.locate-requires c).After-scanned-v in
     (ball_in (goal.at.locate-requires c).At-loop-i, vertex_in (four (goal.at.locate-requires c).At-loop-i).three _ (v<n w))
 
-pub offset_bounds-lifted-d-then-eq : goal.offset_bounds-lifted-d-then-eq
-offset_bounds-lifted-d-then-eq c = let f = four (goal.at.offset_bounds-lifted-d-then-eq c).At-loop-i in omega (arith, c.requires.most, f.d<n)
-
-pub bounds-lifted-d-then-eq : goal.bounds-lifted-d-then-eq
-bounds-lifted-d-then-eq c = let f = four (goal.at.bounds-lifted-d-then-eq c).At-loop-i in omega (arith, c.requires.most, f.d<n)
-
-pub offset_bounds-lifted-v-then-eq : goal.offset_bounds-lifted-v-then-eq
-offset_bounds-lifted-v-then-eq c = let w = (goal.at.offset_bounds-lifted-v-then-eq c).After-scanned-v in omega (arith, c.requires.most, v<n w)
-
-pub bounds-lifted-v-then-eq : goal.bounds-lifted-v-then-eq
-bounds-lifted-v-then-eq c = let w = (goal.at.bounds-lifted-v-then-eq c).After-scanned-v in omega (arith, c.requires.most, v<n w)
-
 pub separates-requires : goal.separates-requires
 separates-requires c = let w = (goal.at.separates-requires c).After-scanned-v in let f = four (goal.at.separates-requires c).At-loop-i in
     (pencil_in f.three, vertex_in f.three _ f.d<n, vertex_in f.three _ (v<n w))
-
-pub overflow_step-c-then-separates : goal.overflow_step-c-then-separates
-overflow_step-c-then-separates c = let f = four (goal.at.overflow_step-c-then-separates c).At-loop-i in omega (arith, c.requires.most, f.three.c<n)
-
-pub three-smaller-then-separates : goal.three-smaller-then-separates
-three-smaller-then-separates c = let l = (goal.at.three-smaller-then-separates c).At-loop-i in
-    omega (arith, c<n (goal.at.three-smaller-then-separates c).In-three)
 
 pub three-preserved-then-separates : goal.three-preserved-then-separates
 three-preserved-then-separates c =
@@ -285,24 +179,12 @@ three-preserved-then-separates c =
           (three_left f _ (v<n w) t.locate.ensures (is_inside_lem _ (sym c.eq.ensures ∙ c.if-eq.true)) (sym c.separates.ensures ∙ c.if-separates.true)),
     )
 
-pub overflow_step-d-then-eq : goal.overflow_step-d-then-eq
-overflow_step-d-then-eq c = let f = four (goal.at.overflow_step-d-then-eq c).At-loop-i in omega (arith, c.requires.most, f.d<n)
-
-pub four-smaller-then-eq : goal.four-smaller-then-eq
-four-smaller-then-eq c = let l = (goal.at.four-smaller-then-eq c).At-loop-i in omega (arith, d<n (goal.at.four-smaller-then-eq c).In-four)
-
 pub four-preserved-then-eq : goal.four-preserved-then-eq
 four-preserved-then-eq c =
     let t = c in
     let w = (goal.at.four-preserved-then-eq c).After-scanned-v in
     let l = (goal.at.four-preserved-then-eq c).At-loop-i in
     (refl, record { last<n = v<n w; apex<n = l.loop-i.invariant.known.apex<n }, four_dropped (four l) _ (v<n w) t.locate.ensures (is_inside_lem _ (sym c.eq.ensures ∙ c.if-eq.true)))
-
-pub overflow_step-i : goal.overflow_step-i
-overflow_step-i c = let w = (goal.at.overflow_step-i c).After-scanned-v in omega (arith, c.requires.most, w.loop-i-test.true)
-
-pub loop-i-smaller : goal.loop-i-smaller
-loop-i-smaller c = omega (arith, c.loop-i-test.true)
 
 pub loop-i-preserved : goal.loop-i-preserved
 loop-i-preserved c =
@@ -335,12 +217,6 @@ returns-then-is_fifth c =
     ∙ four_cospherical (four l) (full l c.loop-i-test.false) _ (looked<n (goal.at.returns-then-is_fifth c).In-loop-v)
     (seen_place (goal.at.returns-then-is_fifth c).After-locate-in-loop-v) c.is_fifth.ensures c.if-is_fifth.true) c.clear.ensures
 
-pub overflow_step-v : goal.overflow_step-v
-overflow_step-v c = omega (arith, c.requires.most, c.loop-v-test.true)
-
-pub loop-v-smaller : goal.loop-v-smaller
-loop-v-smaller c = omega (arith, c.loop-v-test.true)
-
 pub loop-v-preserved : goal.loop-v-preserved
 loop-v-preserved c =
     let l = (goal.at.loop-v-preserved c).At-loop-i in record {
@@ -348,18 +224,6 @@ loop-v-preserved c =
       passed = fifth_passed (four l) (full l c.loop-i-test.false) _ (looked<n (goal.at.loop-v-preserved c).In-loop-v)
           (seen_place (goal.at.loop-v-preserved c).After-locate-in-loop-v) c.is_fifth.ensures c.if-is_fifth.false c.loop-v.invariant.passed;
     }
-
-pub insert_faces-requires : goal.insert_faces-requires
-insert_faces-requires c =
-    let f = four (goal.at.insert_faces-requires c).At-loop-i in
-    let m = c.requires.most in
-    (omega (arith, m, f.three.a<n), omega (arith, m, f.three.b<n), omega (arith, m, f.three.c<n), omega (arith, m, f.d<n))
-
-pub overflow_step-d-in-four : goal.overflow_step-d-in-four
-overflow_step-d-in-four c = let f = four (goal.at.overflow_step-d-in-four c).At-loop-i in omega (arith, c.requires.most, f.d<n)
-
-pub four-smaller : goal.four-smaller
-four-smaller c = let l = (goal.at.four-smaller c).At-loop-i in omega (arith, d<n (goal.at.four-smaller c).In-four)
 
 pub four-preserved : goal.four-preserved
 four-preserved c =
@@ -371,12 +235,6 @@ four-preserved c =
           (subst (λ (s : List ℕ). Joined s (is_face c.loop-a.a c.loop-b.b l.three.c l.four.d) c.insert_faces.new.self)
           c.loop-v.invariant.same_set c.insert_faces.ensures.triangles),
     )
-
-pub overflow_step-c-in-three : goal.overflow_step-c-in-three
-overflow_step-c-in-three c = let g = (goal.at.overflow_step-c-in-three c).In-three in omega (arith, c.requires.most, c<n g)
-
-pub three-smaller : goal.three-smaller
-three-smaller c = let g = (goal.at.three-smaller c).In-three in omega (arith, c<n g)
 
 pub three-preserved : goal.three-preserved
 three-preserved c =

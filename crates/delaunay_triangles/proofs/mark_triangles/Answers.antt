@@ -10,7 +10,7 @@ use Rattle.polygon.specs.Polygon.{vertex}
 use Rattle.planar.specs.Circles.{collinear}
 use Rattle.faces.proofs.Threes.{left3, into2, into3, out2, out3}
 use Rattle.delaunay_triangles.specs.Triangles.{counts_in_plane}
-use Rattle.delaunay_search.proofs.Marking.{kept_start, kept_turn, kept_then}
+use Rattle.delaunay_search.proofs.Marking.{kept_turn, kept_then}
 use Rattle.delaunay_search.proofs.Scanning.{scanned_in}
 use Rattle.delaunay_search.proofs.Placing.{is_inside_lem, not_inside_lem}
 use Rattle.delaunay_search.proofs.Lifting.{lift_in, seen_long, seen_at}
@@ -86,53 +86,11 @@ seen_place k =
     let h : k.loop-w.w < k.args.p.n = omega (arith, seen_long k.requires.0 k.lift_vertices-lifted.ensures, k.loop-w-test.true) in
     k.locate-in-loop-w.ensures ∙ ap (λ (s : Lifted). position_by k.circle_through-circle.result s) (seen_at k.args.p _ _ h)
 
-pub overflow_sub-a-end : goal.overflow_sub-a-end
-overflow_sub-a-end c = omega (arith, c.requires.0.least)
-
-pub loop-a-init : goal.loop-a-init
-loop-a-init c = (omega (arith, c.requires.0.least), kept_start)
-
-pub lift_vertices-lifted-requires : goal.lift_vertices-lifted-requires
-lift_vertices-lifted-requires c = (c.requires.0, omega (arith, c.loop-a-test.true))
-
-pub overflow_step-b : goal.overflow_step-b
-overflow_step-b c = omega (arith, c.requires.0.most, c.loop-a-test.true)
-
-pub overflow_sub-b-end : goal.overflow_sub-b-end
-overflow_sub-b-end c = omega (arith, c.requires.0.least)
-
-pub loop-b-init : goal.loop-b-init
-loop-b-init c = (c.loop-a.invariant.0, kept_start)
-
-pub overflow_step-c : goal.overflow_step-c
-overflow_step-c c = omega (arith, c.requires.0.most, c.loop-b-test.true)
-
-pub three-init : goal.three-init
-three-init c = (c.loop-b.invariant.0, kept_start)
-
-pub offset_bounds-lifted-b : goal.offset_bounds-lifted-b
-offset_bounds-lifted-b c = omega (arith, c.requires.0.most, b<n (goal.at.offset_bounds-lifted-b c).In-three)
-
-pub bounds-lifted-b : goal.bounds-lifted-b
-bounds-lifted-b c = omega (arith, c.requires.0.most, b<n (goal.at.bounds-lifted-b c).In-three)
-
-pub offset_bounds-lifted-c : goal.offset_bounds-lifted-c
-offset_bounds-lifted-c c = omega (arith, c.requires.0.most, c.three-test.true)
-
-pub bounds-lifted-c : goal.bounds-lifted-c
-bounds-lifted-c c = omega (arith, c.requires.0.most, c.three-test.true)
-
 pub circle_through-circle-requires : goal.circle_through-circle-requires
 circle_through-circle-requires c =
     let g = (goal.at.circle_through-circle-requires c).In-three in
     let l = g.lift_vertices-lifted.ensures in
     (lift_in c.requires.0 (a<n g) l c.loop-b.b (b<n g), lift_in c.requires.0 (a<n g) l c.three.c c.three-test.true)
-
-pub overflow_step-c-then-circle-eq0 : goal.overflow_step-c-then-circle-eq0
-overflow_step-c-then-circle-eq0 c = omega (arith, c.requires.0.most, c.three-test.true)
-
-pub three-smaller-then-circle-eq0 : goal.three-smaller-then-circle-eq0
-three-smaller-then-circle-eq0 c = omega (arith, c.three-test.true)
 
 pub three-preserved-then-circle-eq0 : goal.three-preserved-then-circle-eq0
 three-preserved-then-circle-eq0 c =
@@ -141,18 +99,6 @@ three-preserved-then-circle-eq0 c =
       c.three.invariant.0,
       on_line t (sym (line_is t) ∙ zero_bits c.circle_through-circle.result.orient (signed_fits tt (circle_in t).orient_in) c.if-circle-eq0.true),
     )
-
-pub overflow_add-i-end : goal.overflow_add-i-end
-overflow_add-i-end c = omega (arith, c.requires.0.most, c.three-test.true)
-
-pub loop-i-init : goal.loop-i-init
-loop-i-init c = record { same_c = refl; ahead = omega arith; last<n = c.three.invariant.0; scanned = refl }
-
-pub offset_bounds-lifted-v : goal.offset_bounds-lifted-v
-offset_bounds-lifted-v c = omega (arith, c.requires.0.most, v<n (goal.at.offset_bounds-lifted-v c).After-scanned-v)
-
-pub bounds-lifted-v : goal.bounds-lifted-v
-bounds-lifted-v c = omega (arith, c.requires.0.most, v<n (goal.at.bounds-lifted-v c).After-scanned-v)
 
 pub locate-requires : goal.locate-requires
 locate-requires c = let w = (goal.at.locate-requires c).After-scanned-v in let t = three (goal.at.locate-requires c).At-loop-i in
@@ -163,12 +109,6 @@ three-preserved-then-eq c =
     let w = (goal.at.three-preserved-then-eq c).After-scanned-v in
     let l = (goal.at.three-preserved-then-eq c).At-loop-i in
     (v<n w, three_dropped (three l) (proper l) _ (v<n w) c.locate.ensures (is_inside_lem _ (sym c.eq.ensures ∙ c.if-eq.true)))
-
-pub overflow_step-i : goal.overflow_step-i
-overflow_step-i c = let w = (goal.at.overflow_step-i c).After-scanned-v in omega (arith, c.requires.0.most, c.three-test.true, w.loop-i-test.true)
-
-pub loop-i-smaller : goal.loop-i-smaller
-loop-i-smaller c = let w = (goal.at.loop-i-smaller c).After-scanned-v in omega (arith, c.three-test.true, w.loop-i-test.true)
 
 pub loop-i-preserved : goal.loop-i-preserved
 loop-i-preserved c =
@@ -200,12 +140,6 @@ returns-then-is_fourth c =
     ∙ three_cocircular (three l) (proper l) (full l c.loop-i-test.false) _ (w<n (goal.at.returns-then-is_fourth c).In-loop-w)
     (seen_place k) c.is_fourth.ensures c.if-is_fourth.true) c.clear.ensures
 
-pub overflow_step-w : goal.overflow_step-w
-overflow_step-w c = omega (arith, c.requires.0.most, c.loop-w-test.true)
-
-pub loop-w-smaller : goal.loop-w-smaller
-loop-w-smaller c = omega (arith, c.loop-w-test.true)
-
 pub loop-w-preserved : goal.loop-w-preserved
 loop-w-preserved c =
     let l = (goal.at.loop-w-preserved c).At-loop-i in record {
@@ -213,18 +147,6 @@ loop-w-preserved c =
       passed = fourth_passed (three l) (proper l) (full l c.loop-i-test.false) _ (w<n (goal.at.loop-w-preserved c).In-loop-w)
           (seen_place (goal.at.loop-w-preserved c).After-locate-in-loop-w) c.is_fourth.ensures c.if-is_fourth.false c.loop-w.invariant.passed;
     }
-
-pub insert-requires : goal.insert-requires
-insert-requires c =
-    let t = three (goal.at.insert-requires c).At-loop-i in
-    let m = c.requires.0.most in
-    (omega (arith, m, t.a<n), omega (arith, m, t.b<n), omega (arith, m, t.c<n))
-
-pub overflow_step-c-in-three : goal.overflow_step-c-in-three
-overflow_step-c-in-three c = let t = three (goal.at.overflow_step-c-in-three c).At-loop-i in omega (arith, c.requires.0.most, t.c<n)
-
-pub three-smaller : goal.three-smaller
-three-smaller c = omega (arith, c.three-test.true)
 
 pub three-preserved : goal.three-preserved
 three-preserved c =
