@@ -9,7 +9,7 @@ ghost use Rattle.converter.specs.Call.{converting, convert_by, convert_call, par
 
 use codes::Refusal;
 use conversion::{normals, writing};
-use rim_file::edition;
+use rim_file::file::RimFile;
 
 // What a file was converted to.
 #[derive(Clone, Copy, Debug, PartialEq, Eq)]
@@ -34,21 +34,19 @@ fn check(short: bool, lost: bool) -> Result<(), Refusal>
 }
 
 // Carries a file on which the reader found no number.
-fn carry(file: &[u8], out: &mut [u8]) -> Result<Converted, Refusal>
-    requires { length_wrong file.now ≡ false }
+fn carry(file: &RimFile<'_>, out: &mut [u8]) -> Result<Converted, Refusal>
+    requires { length_wrong file.now.bytes.now ≡ false }
     ensures { converting result out.new
-        ≡ convert_by (conversion_number file.now out.old) file.now out.old }
+        ≡ convert_by (conversion_number file.now.bytes.now out.old) file.now.bytes.now out.old }
 {
-    let source = edition::layout(file);
-    let target = conversion::target_of(source);
-    let layout = target.layout;
-    let count = edition::record_count(file, source);
-    let length = edition::record_start(layout, count + 1);
-    let lost = normals::has_normal(file, source, count);
+    let target = conversion::target_of(file.edition);
+    let count = file.record_count();
+    let length = target.record_start(count + 1);
+    let lost = normals::has_normal(file);
     check(out.len() < length, lost)?;
-    writing::write_file(file, source, layout, count, out);
+    writing::write_file(file, target, out);
     Ok(Converted {
-        edition: target.edition,
+        edition: target.number(),
         length,
     })
 }
@@ -59,7 +57,7 @@ pub fn convert(file: &[u8], out: &mut [u8]) -> Result<Converted, Refusal>
     ensures values { values_of result ≡ due_values (number_due file.now out.old) file.now }
 {
     let _polygon = reader::read_polygon(terms::MAX_VERTICES, file)?;
-    carry(file, out)
+    carry(&RimFile::new(file), out)
 }
 
 // The converted file after a call with this answer: the filled part of the output table.
