@@ -7,7 +7,7 @@ use Prim.Native.Nat.{ℕ, zero, suc, ◌+◌, ◌≤◌, ◌<◌}
 use native.Mathlib.Omega.{arith}
 use lib.ListN.{get_or}
 use Rattle.std.specs.Prelude.{IsOk}
-use Rattle.codes.specs.Refusals.{or_refused}
+use Rattle.codes.specs.Refusals.{refusal, or_refused}
 use Rattle.codes.proofs.Refusals.{ok_answered}
 use Rattle.grid.specs.Point.{OnGrid, PointOnGrid}
 use Rattle.polygon.specs.declared.Polygon.{Polygon}
@@ -18,10 +18,8 @@ use Rattle.polygon.specs.Normal as polygon-normals
 use Rattle.polygon.proofs.Normals.{normal_in_range_lem}
 use Rattle.polygon.proofs.Validity.{repeated_none}
 use Rattle.rim_file.specs.File.{header_start, area_factor_of, bend_factor_of, offset}
-use Rattle.rim_file.specs.Record.{known, height_of, number_of, point_of}
-use Rattle.rim_file.specs.declared.Height.{Height}
-use Rattle.rim_file.specs.declared.Vertex.{Vertex}
-use Rattle.rim_file.specs.declared.Vertex.TheVariants.{At, Refused}
+use Rattle.rim_file.specs.Record.{Height, Vertex, known, height_of, number_of, point_of}
+use Rattle.std.proofs.Common.{Ok, Err}
 use Rattle.rim_file.proofs.Vertices.{Vertexed, vertexed, refused_positive}
 use Rattle.rim_file.proofs.Lengths.{whole}
 use Rattle.reader.specs.Chain.{link, height_before, vertex_at_position, normal_at_position, vertex_count, vertices_of, normals_of}
@@ -39,9 +37,9 @@ module _ (limit : ℕ) (s : List ℕ) (r : Read limit s) where
   fine : (i : ℕ) → i < vertex_count s → number_of (vertex_at_position s i) ≡ 0
   fine i h = no_number limit s (vertex_count s) (read_end limit s r) (whole s r.right) i h
 
-  is_vertex : (v : Vertex) → number_of v ≡ 0 → ((k : ℕ) → v ≡ Refused k → 0 < k) → v ≡ At (point_of v)
-  is_vertex (At p) e h = refl
-  is_vertex (Refused k) e h = absurd (omega (arith, h k refl, e))
+  is_vertex : (v : Vertex) → number_of v ≡ 0 → ((k : ℕ) → v ≡ Err (refusal k) → 0 < k) → v ≡ Ok (point_of v)
+  is_vertex (Ok p) e h = refl
+  is_vertex (Err r) e h = absurd (omega (arith, h r.number refl, e))
 
   vertexed_at : (i : ℕ) → i < vertex_count s → OnGrid (height_of (height_before s i)) →
       Vertexed s (offset s (link s i)) (height_before s i) (point_of (vertex_at_position s i))

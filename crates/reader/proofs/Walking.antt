@@ -16,7 +16,7 @@ use lib.Dec.{ltb, eqb}
 use Rattle.codes.specs.Refusals.{refusal}
 use Rattle.lists.specs.Lists.{either}
 use Rattle.lists.proofs.Choice.{yes, no}
-use Rattle.polygon.specs.Normal.{normal_in_range, normal_code}
+use Rattle.polygon.specs.Normal.{normal_code}
 use Rattle.polygon.specs.Polygon.{origin}
 use Rattle.polygon.specs.declared.normal.Normal.{Normal}
 use Rattle.terms.proofs.Numbers.{due_here, due_on}
@@ -24,10 +24,8 @@ use Rattle.grid.specs.declared.GridPoint.{GridPoint}
 use Rattle.grid.specs.Point.{OnGrid}
 use Rattle.grid.specs.Number.{round_eighths}
 use Rattle.rim_file.specs.File.{u16_at, first_record, record_count, max_records, record_numbers, offset, kind, third_number}
-use Rattle.rim_file.specs.Record.{known, height_of, record_at, vertex_of, normal_in, number_of}
-use Rattle.rim_file.specs.declared.Height.{Height}
-use Rattle.rim_file.specs.declared.Height.TheVariants.{Unknown, Known}
-use Rattle.rim_file.specs.declared.Vertex.TheVariants.{At, Refused}
+use Rattle.rim_file.specs.Record.{Height, known, height_of, record_at, vertex_of, normal_in, number_of}
+use Rattle.std.proofs.Common.{None, Some, Ok, Err}
 use Rattle.rim_file.proofs.Vertices.{Vertexed, vertexed, refused_positive}
 use Rattle.reader.specs.Chain.{link, met_before, height_before, vertex_at_position, normal_at_position, over_limit, link_code, record_code, position_code}
 use Rattle.reader.specs.Steps.{Walking, Stepped, Stopped}
@@ -43,7 +41,7 @@ progress met height vertex normal n next = record { met = met; height = height; 
 
 -- before the first position no record is met
 pub walking_start : (limit : ℕ) (s : List ℕ) (none : Normal) (first : ℕ) → first ≡ first_record s →
-    Walking limit s (progress (replicate record_numbers false) Unknown origin none 0 first)
+    Walking limit s (progress (replicate record_numbers false) None origin none 0 first)
 unfolding link met_before height_before
 walking_start limit s none first e = record {
   here = e;
@@ -113,7 +111,7 @@ module _ {limit : ℕ} {s : List ℕ} {w : Progress} (v : Walking limit s w) whe
             ∙ ap (λ (h : Height). vertex_of (record_at s (offset s (link s w.n)) (known h)) (height_of h)) v.level
 
         -- the record here is refused
-        pub record_stops : (k : ℕ) → vertex_of (record_at s at (known w.height)) (height_of w.height) ≡ Refused k → Stopped limit s w (refusal k)
+        pub record_stops : (k : ℕ) → vertex_of (record_at s at (known w.height)) (height_of w.height) ≡ Err (refusal k) → Stopped limit s w (refusal k)
         record_stops k e =
             let some = refused_positive s at (known w.height) (height_of w.height) k e in
             let due : record_code s w.n ≡ k = due_here {j = number_of (vertex_at_position s w.n)} (normal_code (normal_at_position s w.n))
@@ -132,16 +130,16 @@ module _ {limit : ℕ} {s : List ℕ} {w : Progress} (v : Walking limit s w) whe
             by false e =
                 get_or-set_other w.met w.link k true false (λ d. eqb-false (link s w.n) k e (sym v.here ∙ sym d)) ∙ v.marked k h
 
-        level_next : (p : GridPoint) → Vertexed s at w.height p → Known p.z ≡ height_before s (suc w.n)
+        level_next : (p : GridPoint) → Vertexed s at w.height p → Some p.z ≡ height_before s (suc w.n)
         unfolding height_before
         level_next p d =
             sym d.height_after
-            ∙ ap (λ (i : ℕ). cond (eqb (kind s i) 1) (Known (round_eighths (third_number s i))) w.height) starts
+            ∙ ap (λ (i : ℕ). cond (eqb (kind s i) 1) (Some (round_eighths (third_number s i))) w.height) starts
             ∙ ap (λ (h : Height).
-            cond (eqb (kind s (offset s (link s w.n))) 1) (Known (round_eighths (third_number s (offset s (link s w.n))))) h) v.level
+            cond (eqb (kind s (offset s (link s w.n))) 1) (Some (round_eighths (third_number s (offset s (link s w.n))))) h) v.level
 
         -- the record here has a vertex, and this normal
-        module _ (p : GridPoint) (has_vertex_lem : vertex_of (record_at s at (known w.height)) (height_of w.height) ≡ At p)
+        module _ (p : GridPoint) (has_vertex_lem : vertex_of (record_at s at (known w.height)) (height_of w.height) ≡ Ok p)
             (q : Normal) (has_normal : q ≡ normal_in s at) where
           normal_here : q ≡ normal_at_position s w.n
           normal_here = has_normal ∙ ap (λ (i : ℕ). normal_in s i) starts
@@ -152,23 +150,23 @@ module _ {limit : ℕ} {s : List ℕ} {w : Progress} (v : Walking limit s w) whe
               (ap number_of (sym vertex_here ∙ has_vertex_lem)) ∙ ap normal_code (sym normal_here)
 
           -- the normal is refused
-          pub normal_stops : normal_in_range q ≡ false → Stopped limit s w (refusal 18)
-          normal_stops e = stopped_by 18 (omega arith) (normal_code_lem ∙ no 0 18 e)
+          pub normal_stops : 0 < normal_code q → Stopped limit s w (refusal (normal_code q))
+          normal_stops h = stopped_by (normal_code q) h normal_code_lem
 
           -- the walk goes on
-          pub record_passes : (next : ℕ) → normal_in_range q ≡ true → next ≡ u16_at s at →
-              Stepped limit s w (progress (set w.met w.link true) (Known (to_z w64 (of_z w64 p.z))) p q (w.n + 1) next)
+          pub record_passes : (next : ℕ) → normal_code q ≡ 0 → next ≡ u16_at s at →
+              Stepped limit s w (progress (set w.met w.link true) (Some (to_z w64 (of_z w64 p.z))) p q (w.n + 1) next)
           unfolding link
           record_passes next f d =
               let x : Vertexed s at w.height p = vertexed s at w.height p v.on_grid has_vertex_lem in
               let same = held p.z x.on_grid.z in
               record {
-                none = normal_code_lem ∙ yes 0 18 f;
+                none = normal_code_lem ∙ f;
                 walking = record {
                   here = d ∙ ap (λ (i : ℕ). u16_at s i) starts ∙ ap (λ (i : ℕ). link s i) (sym (add-one w.n));
                   marks = length-set w.met w.link true ∙ v.marks;
                   marked = λ k h. marked_next k h ∙ ap (λ (i : ℕ). met_before s i k) (sym (add-one w.n));
-                  level = ap Known same ∙ level_next p x ∙ ap (λ (i : ℕ). height_before s i) (sym (add-one w.n));
+                  level = ap Some same ∙ level_next p x ∙ ap (λ (i : ℕ). height_before s i) (sym (add-one w.n));
                   on_grid = subst OnGrid (sym same) x.on_grid.z;
                   within = omega arith;
                 };

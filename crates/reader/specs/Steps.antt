@@ -4,7 +4,7 @@ use Rattle.codes.specs.declared.Refusal.{Refusal}
 use Rattle.grid.specs.Point.{OnGrid}
 use Rattle.rim_file.specs.File.{record_numbers}
 use Rattle.rim_file.specs.Record.{height_of}
-use Rattle.rim_file.specs.declared.Vertex.TheVariants.{At}
+use Rattle.std.specs.Prelude.{Ok}
 use Rattle.reader.specs.Chain.{link, met_before, height_before, vertex_at_position, normal_at_position}
 use Rattle.reader.specs.Chain.{position_code, vertex_count, vertices_of, normals_of}
 use Rattle.reader.specs.declared.Chain.{Chain}
@@ -24,7 +24,7 @@ pub record Stepped (limit : ℕ) (s : List ℕ) (w r : Progress) : Type 0 where
   pub none : position_code limit s w.n ≡ 0
   pub walking : Walking limit s r
   pub next : r.n ≡ w.n + 1
-  pub vertex_is : vertex_at_position s w.n ≡ At r.vertex
+  pub vertex_is : vertex_at_position s w.n ≡ Ok r.vertex
   pub normal_is : r.normal ≡ normal_at_position s w.n
 
 -- the walk is stopped by the number due at a position

@@ -12,7 +12,7 @@ use codes::Refusal;
 use grid::GridPoint;
 use polygon::Polygon;
 use polygon::normal::Normal;
-use rim_file::{Height, bytes, edition};
+use rim_file::file::RimFile;
 
 // Marks go by record number, from 0, which names none.
 const MARKS: usize = rim_file::MAX_RECORDS + 1;
@@ -23,7 +23,7 @@ struct Progress {
     // A mark for each record number, set where the record was met.
     pub met: [bool; MARKS],
     // The height that a level point takes here.
-    pub height: Height,
+    pub height: Option<i64>,
     // The vertex of the position before, and its normal.
     pub vertex: GridPoint,
     pub normal: Normal,
@@ -41,15 +41,14 @@ struct Chain {
 }
 
 // The polygon of a rim file, or the first number due of 1 to 11, 18 and 20.
-fn read_within(limit: usize, file: &[u8]) -> Result<Polygon, Refusal>
+fn read_within(limit: usize, file: &RimFile<'_>) -> Result<Polygon, Refusal>
     requires { count_fits limit ≡ true }
-    ensures { result ≡ reading_of limit file.now }
+    ensures { result ≡ reading_of limit file.now.bytes.now }
 {
-    let layout = edition::layout(file);
-    if edition::length_wrong(file, layout) {
+    if file.length_wrong() {
         return Err(Refusal::LENGTH);
     }
-    let area_factor = bytes::u16_at(file, layout.header + 4);
+    let area_factor = file.area_factor();
     if terms::MAX_AREA_FACTOR < area_factor {
         return Err(Refusal::AREA_FACTOR);
     }
@@ -57,7 +56,7 @@ fn read_within(limit: usize, file: &[u8]) -> Result<Polygon, Refusal>
         n,
         vertices,
         normals,
-    } = walk::follow_chain(limit, file, layout)?;
+    } = walk::follow_chain(limit, file)?;
     if n < terms::MIN_VERTICES {
         return Err(Refusal::TOO_FEW_VERTICES);
     }
@@ -67,7 +66,7 @@ fn read_within(limit: usize, file: &[u8]) -> Result<Polygon, Refusal>
     Ok(Polygon {
         n,
         area_factor,
-        bend_factor: bytes::u16_at(file, layout.header + 6),
+        bend_factor: file.bend_factor(),
         vertices,
         normals,
     })
@@ -81,5 +80,5 @@ pub fn read_polygon(limit: usize, file: &[u8]) -> Result<Polygon, Refusal>
     if !terms::count_fits(limit) {
         return Err(Refusal::VERTEX_COUNT);
     }
-    read_within(limit, file)
+    read_within(limit, &RimFile::new(file))
 }

@@ -2,7 +2,7 @@
 ghost use Rattle.std.specs.Prelude.{◌≡◌, false, ℕ, ◌≤◌, MatchResult};
 ghost use Rattle.codes.specs.Refusals.{refusal, or_refused};
 ghost use Rattle.terms.specs.Limits.{max_vertices};
-ghost use Rattle.rim_file.specs.File.{layout_of, length_wrong};
+ghost use Rattle.rim_file.specs.File.{length_wrong};
 ghost use Rattle.reader.specs.Chain.{over_limit, chain_code};
 ghost use Rattle.reader.specs.Steps.{Walking, Stepped, Stopped, chain_of};
 
@@ -10,7 +10,8 @@ use crate::{Chain, Progress};
 use codes::Refusal;
 use grid::GridPoint;
 use polygon::normal::Normal;
-use rim_file::{Height, Layout, Vertex, bytes, edition, normal, records};
+use rim_file::file::RimFile;
+use rim_file::normal;
 
 // The refusal of a record that is one too many.
 fn over_limit(limit: usize) -> Refusal
@@ -23,31 +24,30 @@ fn over_limit(limit: usize) -> Refusal
 }
 
 // The walk before the first position, whatever the limit: no record is met.
-fn start(file: &[u8], layout: Layout) -> Progress
-    requires { (layout ≡ layout_of file.now) × (length_wrong file.now ≡ false) }
-    ensures { ((limit : ℕ) → Walking limit file.now result) × (result.n ≡ 0) }
+fn start(file: &RimFile<'_>) -> Progress
+    requires { (length_wrong file.now.bytes.now ≡ false) }
+    ensures { ((limit : ℕ) → Walking limit file.now.bytes.now result) × (result.n ≡ 0) }
 {
     Progress {
         met: [false; crate::MARKS],
-        height: Height::Unknown,
+        height: None,
         vertex: GridPoint { x: 0, y: 0, z: 0 },
         normal: Normal::none(),
         n: 0,
-        link: bytes::u16_at(file, layout.header) as usize,
+        link: file.first_record(),
     }
 }
 
 // One position of the chain: the walk past its record, or the first number due there.
-fn step(limit: usize, file: &[u8], layout: Layout, walk: Progress) -> Result<Progress, Refusal>
-    requires { (layout
-        ≡ layout_of file.now) × (length_wrong file.now ≡ false) × (Walking limit file.now walk) × (walk.link ≡ 0 → ⊥) × (limit ≤ max_vertices) }
-    ensures { MatchResult result (λ next. Stepped limit file.now walk next) (λ r. Stopped limit file.now walk r) }
+fn step(limit: usize, file: &RimFile<'_>, walk: Progress) -> Result<Progress, Refusal>
+    requires { (length_wrong file.now.bytes.now ≡ false) × (Walking limit file.now.bytes.now walk) × (walk.link ≡ 0 → ⊥) × (limit ≤ max_vertices) }
+    ensures { MatchResult result (λ next. Stepped limit file.now.bytes.now walk next) (λ r. Stopped limit file.now.bytes.now walk r) }
 {
     let link = walk.link;
     let n = walk.n;
     let next = n + 1;
     let mut met = walk.met;
-    if edition::record_count(file, layout) < link {
+    if file.record_count() < link {
         return Err(Refusal::LINK);
     }
     if met[link] {
@@ -56,38 +56,31 @@ fn step(limit: usize, file: &[u8], layout: Layout, walk: Progress) -> Result<Pro
     if n == limit {
         return Err(over_limit(limit));
     }
-    let at = edition::record_start(layout, link);
-    match records::vertex_at(file, at, walk.height) {
-        Vertex::Refused(code) => Err(Refusal::new(code)),
-        Vertex::At(vertex) => {
-            let normal = normal::normal_at(file, layout, at);
-            if !normal.in_range() {
-                return Err(Refusal::NORMAL);
-            }
-            met[link] = true;
-            Ok(Progress {
-                met,
-                height: Height::Known(vertex.z),
-                vertex,
-                normal,
-                n: next,
-                link: bytes::u16_at(file, at) as usize,
-            })
-        }
-    }
+    let at = file.record_start(link);
+    let vertex = file.vertex_at(at, walk.height)?;
+    let normal = normal::checked(file.normal_at(at))?;
+    met[link] = true;
+    Ok(Progress {
+        met,
+        height: Some(vertex.z),
+        vertex,
+        normal,
+        n: next,
+        link: file.next_record(at),
+    })
 }
 
 // The vertices of a chain of at most so many and their normals, or the first number due along it.
-pub fn follow_chain(limit: usize, file: &[u8], layout: Layout) -> Result<Chain, Refusal>
-    requires { (layout ≡ layout_of file.now) × (length_wrong file.now ≡ false) × (limit ≤ max_vertices) }
-    ensures { result ≡ or_refused (chain_code limit file.now) (chain_of file.now) }
+pub fn follow_chain(limit: usize, file: &RimFile<'_>) -> Result<Chain, Refusal>
+    requires { (length_wrong file.now.bytes.now ≡ false) × (limit ≤ max_vertices) }
+    ensures { result ≡ or_refused (chain_code limit file.now.bytes.now) (chain_of file.now.bytes.now) }
 {
     let mut vertices = [GridPoint { x: 0, y: 0, z: 0 }; terms::MAX_VERTICES];
     let mut normals = [Normal::none(); terms::MAX_VERTICES];
-    let mut walk = start(file, layout);
+    let mut walk = start(file);
     while walk.link != 0 {
         let n = walk.n;
-        walk = step(limit, file, layout, walk)?;
+        walk = step(limit, file, walk)?;
         vertices[n] = walk.vertex;
         normals[n] = walk.normal;
     }

@@ -40,11 +40,7 @@ fn compare(
     file: &[u8],
     expected: Result<Polygon, Refusal>,
 ) -> io::Result<()> {
-    let reading = reader::read_polygon(limit, file);
-    let came = match reading.status {
-        reader::Status::Complete => Ok(reading.polygon),
-        reader::Status::Refused(refusal) => Err(refusal),
-    };
+    let came = reader::read_polygon(limit, file);
     match came {
         Ok(_) => print!(rt; " ok")?,
         Err(refusal) => print!(rt; " {}", refusal.number)?,

@@ -4,7 +4,7 @@ use Rattle.reader.proofs.Following.{following_start, following_end, following_st
 use Rattle.reader.proofs.walk.follow_chain.Goals as goal
 
 pub loop-walk-init : goal.loop-walk-init
-loop-walk-init c = following_start c.requires.2 (c.start-walk.ensures.0 _) c.start-walk.ensures.1 c.none-normals.ensures
+loop-walk-init c = following_start c.requires.1 (c.start-walk.ensures.0 _) c.start-walk.ensures.1 c.none-normals.ensures
 
 pub returns-in_err-walk : goal.returns-in_err-walk
 returns-in_err-walk c =
