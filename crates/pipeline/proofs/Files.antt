@@ -6,7 +6,7 @@ use Prim.Native.Nat.{ℕ, zero, suc}
 use native.Mathlib.Omega.{arith}
 use Rattle.std.proofs.Common.{Err}
 use Rattle.codes.specs.declared.Refusal.{Refusal}
-use Rattle.codes.specs.Refusals.{refusal}
+use Rattle.codes.specs.Refusals.{refusal, number_of}
 use Rattle.polygon.specs.declared.Polygon.{Polygon}
 use Rattle.reader.specs.declared.Status.{Status}
 use Rattle.reader.specs.declared.Status.TheVariants as status
@@ -14,11 +14,9 @@ use Rattle.reader.specs.declared.Reading.{Reading}
 use Rattle.terms.specs.Numbers.{first_due}
 use Rattle.reader.specs.Reading.{polygon_of, answer, reading_of}
 use Rattle.reader.specs.Reading as reader
-use Rattle.finder.specs.declared.Found.TheVariants as found
+use Rattle.std.specs.Prelude.{Ok, Err}
 use Rattle.finder.specs.Finding.{values, values_of, due_values, Finding, finding, number_due, find_by, find_number, find_call}
-use Rattle.finder.specs.declared.Sizes.{Sizes}
-use Rattle.finder.specs.declared.Sizes.TheVariants as sizes
-use Rattle.finder.specs.Sizes.{no_places, number_of, places_in, due_places, sizes_by, sizes_of}
+use Rattle.finder.specs.Sizes.{Sizes, no_places, places_in, due_places, sizes_by, sizes_of}
 use Rattle.finder.proofs.Answers.{sizes_values}
 use Rattle.pipeline.specs.Finding.{find_file_number, find_file_values, find_file}
 use Rattle.pipeline.specs.Patching.{Tables, Patching, patching, patch_by, polygon_number, patch_polygon, patch_file}
@@ -80,20 +78,20 @@ sized_values limit s e = sizes_values (polygon_of s) (sizes_number limit s) e
 
 module _ (limit : ℕ) (s : List ℕ) {r : Reading} where
   pub sizes_refused : {k : Refusal} → r.status ≡ status.Refused k → r ≡ reading_of limit s →
-      (sizes.Refused k ≡ sizes_file limit s) × ((k.number ≡ sizes_number limit s) × (no_places ≡ due_places (sizes_number limit s) (polygon_of s)))
+      (Err k ≡ sizes_file limit s) × ((k.number ≡ sizes_number limit s) × (no_places ≡ due_places (sizes_number limit s) (polygon_of s)))
   unfolding sizes_file
   sizes_refused d e = sized_values limit s
-      (by_refusal limit s e sizes_by (λ (k : Refusal). sizes.Refused k) (λ k. refl) (λ (p : Polygon). number_due false p) d)
+      (by_refusal limit s e sizes_by (λ (k : Refusal). Err k) (λ k. refl) (λ (p : Polygon). number_due false p) d)
 
   pub sizes_read : {x : Sizes} → r.status ≡ status.Complete → r ≡ reading_of limit s → x ≡ sizes_of r.polygon →
       (x ≡ sizes_file limit s) × ((number_of x ≡ sizes_number limit s) × (places_in x ≡ due_places (sizes_number limit s) (polygon_of s)))
   unfolding sizes_file
   sizes_read d e f =
-      sized_values limit s (f ∙ by_polygon limit s e sizes_by (λ (k : Refusal). sizes.Refused k) (λ k. refl) (λ (p : Polygon). number_due false p) d)
+      sized_values limit s (f ∙ by_polygon limit s e sizes_by (λ (k : Refusal). Err k) (λ k. refl) (λ (p : Polygon). number_due false p) d)
 
 -- ---- the finder's call, by the answer of the reader
 abbrev find_after : Status → Polygon → List (List ℕ) → List ℕ → List (List ℕ) → Finding
-find_after (status.Refused k) p candidates weights rows = finding (found.Refused k) candidates weights rows
+find_after (status.Refused k) p candidates weights rows = finding (Err k) candidates weights rows
 find_after status.Complete p candidates weights rows = find_call p candidates weights rows
 
 module _ (limit : ℕ) (s : List ℕ) (candidates : List (List ℕ)) (weights : List ℕ) (rows : List (List ℕ)) where
@@ -124,7 +122,7 @@ module _ (limit : ℕ) (s : List ℕ) (candidates : List (List ℕ)) (weights : 
         ∙ sym after_reading
 
     pub lists_refused : {k : Refusal} → r.status ≡ status.Refused k →
-        (finding (found.Refused k) candidates weights rows ≡ find_file limit s candidates weights rows)
+        (finding (Err k) candidates weights rows ≡ find_file limit s candidates weights rows)
         × (values k.number 0 0 ≡ find_file_values limit s candidates weights rows)
     lists_refused d = found_values (after d)
 

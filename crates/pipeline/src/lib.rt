@@ -2,11 +2,11 @@
 #![tactic(auto)]
 
 ghost use Rattle.std.specs.Prelude.{◌≡◌, ◌+◌, ◌≤◌, length, take};
+ghost use Rattle.codes.specs.Refusals.{number_of};
 ghost use Rattle.reader.specs.Reading.{polygon_of};
 ghost use Rattle.finder.specs.Finding.{finding};
 ghost use Rattle.finder.specs.Finding as found;
 ghost use Rattle.finder.specs.Sizes.{places_in, due_places};
-ghost use Rattle.finder.specs.Sizes as sizes;
 ghost use Rattle.triangulation.specs.Triangulations.{best};
 ghost use Rattle.triangulation.specs.Problems.{problem_from};
 ghost use Rattle.minimum_weight.specs.Tables.{WellFormed};
@@ -16,7 +16,7 @@ ghost use Rattle.pipeline.specs.Patching.{tables, patching, polygon_values, patc
 ghost use Rattle.pipeline.specs.Sizes.{sizes_number, sizes_file};
 
 use codes::Refusal;
-use finder::{Found, Sizes};
+use finder::{Counts, Places};
 use polygon::Polygon;
 use reader::Status;
 use triangulator::Patch;
@@ -64,16 +64,17 @@ pub fn patch_polygon(
         ≡ polygon_values p (tables triangles.old candidates.old weights.old rows.old work.old) }
 {
     let n = p.n;
-    let found = finder::find_beside(p, triangles.len(), work.len(), candidates, weights, rows);
-    match found {
-        Found::Refused(refusal) => Err(refusal),
-        Found::Lists {
-            candidates: count,
-            rows: row_count,
-        } => triangulate_first(
-            n, candidates, count, weights, rows, row_count, triangles, work,
-        ),
-    }
+    let lists = finder::find_beside(p, triangles.len(), work.len(), candidates, weights, rows)?;
+    triangulate_first(
+        n,
+        candidates,
+        lists.candidates,
+        weights,
+        rows,
+        lists.rows,
+        triangles,
+        work,
+    )
 }
 
 // The patch of a rim file of at most so many vertices.
@@ -109,7 +110,7 @@ pub fn find_file(
     candidates: &mut [[u8; 3]],
     weights: &mut [u32],
     rows: &mut [[u32; 3]],
-) -> Found
+) -> Result<Counts, Refusal>
     ensures tables { finding result candidates.new weights.new rows.new
         ≡ find_file limit file.now candidates.old weights.old rows.old }
     ensures values { found.values_of result ≡ find_file_values limit file.now candidates.old weights.old rows.old }
@@ -118,22 +119,22 @@ pub fn find_file(
     let status = reading.status;
     let p = reading.polygon;
     match status {
-        Status::Refused(refusal) => Found::Refused(refusal),
+        Status::Refused(refusal) => Err(refusal),
         Status::Complete => finder::find(p, candidates, weights, rows),
     }
 }
 
 // The places that the lent tables need for a rim file of at most so many vertices, or the number due on it: one of the reader's, or 12.
-pub fn table_sizes(limit: usize, file: &[u8]) -> Sizes
+pub fn table_sizes(limit: usize, file: &[u8]) -> Result<Places, Refusal>
     ensures sizes { result ≡ sizes_file limit file.now }
-    ensures values { (sizes.number_of result ≡ sizes_number limit file.now)
+    ensures values { (number_of result ≡ sizes_number limit file.now)
         × (places_in result ≡ due_places (sizes_number limit file.now) (polygon_of file.now)) }
 {
     let reading = reader::read_polygon(limit, file);
     let status = reading.status;
     let p = reading.polygon;
     match status {
-        Status::Refused(refusal) => Sizes::Refused(refusal),
+        Status::Refused(due) => Err(due),
         Status::Complete => finder::table_sizes(p),
     }
 }
