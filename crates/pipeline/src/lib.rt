@@ -18,7 +18,6 @@ ghost use Rattle.pipeline.specs.Sizes.{sizes_number, sizes_file};
 use codes::Refusal;
 use finder::{Counts, Places};
 use polygon::Polygon;
-use reader::Status;
 use triangulator::Patch;
 
 // The best triangulation by the lists in the first places of the tables.
@@ -94,13 +93,8 @@ pub fn patch_file(
         ≡ file_values limit file.now
         (tables triangles.old candidates.old weights.old rows.old work.old) }
 {
-    let reading = reader::read_polygon(limit, file);
-    let status = reading.status;
-    let p = reading.polygon;
-    match status {
-        Status::Refused(refusal) => Err(refusal),
-        Status::Complete => patch_polygon(p, triangles, candidates, weights, rows, work),
-    }
+    let p = reader::read_polygon(limit, file)?;
+    patch_polygon(p, triangles, candidates, weights, rows, work)
 }
 
 // The candidates, weights and rows of a rim file of at most so many vertices: the reader, then the finder.
@@ -115,13 +109,8 @@ pub fn find_file(
         ≡ find_file limit file.now candidates.old weights.old rows.old }
     ensures values { found.values_of result ≡ find_file_values limit file.now candidates.old weights.old rows.old }
 {
-    let reading = reader::read_polygon(limit, file);
-    let status = reading.status;
-    let p = reading.polygon;
-    match status {
-        Status::Refused(refusal) => Err(refusal),
-        Status::Complete => finder::find(p, candidates, weights, rows),
-    }
+    let polygon = reader::read_polygon(limit, file)?;
+    finder::find(polygon, candidates, weights, rows)
 }
 
 // The places that the lent tables need for a rim file of at most so many vertices, or the number due on it: one of the reader's, or 12.
@@ -130,11 +119,5 @@ pub fn table_sizes(limit: usize, file: &[u8]) -> Result<Places, Refusal>
     ensures values { (number_of result ≡ sizes_number limit file.now)
         × (places_in result ≡ due_places (sizes_number limit file.now) (polygon_of file.now)) }
 {
-    let reading = reader::read_polygon(limit, file);
-    let status = reading.status;
-    let p = reading.polygon;
-    match status {
-        Status::Refused(due) => Err(due),
-        Status::Complete => finder::table_sizes(p),
-    }
+    finder::table_sizes(reader::read_polygon(limit, file)?)
 }

@@ -1,17 +1,15 @@
 -- What the two calls answer and leave, from what the dynamic programme returns and leaves. Assumes nothing.
-use Prim.Native.Nat.{ℕ, zero, suc, ◌-◌, ◌≤◌, ◌<◌}
+use Prim.Native.Nat.{ℕ, ◌-◌, ◌≤◌, ◌<◌}
 use mathlib.Core.Path.{◌≡◌, refl, sym, ap, ap₂, ◌∙◌}
-use mathlib.Core.Logic.{◌≢◌, ◌⊎◌, inl, inr}
+use mathlib.Core.Logic.{◌⊎◌, inl, inr}
 use mathlib.Core.List.{List, [], ◌∷◌}
 use native.Mathlib.Omega.{arith}
 use lib.ListN.{length, replicate}
-use borrow.Author.Tests.{eq-eqb, ne_eqb}
-use Rattle.std.proofs.Common.{Some, None, Ok, Err}
-use Rattle.codes.specs.declared.Refusal.{Refusal}
-use Rattle.codes.specs.Refusals.{refusal}
+use borrow.Author.Tests.{eq-eqb}
+use Rattle.std.proofs.Common.{Some, None, Ok}
 use Rattle.lists.specs.Lists.{filled}
-use Rattle.lists.proofs.Choice.{yes, no}
-use Rattle.triangulation.specs.Triangulations.{Answer, answer_of}
+use Rattle.lists.proofs.Choice.{yes}
+use Rattle.triangulation.specs.Triangulations.{answer_of}
 use Rattle.triangulation.specs.Recursion.{cost_of, rest_of, no_total}
 use Rattle.triangulator.specs.Call as tiler
 use Rattle.triangulator.specs.Call.{Outcome, patch_with, values, values_of, due_values}
@@ -23,16 +21,6 @@ use Rattle.triangulator.proofs.Settling.{listed, not_listed}
 
 -- ---- the price, by the exits of the code
 module _ (n count number : ℕ) (work : List ℕ) where
-  pub quote_refused : {r : Refusal} (k : ℕ) (a : Answer) → r ≡ refusal k → k ≡ number → k ≢ 0
-      → (result_of (Err r) work ≡ settled number (quote_of n a) count work) × (values_of (Err r) ≡ due_values number n a)
-  quote_refused {r} k a m e d = by number e
-    where
-      by : (j : ℕ) → k ≡ j → (result_of (Err r) work ≡ settled j (quote_of n a) count work) × (values_of (Err r) ≡ due_values j n a)
-      by zero e = absurd (d e)
-      by (suc j) e =
-          let q = m ∙ ap refusal e in
-          (ap (λ (x : Refusal). result_of (Err x) work) q, ap (λ (x : Refusal). values_of (Err x)) q)
-
   module _ (z : number ≡ 0) (k : List ℕ) {left : List ℕ} (f : left ≡ filled (replicate count 0) work) where
     pub quote_none : no_total ≤ cost_of k → (k ≡ []) ⊎ (cost_of k < no_total)
         → (result_of (Ok None) left ≡ settled number (quote_of n (answer_of k)) count work) × (values_of (Ok None) ≡ due_values number n (answer_of k))
@@ -42,45 +30,9 @@ module _ (n count number : ℕ) (work : List ℕ) where
       ap₂ (λ (j : ℕ) (l : List ℕ). due_values j n (answer_of l)) (sym z) (sym q),
     )
 
-    pub quote_total : (total : ℕ) → total ≡ cost_of k → total < no_total
-        → (result_of (Ok (Some (patch_with (n - 2) total))) left ≡ settled number (quote_of n (answer_of k)) count work)
-        × (values_of (Ok (Some (patch_with (n - 2) total))) ≡ due_values number n (answer_of k))
-    quote_total total e h = by k e
-      where
-        by : (k : List ℕ) → total ≡ cost_of k
-            → (result_of (Ok (Some (patch_with (n - 2) total))) left ≡ settled number (quote_of n (answer_of k)) count work)
-            × (values_of (Ok (Some (patch_with (n - 2) total))) ≡ due_values number n (answer_of k))
-        by [] e = absurd (omega arith)
-        by (x ∷ l) e = (
-          ap₂ (λ (t : ℕ) (w : List ℕ). result_of (Ok (Some (patch_with (n - 2) t))) w) e f ∙ ap (λ (j : ℕ). settled j (Ok (Some (patch_with (n - 2) x))) count work) (sym z),
-          ap (values 0 (n - 2)) e ∙ ap (λ (j : ℕ). due_values j n (answer_of (x ∷ l))) (sym z),
-        )
-
 -- ---- the patch, by the exits of the code
--- a number of the job
-pub patch_refused : {r : Refusal} (k number agreed n : ℕ) (a : Answer) (triangles work : List ℕ) (x : tiler.Result)
-    → r ≡ refusal k → k ≡ number → k ≢ 0
-    → (tiler.result_of (Err r) triangles work ≡ refused_or number triangles work x)
-    × (values_of (Err r) ≡ due_values_at number agreed n a)
-patch_refused {r} k number agreed n a triangles work x m e d = by number e
-  where
-    by : (j : ℕ) → k ≡ j → (tiler.result_of (Err r) triangles work ≡ refused_or j triangles work x)
-        × (values_of (Err r) ≡ due_values_at j agreed n a)
-    by zero e = absurd (d e)
-    by (suc j) e =
-        let q = m ∙ ap refusal e in (
-          ap (λ (y : Refusal). tiler.result_of (Err y) triangles work) q,
-          ap (λ (y : Refusal). values_of (Err y)) q,
-        )
-
--- what a key with a total says, where the agreed total is another, and where it is the same
+-- what a key with a total says, where the agreed total is the same
 module _ (n count agreed : ℕ) (triangles work : List ℕ) where
-  other_total : (k : List ℕ) → cost_of k < no_total → agreed ≢ cost_of k
-      → (settled_at agreed (answer_of k) count triangles work ≡ tiler.result_of (Err (refusal 23)) triangles (filled (replicate count 0) work))
-      × (values_at agreed n (answer_of k) ≡ values 23 0 0)
-  other_total [] h d = absurd (omega arith)
-  other_total (x ∷ l) h d = (no _ _ (ne_eqb agreed x d), no _ _ (ne_eqb agreed x d))
-
   same_total : (k : List ℕ) → cost_of k < no_total → agreed ≡ cost_of k → ((x : ℕ) (l : List ℕ) → k ≡ x ∷ l → length l ≡ n - 2)
       → (settled_at agreed (answer_of k) count triangles work
       ≡ tiler.result_of (Ok (Some (patch_with (n - 2) (cost_of k)))) (filled (rest_of k) triangles) (filled (replicate count 0) work))
@@ -112,14 +64,6 @@ module _ (n count number agreed : ℕ) (z : number ≡ 0) (triangles work k : Li
       (ap₂ (tiler.result_of (Ok None)) (e ∙ sym (not_listed (Agreed agreed) k triangles (inl q))) f
       ∙ ap (λ (l : List ℕ). settled_at agreed (answer_of l) count triangles work) (sym q))
       (ap (λ (l : List ℕ). values_at agreed n (answer_of l)) (sym q))
-
-  pub patch_not_least : {r : Refusal} → r ≡ refusal 23 → cost_of k < no_total → agreed ≢ cost_of k → Right (Err r)
-  patch_not_least {r} m h d =
-      let o = other_total n count agreed triangles work k h d in
-      accepted (Err r)
-      (ap₂ (tiler.result_of (Err r)) (e ∙ sym (not_listed (Agreed agreed) k triangles (inr (ne_eqb agreed (cost_of k) d)))) f
-      ∙ ap (λ (y : Refusal). tiler.result_of (Err y) triangles (filled (replicate count 0) work)) m ∙ sym o.0)
-      (ap (λ (y : Refusal). values_of (Err y)) m ∙ sym o.1)
 
   pub patch_whole : (total : ℕ) → total ≡ cost_of k → total < no_total → agreed ≡ total
       → ((x : ℕ) (l : List ℕ) → k ≡ x ∷ l → length l ≡ n - 2) → Right (Ok (Some (patch_with (n - 2) total)))
