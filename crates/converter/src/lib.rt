@@ -9,13 +9,13 @@ ghost use Rattle.converter.specs.Call.{converting, convert_by, convert_call, par
 
 use codes::Refusal;
 use conversion::{normals, writing};
+use rim_file::edition::Edition;
 use rim_file::file::RimFile;
 
 // What a file was converted to.
 #[derive(Clone, Copy, Debug, PartialEq, Eq)]
 pub struct Converted {
-    // 1 or 2: a number, since ConvertAnswer of the C interface and `other_edition` have it as one.
-    pub edition: u32,
+    pub edition: Edition,
     // How many bytes were written.
     pub length: usize,
 }
@@ -39,16 +39,12 @@ fn carry(file: &RimFile<'_>, out: &mut [u8]) -> Result<Converted, Refusal>
     ensures { converting result out.new
         ≡ convert_by (conversion_number file.now.bytes.now out.old) file.now.bytes.now out.old }
 {
-    let target = conversion::target_of(file.edition);
-    let count = file.record_count();
-    let length = target.record_start(count + 1);
+    let edition = conversion::target_of(file.edition);
+    let length = edition.record_start(file.record_count() + 1);
     let lost = normals::has_normal(file);
     check(out.len() < length, lost)?;
-    writing::write_file(file, target, out);
-    Ok(Converted {
-        edition: target.number(),
-        length,
-    })
+    writing::write_file(file, edition, out);
+    Ok(Converted { edition, length })
 }
 
 // The file in the other edition, in the first places of the output table. Numbers 1 to 11 and 18, then 13, then 19.
