@@ -18,9 +18,12 @@ use Rattle.polygon.proofs.Validity.{code_valid}
 use Rattle.delaunay.specs.Candidates.{candidates_of, degenerate, is_candidate}
 use Rattle.dihedrals.specs.Dihedrals.{rows_of}
 use Rattle.dihedrals.proofs.Rows.{row_count}
+use Rattle.faces.specs.Masks.{empty_set}
 use Rattle.faces.proofs.Sets.{triples_bound}
+use Rattle.delaunay_search.specs.Search.{Marked}
+use Rattle.delaunay.proofs.Marking.{listed_are}
 use Rattle.lists.specs.Lists.{either}
-use Rattle.lists.proofs.Choice.{Truth, holds, fails, truth, yes, no, true_not_false, either_neither, not_false_true}
+use Rattle.lists.proofs.Choice.{Truth, holds, fails, truth, yes, no, true_not_false, not_true_false, either_neither, not_false_true}
 use Rattle.finder.specs.declared.Places.{Places}
 use Rattle.finder.specs.Sizes.{Sizes, places_of, places_in, due_places, sizes_by, sizes_of}
 use Rattle.finder.specs.Finding.{Found, counts, Finding, finding, values_of, due_values, short, short_tables, short_beside}
@@ -94,18 +97,16 @@ module _ (p : Polygon) where
         listed = λ z. absurd (let y = sym due ∙ z in omega (arith, y));
       }
 
-  pub cospherical_due : {masks : List ℕ} → code_of p ≡ 0 → degenerate p ≡ true → Searched p (Err (refusal 12)) masks
+  pub marked_searched : {masks : List ℕ} {answer : Result Unit Refusal} → code_of p ≡ 0 →
+      Marked (is_candidate p) (degenerate p) empty_set answer masks → Searched p answer masks
   unfolding number_due
-  cospherical_due e d =
-      let due : number_due false p ≡ 12 = yes _ _ (eq-eqb (code_of p) 0 e) ∙ yes _ _ d in
+  marked_searched e m =
+      let due : number_due false p ≡ cond (degenerate p) 12 0 = yes _ _ (eq-eqb (code_of p) 0 e) in
       record {
-        is_due = sym (ap (λ (k : ℕ). or_refused k tt) due);
-        listed = λ z. absurd (let y = sym due ∙ z in omega (arith, y));
+        is_due = m.searched.found ∙ ap (λ (k : ℕ). or_refused k tt) (sym due);
+        listed = λ z. listed_are p (code_valid p e).most (not_true_false (degenerate p)
+            (λ t. let y = ap (λ (b : Bool). cond b 12 0) (sym t) ∙ sym due ∙ z in absurd (omega (arith, y)))) m;
       }
-
-  pub searched_none : code_of p ≡ 0 → degenerate p ≡ false → ◌≡◌ {A = Result Unit Refusal} (Ok tt) (or_refused (number_due false p) tt)
-  unfolding number_due
-  searched_none e d = sym (ap (λ (k : ℕ). or_refused k tt) (yes _ _ (eq-eqb (code_of p) 0 e) ∙ no _ _ d))
 
   pub none_due : {x : Unit} → Ok x ≡ or_refused {A = Unit} (number_due false p) tt → number_due false p ≡ 0
   none_due e = (none_answered (number_due false p) e).0

@@ -12,6 +12,7 @@ ghost use Rattle.finder.specs.Sizes.{places_in, due_places, sizes_of};
 ghost use Rattle.finder.specs.Filling.{faces_of, places_for, Searched, Room, Written, fill_or13};
 
 use codes::Refusal;
+use faces::TriangleSet;
 use polygon::Polygon;
 
 // How many candidates and rows the lists have.
@@ -30,26 +31,23 @@ pub struct Places {
 }
 
 // The number due on the polygon, then 12. Where none is due, the candidates are in the set.
-fn search(p: Polygon, masks: &mut [u64; faces::PAIRS]) -> Result<(), Refusal>
-    requires { masks.old ≡ empty_set }
-    ensures { Searched p result masks.new }
+fn search(p: Polygon, set: &mut TriangleSet) -> Result<(), Refusal>
+    requires { set.old ≡ empty_set }
+    ensures { Searched p result set.new }
 {
     let code = polygon::polygon_code(p);
     if code != 0 {
         return Err(Refusal::new(code));
     }
-    if delaunay::mark_candidates(p, masks) {
-        return Err(Refusal::COSPHERICAL);
-    }
-    Ok(())
+    delaunay::mark_candidates(p, set)
 }
 
-fn count_places(n: usize, masks: &[u64; faces::PAIRS]) -> Places
+fn count_places(n: usize, set: &TriangleSet) -> Places
     requires { (min_vertices ≤ n) × (n ≤ max_vertices) }
-    ensures { result ≡ places_for n (triples_of n (has masks.now)) }
+    ensures { result ≡ places_for n (triples_of n (has set.now)) }
 {
-    let candidates = faces::count(masks, n);
-    let pairs = hinges::count_rows(masks, n);
+    let candidates = set.count(n);
+    let pairs = hinges::count_rows(set, n);
     Places {
         triangles: n - 2,
         candidates,
@@ -62,25 +60,25 @@ pub fn table_sizes(p: Polygon) -> Result<Places, Refusal>
     ensures sizes { result ≡ sizes_of p }
     ensures values { (number_of result ≡ number_due false p) × (places_in result ≡ due_places (number_due false p) p) }
 {
-    let mut masks = [0u64; faces::PAIRS];
-    search(p, &mut masks)?;
-    Ok(count_places(p.n, &masks))
+    let mut set = TriangleSet::new();
+    search(p, &mut set)?;
+    Ok(count_places(p.n, &set))
 }
 
 // Writes the lists of the set's triangles. The weight table holds the lengths of the normals until the rows are made.
 fn write_lists(
     p: Polygon,
-    masks: &[u64; faces::PAIRS],
+    set: &TriangleSet,
     candidates: &mut [[u8; 3]],
     weights: &mut [u32],
     rows: &mut [[u32; 3]],
 )
-    requires { (ProperCandidates p (faces_of p masks.now)) × Room p (faces_of p masks.now) candidates.old weights.old rows.old }
-    ensures { Written p (faces_of p masks.now) candidates.old weights.old rows.old
+    requires { (ProperCandidates p (faces_of p set.now)) × Room p (faces_of p set.now) candidates.old weights.old rows.old }
+    ensures { Written p (faces_of p set.now) candidates.old weights.old rows.old
         candidates.new weights.new rows.new }
 {
     let n = p.n;
-    let count = faces::list(masks, n, candidates);
+    let count = set.list(n, candidates);
     let found = &candidates[..count];
     let starts = blocks::block_starts(found);
     dihedrals::write_lengths(p, found, weights);
@@ -91,18 +89,18 @@ fn write_lists(
 // 13, or the lists of the set's triangles. They are counted first: all tables are tested before one is written.
 fn fill(
     p: Polygon,
-    masks: &[u64; faces::PAIRS],
+    set: &TriangleSet,
     triangle_places: usize,
     work_places: usize,
     candidates: &mut [[u8; 3]],
     weights: &mut [u32],
     rows: &mut [[u32; 3]],
 ) -> Result<Counts, Refusal>
-    requires { ProperCandidates p (faces_of p masks.now) }
+    requires { ProperCandidates p (faces_of p set.now) }
     ensures { finding result candidates.new weights.new rows.new
-        ≡ fill_or13 p (faces_of p masks.now) triangle_places work_places candidates.old weights.old rows.old }
+        ≡ fill_or13 p (faces_of p set.now) triangle_places work_places candidates.old weights.old rows.old }
 {
-    let needed = count_places(p.n, masks);
+    let needed = count_places(p.n, set);
     let count = needed.candidates;
     if triangle_places < needed.triangles
         || work_places < count
@@ -112,7 +110,7 @@ fn fill(
     {
         return Err(Refusal::TABLE_TOO_SHORT);
     }
-    write_lists(p, masks, candidates, weights, rows);
+    write_lists(p, set, candidates, weights, rows);
     Ok(Counts {
         candidates: count,
         rows: needed.rows,
@@ -134,11 +132,11 @@ pub fn find_beside(
     ensures values { values_of result
         ≡ due_values (beside_number p triangle_places work_places candidates.old weights.old rows.old) p }
 {
-    let mut masks = [0u64; faces::PAIRS];
-    search(p, &mut masks)?;
+    let mut set = TriangleSet::new();
+    search(p, &mut set)?;
     fill(
         p,
-        &masks,
+        &set,
         triangle_places,
         work_places,
         candidates,

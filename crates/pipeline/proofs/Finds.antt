@@ -6,6 +6,7 @@ use Prim.Native.Nat.{ℕ, zero, suc, ◌-◌, ◌≤◌}
 use borrow.Author.Tests.{ltb-false}
 use lib.Dec.{ltb}
 use lib.ListN.{length}
+use Rattle.std.proofs.Common.{None, Ok, Err}
 use Rattle.codes.specs.declared.Refusal.{Refusal}
 use Rattle.codes.specs.Refusals.{refusal}
 use Rattle.lists.specs.Lists.{either, filled}
@@ -13,10 +14,8 @@ use Rattle.lists.proofs.Choice.{true_not_false, either_left, either_neither, not
 use Rattle.lists.proofs.Bools.{either_assoc}
 use Rattle.polygon.specs.declared.Polygon.{Polygon}
 use Rattle.delaunay.specs.Candidates.{candidates_of}
-use Rattle.std.specs.Prelude.{Ok, Err}
 use Rattle.finder.specs.Finding.{Found, counts, candidate_count_of, row_count_of, Finding, finding, short_tables, number_due, find_by, beside_number, find_beside_call}
-use Rattle.triangulator.specs.declared.Outcome.{Outcome}
-use Rattle.triangulator.specs.declared.Outcome.TheVariants.{None, Refused}
+use Rattle.triangulator.specs.Call.{Outcome}
 use Rattle.pipeline.specs.Patching.{Tables, tables, Patching, patching, weights_in, rows_in, tables_short, patch_by, patched, polygon_number, patch_polygon}
 
 module _ (p : Polygon) (triangles : List ℕ) (candidates : List (List ℕ)) (weights : List ℕ) (rows : List (List ℕ)) (work : List ℕ) where
@@ -34,8 +33,8 @@ module _ (p : Polygon) (triangles : List ℕ) (candidates : List (List ℕ)) (we
       (sym (either_assoc (ltb (length triangles) (p.n - 2)) (ltb (length work) (length (candidates_of p))) (short_tables p candidates weights rows)))
 
   as_outcome : Found → Outcome
-  as_outcome (Ok lists) = None
-  as_outcome (Err k) = Refused k
+  as_outcome (Ok lists) = Ok None
+  as_outcome (Err k) = Err k
 
   -- the finder's answer as that of the call
   as_patching : Finding → Patching
@@ -44,12 +43,12 @@ module _ (p : Polygon) (triangles : List ℕ) (candidates : List (List ℕ)) (we
   -- the finder refuses: so does the call
   pub find_refused : {f : Found} {k : Refusal} {c r : List (List ℕ)} {w : List ℕ} → f ≡ Err k →
       finding f c w r ≡ find_beside_call p (length triangles) (length work) candidates weights rows →
-      patching (Refused k) (tables triangles c w r work) ≡ patch_polygon p (tables triangles candidates weights rows work)
+      patching (Err k) (tables triangles c w r work) ≡ patch_polygon p (tables triangles candidates weights rows work)
   unfolding patch_polygon as_outcome as_patching
   find_refused {f} {k} {c} {r} {w} d e = by number (ap (λ (g : Found). finding g c w r) (sym d) ∙ e) ∙ ap (λ (n : ℕ). patch_by n p lent) number_same
     where
       by : (n : ℕ) → finding (Err k) c w r ≡ find_by n p candidates weights rows →
-          patching (Refused k) (tables triangles c w r work) ≡ patch_by n p lent
+          patching (Err k) (tables triangles c w r work) ≡ patch_by n p lent
       by zero e =
           let f : ◌≡◌ {A = Found} (Err k) (Ok (counts (length (candidates_of p)) (length (rows_in p)))) = ap (λ (g : Finding). g.answer) e in absurd cc
       by (suc n) e = ap as_patching e

@@ -17,8 +17,7 @@ use Rattle.finder.proofs.Answers.{clear}
 use Rattle.triangulation.specs.Triangulations.{best}
 use Rattle.triangulation.specs.Problems.{problem_from}
 use Rattle.minimum_weight.specs.Tables.{WellFormed}
-use Rattle.triangulator.specs.declared.Outcome.{Outcome}
-use Rattle.triangulator.specs.Call.{Result, result_of, settled}
+use Rattle.triangulator.specs.Call.{Outcome, Result, result_of, settled}
 use Rattle.triangulator.proofs.Accepting.{well_formed}
 use Rattle.pipeline.specs.Patching.{tables, patching, weights_in, rows_in, problem_in, tables_short, patched_by, patch_polygon}
 use Rattle.pipeline.proofs.Finds.{Lists-found, find_lists, room, patched_is}

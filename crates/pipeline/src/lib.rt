@@ -18,8 +18,7 @@ ghost use Rattle.pipeline.specs.Sizes.{sizes_number, sizes_file};
 use codes::Refusal;
 use finder::{Counts, Places};
 use polygon::Polygon;
-use reader::Status;
-use triangulator::Outcome;
+use triangulator::Patch;
 
 // The best triangulation by the lists in the first places of the tables.
 fn triangulate_first(
@@ -31,7 +30,7 @@ fn triangulate_first(
     row_count: usize,
     triangles: &mut [u16],
     work: &mut [u64],
-) -> Outcome
+) -> Result<Option<Patch>, Refusal>
     requires count_in_bounds { (count ≤ length candidates.now) × (count ≤ length weights.now) × (row_count ≤ length rows.now)
         × (count ≤ length work.old) × (n ≤ length triangles.old + 2) }
     requires well_formed { WellFormed n (take count candidates.now) (take count weights.now) (take row_count rows.now) }
@@ -57,27 +56,24 @@ pub fn patch_polygon(
     weights: &mut [u32],
     rows: &mut [[u32; 3]],
     work: &mut [u64],
-) -> Outcome
+) -> Result<Option<Patch>, Refusal>
     ensures tables { patching result (tables triangles.new candidates.new weights.new rows.new work.new)
         ≡ patch_polygon p (tables triangles.old candidates.old weights.old rows.old work.old) }
     ensures values { values_of result
         ≡ polygon_values p (tables triangles.old candidates.old weights.old rows.old work.old) }
 {
     let n = p.n;
-    let found = finder::find_beside(p, triangles.len(), work.len(), candidates, weights, rows);
-    match found {
-        Err(refusal) => Outcome::Refused(refusal),
-        Ok(lists) => triangulate_first(
-            n,
-            candidates,
-            lists.candidates,
-            weights,
-            rows,
-            lists.rows,
-            triangles,
-            work,
-        ),
-    }
+    let lists = finder::find_beside(p, triangles.len(), work.len(), candidates, weights, rows)?;
+    triangulate_first(
+        n,
+        candidates,
+        lists.candidates,
+        weights,
+        rows,
+        lists.rows,
+        triangles,
+        work,
+    )
 }
 
 // The patch of a rim file of at most so many vertices.
@@ -89,7 +85,7 @@ pub fn patch_file(
     weights: &mut [u32],
     rows: &mut [[u32; 3]],
     work: &mut [u64],
-) -> Outcome
+) -> Result<Option<Patch>, Refusal>
     ensures tables { patching result (tables triangles.new candidates.new weights.new rows.new work.new)
         ≡ patch_file limit file.now
         (tables triangles.old candidates.old weights.old rows.old work.old) }
@@ -97,13 +93,8 @@ pub fn patch_file(
         ≡ file_values limit file.now
         (tables triangles.old candidates.old weights.old rows.old work.old) }
 {
-    let reading = reader::read_polygon(limit, file);
-    let status = reading.status;
-    let p = reading.polygon;
-    match status {
-        Status::Refused(refusal) => Outcome::Refused(refusal),
-        Status::Complete => patch_polygon(p, triangles, candidates, weights, rows, work),
-    }
+    let p = reader::read_polygon(limit, file)?;
+    patch_polygon(p, triangles, candidates, weights, rows, work)
 }
 
 // The candidates, weights and rows of a rim file of at most so many vertices: the reader, then the finder.
@@ -118,13 +109,8 @@ pub fn find_file(
         ≡ find_file limit file.now candidates.old weights.old rows.old }
     ensures values { found.values_of result ≡ find_file_values limit file.now candidates.old weights.old rows.old }
 {
-    let reading = reader::read_polygon(limit, file);
-    let status = reading.status;
-    let p = reading.polygon;
-    match status {
-        Status::Refused(refusal) => Err(refusal),
-        Status::Complete => finder::find(p, candidates, weights, rows),
-    }
+    let polygon = reader::read_polygon(limit, file)?;
+    finder::find(polygon, candidates, weights, rows)
 }
 
 // The places that the lent tables need for a rim file of at most so many vertices, or the number due on it: one of the reader's, or 12.
@@ -133,11 +119,5 @@ pub fn table_sizes(limit: usize, file: &[u8]) -> Result<Places, Refusal>
     ensures values { (number_of result ≡ sizes_number limit file.now)
         × (places_in result ≡ due_places (sizes_number limit file.now) (polygon_of file.now)) }
 {
-    let reading = reader::read_polygon(limit, file);
-    let status = reading.status;
-    let p = reading.polygon;
-    match status {
-        Status::Refused(due) => Err(due),
-        Status::Complete => finder::table_sizes(p),
-    }
+    finder::table_sizes(reader::read_polygon(limit, file)?)
 }

@@ -15,7 +15,7 @@ use Rattle.finder.proofs.fill.Goals as goal
 -- the candidates and the rows were counted
 module _ (g : goal.After-count_places-needed) where
   abbrev triangles : List (List ℕ)
-  triangles = faces_of g.args.p g.args.masks.now
+  triangles = faces_of g.args.p g.args.set.now
 
   triangles_are : g.count_places-needed.result.triangles ≡ g.args.p.n - 2
   triangles_are = ap (λ (x : Places). x.triangles) g.count_places-needed.ensures
