@@ -1,12 +1,9 @@
 -- The numbers that hosts are given of each call's answer (rule 5.6). Definitions only.
 use Rattle.reader.specs.declared.Reading.{Reading}
 use Rattle.reader.specs.Reading.{status_number}
-use Rattle.finder.specs.declared.Found.{Found}
-use Rattle.finder.specs.Finding.{candidate_count_of, row_count_of}
-use Rattle.finder.specs.Finding as finder
-use Rattle.finder.specs.declared.Sizes.{Sizes}
-use Rattle.finder.specs.Sizes.{places_in}
-use Rattle.finder.specs.Sizes as sizes
+use Rattle.codes.specs.Refusals as codes
+use Rattle.finder.specs.Finding.{Found, candidate_count_of, row_count_of}
+use Rattle.finder.specs.Sizes.{Sizes, places_in}
 use Rattle.triangulator.specs.declared.Outcome.{Outcome}
 use Rattle.triangulator.specs.Call.{number_of, triangles_of, total_of}
 use Rattle.pricing.specs.declared.Quote.{Quote}
@@ -43,13 +40,13 @@ read_answer_of r = record { number = status_number r.status; vertices = r.polygo
 
 -- the finder's number and its two counts (rule 5.6)
 abbrev pub find_answer_of : Found → FindAnswer
-find_answer_of f = record { number = finder.number_of f; candidates = candidate_count_of f; rows = row_count_of f }
+find_answer_of f = record { number = codes.number_of f; candidates = candidate_count_of f; rows = row_count_of f }
 
 -- the number and the places of each table: those for candidates in three of them (rule 5.5)
 abbrev pub sizes_answer_of : Sizes → SizesAnswer
 sizes_answer_of s =
     let p = places_in s in
-    record { number = sizes.number_of s; triangles = p.triangles; candidates = p.candidates; weights = p.candidates; rows = p.rows; work = p.candidates }
+    record { number = codes.number_of s; triangles = p.triangles; candidates = p.candidates; weights = p.candidates; rows = p.rows; work = p.candidates }
 
 -- the number, the edition and the length of a conversion (rule 5.2)
 abbrev pub convert_answer_of : Conversion → ConvertAnswer

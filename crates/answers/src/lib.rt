@@ -5,8 +5,9 @@
 ghost use Rattle.std.specs.Prelude.{◌≡◌};
 ghost use Rattle.answers.specs.Answers.{patch_answer_of, price_answer_of, judge_answer_of, read_answer_of, find_answer_of, sizes_answer_of, convert_answer_of};
 
+use codes::Refusal;
 use converter::Conversion;
-use finder::{Found, Sizes};
+use finder::{Counts, Places};
 use judge::Judgement;
 use pricing::Quote;
 use reader::Reading;
@@ -118,24 +119,28 @@ pub fn read_answer(reading: Reading) -> ReadAnswer
     ReadAnswer { number, vertices }
 }
 
-pub fn find_answer(found: Found) -> FindAnswer
+pub fn find_answer(found: Result<Counts, Refusal>) -> FindAnswer
     ensures { result ≡ find_answer_of found }
 {
-    let number = found.number();
-    let candidates = found.candidate_count();
-    let rows = found.row_count();
-    FindAnswer {
-        number,
-        candidates,
-        rows,
+    match found {
+        Ok(lists) => FindAnswer {
+            number: 0,
+            candidates: lists.candidates,
+            rows: lists.rows,
+        },
+        Err(refusal) => FindAnswer {
+            number: refusal.number,
+            candidates: 0,
+            rows: 0,
+        },
     }
 }
 
-pub fn sizes_answer(sizes: Sizes) -> SizesAnswer
+pub fn sizes_answer(sizes: Result<Places, Refusal>) -> SizesAnswer
     ensures { result ≡ sizes_answer_of sizes }
 {
     match sizes {
-        Sizes::Known(places) => {
+        Ok(places) => {
             let candidates = places.candidates;
             SizesAnswer {
                 number: 0,
@@ -146,7 +151,7 @@ pub fn sizes_answer(sizes: Sizes) -> SizesAnswer
                 work: candidates,
             }
         }
-        Sizes::Refused(refusal) => SizesAnswer {
+        Err(refusal) => SizesAnswer {
             number: refusal.number,
             triangles: 0,
             candidates: 0,

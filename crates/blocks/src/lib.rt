@@ -1,28 +1,20 @@
 // Where the candidates of each first vertex stand: they ascend by it.
 #![tactic(auto)]
 
-ghost use Rattle.std.specs.Prelude.{◌≡◌, length, ltb};
-ghost use Rattle.lists.specs.Lists.{both};
-ghost use Rattle.terms.specs.Entries.{entry_at, vertex_a};
-ghost use Rattle.blocks.specs.Blocks.{ByFirst, starts_of};
+ghost use Rattle.std.specs.Prelude.{◌≡◌};
+ghost use Rattle.blocks.specs.Blocks.{ByFirst, start_of, starts_of};
+
+use std::array;
 
 // A start for each vertex, and the end of the last block.
 pub const STARTS: usize = terms::MAX_VERTICES + 1;
 
-fn first_vertex(t: [u8; 3]) -> usize
-    ensures { result ≡ vertex_a t }
+// How many candidates have a first vertex below k.
+fn block_start(candidates: &[[u8; 3]], k: usize) -> usize
+    requires { ByFirst candidates.now }
+    ensures { result ≡ start_of candidates.now k }
 {
-    t[0] as usize
-}
-
-// Candidate i is there, and its first vertex is below k.
-fn starts_below(candidates: &[[u8; 3]], i: usize, k: usize) -> bool
-    ensures { result ≡ both (ltb i (length candidates.now)) (ltb (vertex_a (entry_at candidates.now i)) k) }
-{
-    if candidates.len() <= i {
-        return false;
-    }
-    first_vertex(candidates[i]) < k
+    candidates.partition_point(|t| usize::from(t[0]) < k)
 }
 
 // Place k has the number of candidates whose first vertex is below k: the block of k starts there, and ends where the next one starts.
@@ -30,16 +22,5 @@ pub fn block_starts(candidates: &[[u8; 3]]) -> [usize; STARTS]
     requires { ByFirst candidates.now }
     ensures { result ≡ starts_of candidates.now }
 {
-    let mut starts = [0usize; STARTS];
-    let mut k = 0;
-    let mut i = 0;
-    while k < STARTS {
-        if starts_below(candidates, i, k) {
-            i += 1;
-        } else {
-            starts[k] = i;
-            k += 1;
-        }
-    }
-    starts
+    array::from_fn(|k| block_start(candidates, k))
 }

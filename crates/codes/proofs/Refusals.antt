@@ -30,3 +30,8 @@ module _ {A : Type 0} where
   pub refused_answered : (k : ℕ) {r : Refusal} (a : A) → Err r ≡ or_refused k a → (0 < k) × (r ≡ refusal k)
   refused_answered zero a e = absurd cc
   refused_answered (suc k) a e = (omega arith, cc)
+
+-- a refusal that is handed on in place of an answer of another type
+pub handed_on : {A B : Type 0} (k : ℕ) {r : Refusal} (a : A) (b : B) → Err r ≡ or_refused k a → Err r ≡ or_refused k b
+handed_on zero a b e = absurd cc
+handed_on (suc k) a b e = cc

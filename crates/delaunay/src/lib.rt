@@ -1,13 +1,14 @@
 // The candidates of a polygon: the faces of its Delaunay tetrahedra or, where it is flat, its Delaunay triangles.
 #![tactic(auto)]
 
-ghost use Rattle.std.specs.Prelude.{◌≡◌, length};
-ghost use Rattle.faces.specs.Masks.{pair_count};
+ghost use Rattle.std.specs.Prelude.{◌≡◌};
 ghost use Rattle.polygon.specs.Polygon.{ValidPolygon};
 ghost use Rattle.delaunay_search.specs.Search.{Marked};
 ghost use Rattle.delaunay.specs.Candidates.{is_flat, is_candidate, degenerate};
 
+use codes::Refusal;
 use delaunay_search::lift_vertices;
+use faces::TriangleSet;
 use geometry::sphere;
 use polygon::Polygon;
 
@@ -20,8 +21,8 @@ fn is_flat(p: Polygon) -> bool
     let lifted = lift_vertices(p, 0);
     for c in 2..n {
         let pencil = sphere::pencil_through(lifted[1], lifted[c]);
-        for d in c + 1..n {
-            let ball = sphere::circumsphere(pencil, lifted[d]);
+        for seen in &lifted[c + 1..n] {
+            let ball = sphere::circumsphere(pencil, *seen);
             if ball.orient != 0 {
                 return false;
             }
@@ -30,13 +31,14 @@ fn is_flat(p: Polygon) -> bool
     true
 }
 
-// Puts the candidates into the set; true where 12 is due, and the set is left empty then.
-pub fn mark_candidates(p: Polygon, masks: &mut [u64; faces::PAIRS]) -> bool
-    requires { (ValidPolygon p) × (length masks.old ≡ pair_count) }
-    ensures { Marked (is_candidate p) (degenerate p) masks.old result masks.new }
+// Puts the candidates into the set. Where 12 is due, the set is left empty.
+pub fn mark_candidates(p: Polygon, set: &mut TriangleSet) -> Result<(), Refusal>
+    requires { ValidPolygon p }
+    ensures { Marked (is_candidate p) (degenerate p) set.old result set.new }
 {
     if is_flat(p) {
-        return delaunay_triangles::mark_triangles(p, masks);
+        delaunay_triangles::mark_triangles(p, set)
+    } else {
+        delaunay_tetrahedra::mark_tetrahedra(p, set)
     }
-    delaunay_tetrahedra::mark_tetrahedra(p, masks)
 }

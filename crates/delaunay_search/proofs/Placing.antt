@@ -1,18 +1,13 @@
 -- What the position of a vertex tells: whether it is strictly inside, and whether it is on the border. Assumes nothing.
 use mathlib.Core.Path.{◌≡◌, refl, sym, ◌∙◌, ap}
-use mathlib.Core.List.{[], ◌∷◌}
-use mathlib.Core.Logic.{⊎_elim}
 use mathlib.Core.Bool.{Bool, true, false, not, cond}
-use native.Mathlib.Omega.{arith}
-use denote.Enum.Declared.{tag_of}
-use types.Run.{OneOf}
+use denote.Enum.Bare.{sameb}
 use Rattle.geometry.specs.declared.sphere.Position.{Position}
 use Rattle.geometry.specs.declared.sphere.Position.TheVariants.{Inside, On, Outside}
 use Rattle.geometry.specs.Facets.{is_inside}
 use Rattle.geometry.specs.contracts.sphere.Position.{the_type}
 use Rattle.lists.specs.Lists.{both}
-use Rattle.lists.proofs.Choice.{not_true_false}
-use Rattle.lists.proofs.Bools.{both_no, both_yes}
+use Rattle.lists.proofs.Choice.{true_not_false, not_true_false}
 use Rattle.delaunay_search.specs.Search.{is_on}
 
 pub record Placed (place : Position) (inside on : Bool) : Type 0 where
@@ -41,22 +36,11 @@ pub other_is : (corner : Bool) {place : Position} {i o found : Bool} → Placed 
     both (not corner) o ≡ found
 other_is corner {i = i} p clear g = sym (g ∙ ap (λ (t : Bool). both (not corner) t) (p.when_on (not_true_false i clear)))
 
--- a vertex that is a corner or not, by the test of its position
-module _ (corner : Bool) (place : Position) where
-  pub on_border : is_on place ≡ true → not corner ≡ both (not corner) (is_on place)
-  on_border e = sym (both_yes (not corner) e)
+-- what `==` says of a position
+pub is_inside_lem : (place : Position) → sameb the_type place Inside ≡ true → place ≡ Inside
+is_inside_lem Inside e = refl
+is_inside_lem On e = absurd (true_not_false e refl)
+is_inside_lem Outside e = absurd (true_not_false e refl)
 
-  pub off_border : is_on place ≡ false → false ≡ both (not corner) (is_on place)
-  off_border e = sym (both_no (not corner) e)
-
--- what the tag of a position says
-pub not_on : (place : Position) → OneOf (0 ∷ 2 ∷ []) (tag_of the_type place) → is_on place ≡ false
-not_on Inside t = refl
-not_on On t = absurd (⊎_elim (λ (z : 1 ≡ 0). omega arith) (λ (z : 1 ≡ 2). omega arith) t)
-not_on Outside t = refl
-
--- the same of a position that is not `On`
-pub not_on_is : (place : Position) → (place ≡ On → ⊥) → is_on place ≡ false
-not_on_is Inside h = refl
-not_on_is On h = absurd (h refl)
-not_on_is Outside h = refl
+pub not_inside_lem : (place : Position) → sameb the_type place Inside ≡ false → place ≡ Inside → ⊥
+not_inside_lem place e h = true_not_false (ap (λ (q : Position). sameb the_type q Inside) h) e

@@ -1,5 +1,5 @@
 -- The scans of the vertices for four corners or three, by what is left to scan. Assumes nothing.
-use mathlib.Core.Path.{◌≡◌, refl, sym, ◌∙◌, ap, subst}
+use mathlib.Core.Path.{◌≡◌, sym, ◌∙◌, ap, subst}
 use mathlib.Core.Bool.{Bool, true, false, not}
 use Prim.Native.Nat.{ℕ, zero, suc, ◌+◌, ◌-◌, ◌≤◌, ◌<◌}
 use native.Mathlib.Omega.{arith}
@@ -8,11 +8,6 @@ use Rattle.lists.proofs.Choice.{true_not_false, not_true_false}
 use Rattle.lists.proofs.Ranges.{every_on, every_end, every_at, some_on, some_end}
 use Rattle.lists.proofs.Bools.{both_no}
 use Rattle.delaunay_search.specs.Search.{scanned_at}
-
--- a turn after the first
-pub scanned_later : (last i : ℕ) → (i ≡ 0 → ⊥) → i - 1 ≡ scanned_at last i
-scanned_later last zero h = absurd (h refl)
-scanned_later last (suc i) h = omega arith
 
 -- a turn looks at a vertex
 pub scanned_in : (n last i v : ℕ) → last < n → i < n + 1 → v ≡ scanned_at last i → v < n

@@ -20,8 +20,8 @@ pub fn lift_vertices(p: Polygon, a: usize) -> [Lifted; terms::MAX_VERTICES]
     let base = p.vertices[a];
     let own = sphere::lift(base, base);
     let mut lifted = [own; terms::MAX_VERTICES];
-    for v in 0..n {
-        lifted[v] = sphere::lift(base, p.vertices[v]);
+    for (v, vertex) in p.vertices[..n].iter().enumerate() {
+        lifted[v] = sphere::lift(base, *vertex);
     }
     lifted
 }
@@ -29,31 +29,19 @@ pub fn lift_vertices(p: Polygon, a: usize) -> [Lifted; terms::MAX_VERTICES]
 fn is_corner(a: usize, b: usize, c: usize, v: usize) -> bool
     ensures { result ≡ is_one_of a b c v }
 {
-    if v == a {
-        return true;
-    }
-    if v == b {
-        return true;
-    }
-    v == c
+    v == a || v == b || v == c
 }
 
 // Is vertex v, which lies at this place, on the sphere or the circle, and none of three corners?
 pub fn is_fourth(place: Position, a: usize, b: usize, c: usize, v: usize) -> bool
     ensures { result ≡ both (not (is_one_of a b c v)) (is_on place) }
 {
-    if let Position::On = place {
-        return !is_corner(a, b, c, v);
-    }
-    false
+    place == Position::On && !is_corner(a, b, c, v)
 }
 
 // The vertex to look at in turn i of a scan: the one that dropped the last four or three, then all in their order.
 pub fn scanned(last: usize, i: usize) -> usize
     ensures { result ≡ scanned_at last i }
 {
-    if i == 0 {
-        return last;
-    }
-    i - 1
+    if i == 0 { last } else { i - 1 }
 }

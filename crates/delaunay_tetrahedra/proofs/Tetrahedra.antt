@@ -5,7 +5,7 @@ use mathlib.Core.List.{List}
 use Prim.Native.Nat.{ℕ, ◌+◌, ◌-◌, ◌≤◌, ◌<◌}
 use native.Mathlib.Omega.{arith}
 use lib.Dec.{eqb}
-use lib.ListN.{length, get_or}
+use lib.ListN.{get_or}
 use Rattle.polygon.specs.declared.Polygon.{Polygon}
 use Rattle.geometry.specs.declared.sphere.Lifted.{Lifted}
 use Rattle.geometry.specs.declared.sphere.Pencil.{Pencil}
@@ -15,17 +15,17 @@ use Rattle.geometry.specs.declared.sphere.Position.TheVariants.{Inside}
 use Rattle.geometry.specs.Spheres.{coplanar}
 use Rattle.geometry.specs.Lifting.{sphere_of, position_by}
 use Rattle.geometry.specs.Facets.{separates_by}
+use Rattle.std.proofs.Common.{Ok}
 use Rattle.lists.specs.Lists.{both, either, some}
 use Rattle.lists.proofs.Choice.{true_not_false}
 use Rattle.lists.proofs.Bools.{both_no, both_yes}
 use Rattle.lists.proofs.Ranges.{some_here}
 use Rattle.faces.specs.Faces.{is_face, is_one_of}
-use Rattle.faces.specs.Masks.{pair_count, has, with_faces}
+use Rattle.faces.specs.Masks.{has, empty_set, Joined}
 use Rattle.faces.proofs.Fours.{left1, left3, left4, next4, leave4, out1}
-use Rattle.faces.proofs.Sets.{faces_in, faces_long}
 use Rattle.polygon.specs.Polygon.{vertex}
 use Rattle.delaunay_tetrahedra.specs.Tetrahedra.{inside_four, counts, is_face_of_four, is_fifth, cospherical}
-use Rattle.delaunay_search.specs.Search.{Put, is_on, unlifted, scanned_at}
+use Rattle.delaunay_search.specs.Search.{Marked, twelve_if, is_on, unlifted, scanned_at}
 use Rattle.delaunay_search.proofs.Marking as marking
 use Rattle.delaunay_search.proofs.Marking.{put_all}
 use Rattle.delaunay_search.proofs.Placing.{other_is}
@@ -122,26 +122,24 @@ module _ {p : Polygon} {a b c d : ℕ} {lifted : List Lifted} {pencil : Pencil} 
           (λ i. both (full i) (some_here 0 p.n (is_fifth p a b c d) v (omega arith) v<n (found_is ∙ h) i))
 
     -- all vertices are passed
-    pub four_marked : (v : ℕ) → p.n ≤ v → Passed p.n (is_fifth p a b c d) v → length marks ≡ pair_count →
-        Kept p marks₀ (with_faces marks a b c d) left₀ (λ P. left4 p.n P a b c (d + 1))
-    four_marked v h s long =
-        let t = f.three in
-        let m = t.valid.most in
-        marking.kept_mark (λ P. left4 p.n P a b c (d + 1)) (λ (P : Test). P a b c d) (λ P. next4 p.n P a b c d f.d<n)
-        f.kept (with_faces marks a b c d) (faces_long marks a b c d)
-        (λ x y z hx hy hz.
-        faces_in marks long (omega (arith, m, t.a<n)) (omega (arith, m, t.b<n)) (omega (arith, m, t.c<n))
-        (omega (arith, m, f.d<n)) (record { first = hx; second = hy; third = hz })
-        ∙ ap (λ (t : Bool). either t (has marks x y z)) (sym (both_yes (is_face a b c d x y z) full)))
+    pub four_marked : {marks' : List ℕ} (v : ℕ) → p.n ≤ v → Passed p.n (is_fifth p a b c d) v → Joined marks (is_face a b c d) marks' →
+        Kept p marks₀ marks' left₀ (λ P. left4 p.n P a b c (d + 1))
+    four_marked v h s j =
+        marking.kept_mark (λ P. left4 p.n P a b c (d + 1)) (λ (P : Test). P a b c d) (λ P. next4 p.n P a b c d f.d<n) f.kept
+        (record {
+          at = λ x y z hx hy hz. j.at x y z hx hy hz
+              ∙ ap (λ (t : Bool). either (has marks x y z) t) (sym (both_yes (is_face a b c d x y z) full));
+        })
         (both_no (counts p a b c d) (pass_end p.n (is_fifth p a b c d) v h s))
 
--- 12 is due
-pub twelve_due : (p : Polygon) {marks₀ marks : List ℕ} → left1 p.n (has_fifth p) 0 ≡ true → Put (is_face_of_four p) (cospherical p) marks₀ true marks
+-- 12 is due, and the set was emptied
+pub twelve_due : (p : Polygon) {marks₀ marks : List ℕ} → left1 p.n (has_fifth p) 0 ≡ true → marks ≡ empty_set →
+    Marked (is_face_of_four p) (cospherical p) marks₀ (twelve_if true) marks
 unfolding cospherical
-twelve_due p e = marking.put_due e
+twelve_due p e f = marking.marked_none e f
 
 -- all fours are done
 pub all_marked : (p : Polygon) {marks₀ marks : List ℕ} (a : ℕ) → p.n ≤ a + 3 → Kept p marks₀ marks (λ P. left1 p.n P 0) (λ P. left1 p.n P a) →
-    Put (is_face_of_four p) (cospherical p) marks₀ false marks
+    Marked (is_face_of_four p) (cospherical p) marks₀ (Ok tt) marks
 unfolding cospherical is_face_of_four
 all_marked p a h k = put_all (λ P. out1 p.n P a h) k

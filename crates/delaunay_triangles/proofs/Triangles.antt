@@ -5,7 +5,7 @@ use mathlib.Core.List.{List}
 use Prim.Native.Nat.{ℕ, ◌+◌, ◌-◌, ◌≤◌, ◌<◌}
 use native.Mathlib.Omega.{arith}
 use lib.IntN.{pos}
-use lib.ListN.{length, get_or, length-set}
+use lib.ListN.{get_or}
 use Rattle.polygon.specs.declared.Polygon.{Polygon}
 use Rattle.polygon.specs.Polygon.{ValidPolygon, vertex}
 use Rattle.geometry.specs.declared.sphere.Lifted.{Lifted}
@@ -20,16 +20,16 @@ use Rattle.planar.specs.Planes.{InOnePlane}
 use Rattle.planar.specs.Seen.{position_in_plane, circle_of}
 use Rattle.planar.proofs.Seen.{computed_circle, circle_bounds, circle_position_is, collinear_is}
 use Rattle.planar.proofs.Planes.{plane_any}
+use Rattle.std.proofs.Common.{Ok}
 use Rattle.lists.specs.Lists.{both, either, some}
 use Rattle.lists.proofs.Choice.{true_not_false}
 use Rattle.lists.proofs.Bools.{both_no, both_yes}
 use Rattle.lists.proofs.Ranges.{some_here}
 use Rattle.faces.specs.Faces.{same_triple, is_one_of}
-use Rattle.faces.specs.Masks.{pair_count, has, with_triple}
+use Rattle.faces.specs.Masks.{has, empty_set, Joined}
 use Rattle.faces.proofs.Threes.{left1, left3, next3, out1}
-use Rattle.faces.proofs.Sets.{put_in}
 use Rattle.delaunay_triangles.specs.Triangles.{inside_three, on_three, counts_in_plane, is_counted_three, is_fourth, cocircular}
-use Rattle.delaunay_search.specs.Search.{Lifts, Put, is_on, unlifted, scanned_at}
+use Rattle.delaunay_search.specs.Search.{Lifts, Marked, twelve_if, is_on, unlifted, scanned_at}
 use Rattle.delaunay_search.proofs.Marking as marking
 use Rattle.delaunay_search.proofs.Marking.{put_all}
 use Rattle.delaunay_search.proofs.Placing.{Placed, placed, other_is}
@@ -144,24 +144,24 @@ module _ {p : Polygon} {a b c : ℕ} {lifted : List Lifted} {circle : Sphere} {m
             (λ i. both (full i) (some_here 0 p.n (is_fourth p a b c) v (omega arith) v<n (found_is ∙ h) i))
 
       -- all vertices are passed
-      pub three_marked : (v : ℕ) → p.n ≤ v → Passed p.n (is_fourth p a b c) v → length marks ≡ pair_count →
-          Kept p marks₀ (with_triple marks a b c) left₀ (λ P. left3 p.n P a b (c + 1))
-      three_marked v h s long =
-          let m = t.valid.most in
-          marking.kept_mark (λ P. left3 p.n P a b (c + 1)) (λ (P : Test). P a b c) (λ P. next3 p.n P a b c t.c<n)
-          t.kept (with_triple marks a b c) (length-set marks _ _)
-          (λ x y z hx hy hz.
-          put_in marks c long (omega (arith, m, t.a<n)) (omega (arith, m, t.b<n)) (record { first = hx; second = hy; third = hz })
-          ∙ ap (λ (t : Bool). either t (has marks x y z)) (sym (both_yes (same_triple a b c x y z) full)))
+      pub three_marked : {marks' : List ℕ} (v : ℕ) → p.n ≤ v → Passed p.n (is_fourth p a b c) v → Joined marks (same_triple a b c) marks' →
+          Kept p marks₀ marks' left₀ (λ P. left3 p.n P a b (c + 1))
+      three_marked v h s j =
+          marking.kept_mark (λ P. left3 p.n P a b (c + 1)) (λ (P : Test). P a b c) (λ P. next3 p.n P a b c t.c<n) t.kept
+          (record {
+            at = λ x y z hx hy hz. j.at x y z hx hy hz
+                ∙ ap (λ (t : Bool). either (has marks x y z) t) (sym (both_yes (same_triple a b c x y z) full));
+          })
           (both_no (counts_in_plane p a b c) (pass_end p.n (is_fourth p a b c) v h s))
 
--- 12 is due
-pub twelve_due : (p : Polygon) {marks₀ marks : List ℕ} → left1 p.n (has_fourth p) 0 ≡ true → Put (is_counted_three p) (cocircular p) marks₀ true marks
+-- 12 is due, and the set was emptied
+pub twelve_due : (p : Polygon) {marks₀ marks : List ℕ} → left1 p.n (has_fourth p) 0 ≡ true → marks ≡ empty_set →
+    Marked (is_counted_three p) (cocircular p) marks₀ (twelve_if true) marks
 unfolding cocircular
-twelve_due p e = marking.put_due e
+twelve_due p e f = marking.marked_none e f
 
 -- all threes are done
 pub all_marked : (p : Polygon) {marks₀ marks : List ℕ} (a : ℕ) → p.n ≤ a + 2 → Kept p marks₀ marks (λ P. left1 p.n P 0) (λ P. left1 p.n P a) →
-    Put (is_counted_three p) (cocircular p) marks₀ false marks
+    Marked (is_counted_three p) (cocircular p) marks₀ (Ok tt) marks
 unfolding cocircular is_counted_three
 all_marked p a h k = put_all (λ P. out1 p.n P a h) k

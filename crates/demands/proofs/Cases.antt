@@ -19,8 +19,8 @@ use Rattle.terms.specs.Entries.{triple, hangs}
 use Rattle.faces.specs.Faces.{is_face}
 use Rattle.delaunay_tetrahedra.specs.Tetrahedra.{counts, is_face_of_four, cospherical}
 use Rattle.delaunay.specs.Candidates.{is_flat, is_candidate, degenerate}
-use Rattle.finder.specs.declared.Found.TheVariants.{Lists, Refused}
-use Rattle.finder.specs.Finding.{Finding, candidate_count_of, row_count_of, finding, number_due, find_call}
+use Rattle.std.specs.Prelude.{Ok, Err}
+use Rattle.finder.specs.Finding.{counts as found_counts, Finding, candidate_count_of, row_count_of, finding, number_due, find_call}
 use Rattle.triangulator.specs.declared.Outcome.{Outcome}
 use Rattle.triangulator.specs.declared.Outcome.TheVariants.{Patch}
 use Rattle.triangulator.specs.Call.{total_of}
@@ -49,13 +49,13 @@ found = triple 0 1 2 ∷ triple 0 1 3 ∷ triple 0 2 3 ∷ triple 1 2 3 ∷ trip
 -- where the bend factor is 0, every row has the weight 0 and is there
 pub rows_of_weight_0 :
     find_call (rim 0) (nines 5) (replicate 5 9) (nines 3)
-    ≡ finding (Lists 4 2) found (320 ∷ 256 ∷ 320 ∷ 373 ∷ 9 ∷ []) (triple 1 3 0 ∷ triple 2 0 0 ∷ triple 9 9 9 ∷ [])
+    ≡ finding (Ok (found_counts 4 2)) found (320 ∷ 256 ∷ 320 ∷ 373 ∷ 9 ∷ []) (triple 1 3 0 ∷ triple 2 0 0 ∷ triple 9 9 9 ∷ [])
 unfolding number_due code_of repeated_vertex vertices_code_from up_from every_from some_from is_face counts is_face_of_four is_flat is_candidate
     cospherical degenerate orient_of centre_of distance_of hangs length_of root_digits ratio_of bend_of sum_below
 rows_of_weight_0 = refl
 
 -- a row table one place short: 13, and nothing is changed
-pub short_rows : find_call (rim 1) (nines 5) (replicate 5 9) (nines 1) ≡ finding (Refused (refusal 13)) (nines 5) (replicate 5 9) (nines 1)
+pub short_rows : find_call (rim 1) (nines 5) (replicate 5 9) (nines 1) ≡ finding (Err (refusal 13)) (nines 5) (replicate 5 9) (nines 1)
 unfolding number_due code_of repeated_vertex vertices_code_from up_from every_from some_from is_face counts is_face_of_four
     is_flat is_candidate cospherical degenerate orient_of centre_of distance_of hangs
 short_rows = refl
@@ -71,18 +71,18 @@ cube_corners = record {
   normals = [];
 }
 
-pub twelve_cube : find_call cube_corners [] [] [] ≡ finding (Refused (refusal 12)) [] [] []
+pub twelve_cube : find_call cube_corners [] [] [] ≡ finding (Err (refusal 12)) [] [] []
 unfolding number_due code_of repeated_vertex vertices_code_from up_from every_from some_from is_face counts is_face_of_four
     is_flat is_candidate cospherical degenerate orient_of centre_of distance_of hangs
 twelve_cube = refl
 
 -- ---- wrong programs
 -- a finder that finds no candidate, whatever it leaves
-pub empty_list_wrong : {c r : List (List ℕ)} {w : List ℕ} → finding (Lists 0 0) c w r ≡ find_call (rim 0) (nines 5) (replicate 5 9) (nines 3) → ⊥
+pub empty_list_wrong : {c r : List (List ℕ)} {w : List ℕ} → finding (Ok (found_counts 0 0)) c w r ≡ find_call (rim 0) (nines 5) (replicate 5 9) (nines 3) → ⊥
 empty_list_wrong e = let n = ap (λ (f : Finding). candidate_count_of f.answer) (e ∙ rows_of_weight_0) in omega (arith, n)
 
 -- one that drops the rows of weight 0
-pub row_0_dropped_wrong : {c r : List (List ℕ)} {w : List ℕ} → finding (Lists 4 0) c w r ≡ find_call (rim 0) (nines 5) (replicate 5 9) (nines 3) → ⊥
+pub row_0_dropped_wrong : {c r : List (List ℕ)} {w : List ℕ} → finding (Ok (found_counts 4 0)) c w r ≡ find_call (rim 0) (nines 5) (replicate 5 9) (nines 3) → ⊥
 row_0_dropped_wrong e = let n = ap (λ (f : Finding). row_count_of f.answer) (e ∙ rows_of_weight_0) in omega (arith, n)
 
 -- the one call that does nothing, whatever it answers

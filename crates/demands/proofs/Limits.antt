@@ -17,7 +17,7 @@ use Rattle.reader.specs.declared.Status.TheVariants.{Complete}
 use Rattle.reader.proofs.Limits.{number_alike, reading_alike, number_over, read_at_most, due_5, due_20}
 use Rattle.reader.proofs.Accepted.{within_limit}
 use Rattle.finder.specs.Finding.{number_due}
-use Rattle.finder.specs.declared.Sizes.TheVariants.{Refused}
+use Rattle.std.specs.Prelude.{Err}
 use Rattle.finder.specs.Sizes.{sizes_by}
 use Rattle.pipeline.specs.Patching.{Tables, refused, patch_by, polygon_number, patch_file}
 use Rattle.pipeline.specs.Sizes.{sizes_file}
@@ -58,7 +58,7 @@ module _ {small large : ℕ} (least : min_vertices ≤ small) (below : small ≤
           let n = number_over least below most file complete more in
           ap (λ (k : ℕ). patch_by (first_due k (polygon_number (polygon_of file) lent)) (polygon_of file) lent) n
 
-      pub no_sizes : sizes_file small file ≡ Refused (refusal 20)
+      pub no_sizes : sizes_file small file ≡ Err (refusal 20)
       unfolding sizes_file
       no_sizes =
           let n = number_over least below most file complete more in

@@ -2,8 +2,7 @@
 use mathlib.Core.Path.{◌≡◌, ◌∙◌, ap}
 use mathlib.Core.List.{List}
 use Prim.Native.Nat.{ℕ}
-use Rattle.finder.specs.declared.Found.{Found}
-use Rattle.finder.specs.Finding.{Finding, finding}
+use Rattle.finder.specs.Finding.{Found, Finding, finding}
 use Rattle.triangulator.specs.declared.Outcome.{Outcome}
 use Rattle.triangulator.specs.Call.{Result, result_of}
 use Rattle.pricing.specs.declared.Quote.{Quote}

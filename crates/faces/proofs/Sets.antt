@@ -1,5 +1,5 @@
 -- What is in a set after the faces of a four were put in, and how many triples there can be. Assumes nothing.
-use mathlib.Core.Path.{◌≡◌, sym, ◌∙◌, ap}
+use mathlib.Core.Path.{◌≡◌, refl, sym, ◌∙◌, ap}
 use mathlib.Core.Bool.{Bool, true, false}
 use mathlib.Core.List.{List}
 use Prim.Native.Nat.{ℕ, zero, suc, ◌+◌, ◌-◌, ◌≤◌, ◌<◌}
@@ -7,18 +7,18 @@ use native.Mathlib.Nat.{le_trans}
 use native.Mathlib.Omega.{arith}
 use borrow.Author.Tests.{eqb-true, eqb-false, eq-eqb}
 use lib.Dec.{eqb}
-use lib.ListN.{length, get_or, replicate, length-append, length-set, get_or-replicate}
+use lib.ListN.{length, get_or, replicate, length-append, get_or-replicate}
 use lib.Seq.{get_or-set_same, get_or-set_other}
 use Rattle.lists.specs.Lists.{up_from, when, both, either}
-use Rattle.lists.proofs.Choice.{Truth, holds, fails, truth, both_left, both_right, both_true, not_true_false}
+use Rattle.lists.proofs.Choice.{Truth, holds, fails, truth, both_left, both_right, both_true, either_right, not_true_false}
 use Rattle.lists.proofs.Ranges.{up_bound, when_bound}
 use Rattle.lists.proofs.Parts.{over_same}
-use Rattle.lists.proofs.Bools.{either_assoc}
+use Rattle.lists.proofs.Bools.{either_no}
 use Rattle.faces.proofs.Masks.{bit_set, bit_none}
 use Rattle.terms.specs.Limits.{max_vertices, max_triples}
 use Rattle.terms.specs.Entries.{triple}
 use Rattle.faces.specs.Faces.{same_triple, is_face, triples_of}
-use Rattle.faces.specs.Masks.{pair_count, pair_at, with_vertex, has_vertex, has, with_triple, with_faces}
+use Rattle.faces.specs.Masks.{pair_count, pair_at, with_vertex, has_vertex, has, with_triple, Joined}
 
 -- all numbers of a triple are those of vertices
 pub record Vertices (a b c : ℕ) : Type 0 where
@@ -64,34 +64,43 @@ put_in masks {a} {b} {x} {y} {z} c l ha hb k = go (truth (eqb (pair_at x y) (pai
         (sym (not_true_false (same_triple a b c x y z) (λ s. let t = triple_same {a = a} {b = b} {c = c} {x = x} {y = y} {z = z} s in
         eqb-false (pair_at x y) (pair_at a b) e (omega (arith, t.0, t.1)))))
 
-module _ (masks : List ℕ) {a b c d x y z : ℕ} (long : length masks ≡ pair_count) (ha : a < max_vertices) (hb : b < max_vertices)
-    (hc : c < max_vertices) (hd : d < max_vertices) (k : Vertices x y z) where
-  -- the faces of a four put in
-  pub faces_in : has (with_faces masks a b c d) x y z ≡ either (is_face a b c d x y z) (has masks x y z)
-  unfolding is_face
-  faces_in =
-      let f1 = with_triple masks b c d in
-      let f2 = with_triple f1 a c d in
-      let f3 = with_triple f2 a b d in
-      let l1 : length f1 ≡ pair_count = length-set masks _ _ ∙ long in
-      let l2 : length f2 ≡ pair_count = length-set f1 _ _ ∙ l1 in
-      let l3 : length f3 ≡ pair_count = length-set f2 _ _ ∙ l2 in
-      put_in f3 c l3 ha hb k
-      ∙ ap (λ (t : Bool). either (same_triple a b c x y z) t)
-      (put_in f2 d l2 ha hb k
-      ∙ ap (λ (t : Bool). either (same_triple a b d x y z) t)
-      (put_in f1 d l1 ha hc k
-      ∙ ap (λ (t : Bool). either (same_triple a c d x y z) t) (put_in masks d long hb hc k)
-      ∙ either_assoc (same_triple a c d x y z) (same_triple b c d x y z) (has masks x y z))
-      ∙ either_assoc (same_triple a b d x y z) (either (same_triple a c d x y z) (same_triple b c d x y z)) (has masks x y z))
-      ∙ either_assoc (same_triple a b c x y z) (either (same_triple a b d x y z) (either (same_triple a c d x y z) (same_triple b c d x y z))) (has masks x y z)
+either_turn : (p q : Bool) → either p q ≡ either q p
+either_turn true q = sym (either_right q true refl)
+either_turn false q = sym (either_no q)
 
-pub faces_long : (masks : List ℕ) (a b c d : ℕ) → length (with_faces masks a b c d) ≡ length masks
-faces_long masks a b c d =
-    let f1 = with_triple masks b c d in
-    let f2 = with_triple f1 a c d in
-    let f3 = with_triple f2 a b d in
-    length-set f3 _ _ ∙ length-set f2 _ _ ∙ length-set f1 _ _ ∙ length-set masks _ _
+-- the same, as a set says it
+pub triple_joined : {before after : List ℕ} {a b : ℕ} (c : ℕ) → length before ≡ pair_count → a < max_vertices → b < max_vertices →
+    after ≡ with_triple before a b c → Joined before (same_triple a b c) after
+triple_joined {before} {after} {a} {b} c l ha hb e = record {
+  at = λ x y z hx hy hz. ap (λ (m : List ℕ). has m x y z) e
+      ∙ put_in before c l ha hb (record { first = hx; second = hy; third = hz })
+      ∙ either_turn (same_triple a b c x y z) (has before x y z);
+}
+
+-- four tests, one after the other
+faces_order : (h p q r s : Bool) → either (either (either (either h s) r) q) p ≡ either h (either p (either q (either r s)))
+faces_order true p q r s = refl
+faces_order false p q r true = sym (either_right p _ (either_right q _ (either_right r true refl)))
+faces_order false p q true false = sym (either_right p _ (either_right q _ refl))
+faces_order false p true false false = sym (either_right p _ refl)
+faces_order false p false false false = sym (either_no p)
+
+-- the faces of a four put in
+pub faces_joined : {masks m1 m2 m3 m4 : List ℕ} (a b c d : ℕ) → Joined masks (same_triple b c d) m1 → Joined m1 (same_triple a c d) m2 →
+    Joined m2 (same_triple a b d) m3 → Joined m3 (same_triple a b c) m4 → Joined masks (is_face a b c d) m4
+unfolding is_face
+faces_joined {masks} a b c d j1 j2 j3 j4 = record {
+  at = λ x y z hx hy hz.
+      let p = same_triple a b c x y z in
+      let q = same_triple a b d x y z in
+      let r = same_triple a c d x y z in
+      let s = same_triple b c d x y z in
+      j4.at x y z hx hy hz
+      ∙ ap (λ (t : Bool). either t p) (j3.at x y z hx hy hz
+      ∙ ap (λ (t : Bool). either t q) (j2.at x y z hx hy hz
+      ∙ ap (λ (t : Bool). either t r) (j1.at x y z hx hy hz)))
+      ∙ faces_order (has masks x y z) p q r s;
+}
 
 -- the set that is empty
 pub none_in : (m : ℕ) {x y z : ℕ} → pair_count ≤ m → Vertices x y z → has (replicate m 0) x y z ≡ false

@@ -1,8 +1,9 @@
 -- A set of triples as a table: for each pair (a, b) a mask, whose bit c says that (a, b, c) is in the set. What functions say to each other; nobody
 -- has to believe it.
-use Rattle.std.specs.Prelude.{Bool, List, ℕ, ◌+◌, ◌*◌, ◌/◌, ◌%◌, ◌^◌, eqb, get_or, set, replicate}
+use Rattle.std.specs.Prelude.{◌≡◌, Bool, List, ℕ, ◌+◌, ◌*◌, ◌/◌, ◌%◌, ◌^◌, ◌<◌, eqb, get_or, set, replicate}
 use Rattle.std.specs.Int.Bits.{bit_or}
 use Rattle.terms.specs.Limits.{max_vertices}
+use Rattle.lists.specs.Lists.{either}
 
 -- a mask for each pair of vertices
 abbrev pub pair_count : ℕ
@@ -35,3 +36,7 @@ with_triple masks a b c = set masks (pair_at a b) (with_vertex (get_or masks (pa
 -- the faces of (a, b, c, d) put in
 abbrev pub with_faces : List ℕ → ℕ → ℕ → ℕ → ℕ → List ℕ
 with_faces masks a b c d = with_triple (with_triple (with_triple (with_triple masks b c d) a c d) a b d) a b c
+
+-- the triples for which a test holds put in, and no other
+pub record Joined (before : List ℕ) (test : ℕ → ℕ → ℕ → Bool) (after : List ℕ) : Type 0 where
+  pub at : (x y z : ℕ) → x < max_vertices → y < max_vertices → z < max_vertices → has after x y z ≡ either (has before x y z) (test x y z)

@@ -1,14 +1,16 @@
-// A set of triangles (a, b, c): a mask of the vertices c for each pair (a, b).
+// Sets of triangles.
 #![tactic(auto)]
 
-ghost use Rattle.std.specs.Prelude.{◌≡◌, ◌<◌, ◌≤◌, length};
+ghost use Rattle.std.specs.Prelude.{◌≡◌, ◌<◌, ◌≤◌, List, ℕ, length};
 ghost use Rattle.terms.specs.Limits.{max_vertices};
 ghost use Rattle.lists.specs.Lists.{filled};
-ghost use Rattle.faces.specs.Faces.{triples_of};
-ghost use Rattle.faces.specs.Masks.{pair_at, with_vertex, has_vertex, has, empty_set, with_triple, with_faces};
+ghost use Rattle.faces.specs.Faces.{same_triple, is_face, triples_of};
+ghost use Rattle.faces.specs.Masks.{pair_at, with_vertex, has_vertex, has, empty_set, with_triple, with_faces, Joined};
+
+use std::marker::Model;
 
 // A mask for each pair of vertices.
-pub const PAIRS: usize = terms::MAX_VERTICES * terms::MAX_VERTICES;
+const PAIRS: usize = terms::MAX_VERTICES * terms::MAX_VERTICES;
 
 // No more candidates than triples of vertices.
 pub const TRIPLES: usize = terms::MAX_VERTICES
@@ -37,76 +39,99 @@ fn has_vertex(mask: u64, c: usize) -> bool
     (mask >> c) % 2 == 1
 }
 
-// Empties the set.
-pub fn clear(masks: &mut [u64; PAIRS])
-    ensures { masks.new ≡ empty_set }
-{
-    *masks = [0; PAIRS];
+// A set of triangles (a, b, c): a mask of the vertices c for each pair (a, b). In contracts it is the list of its masks.
+#[derive(Drop)]
+pub struct TriangleSet {
+    masks: [u64; PAIRS],
 }
 
-// Inserts a triangle.
-pub fn insert(masks: &mut [u64; PAIRS], a: usize, b: usize, c: usize)
-    requires { (a < max_vertices) × (b < max_vertices) × (c < max_vertices) }
-    ensures { masks.new ≡ with_triple masks.old a b c }
-{
-    let ab = pair_index(a, b);
-    masks[ab] = with_vertex(masks[ab], c);
+impl Model for TriangleSet {
+    ghost Value = { List ℕ };
+
+    ghost view = { λ s. s.masks };
 }
 
-// Inserts the four faces of a tetrahedron.
-pub fn insert_faces(masks: &mut [u64; PAIRS], a: usize, b: usize, c: usize, d: usize)
-    requires { (a < max_vertices) × (b < max_vertices) × (c < max_vertices) × (d < max_vertices) }
-    ensures { masks.new ≡ with_faces masks.old a b c d }
-{
-    insert(masks, b, c, d);
-    insert(masks, a, c, d);
-    insert(masks, a, b, d);
-    insert(masks, a, b, c);
-}
+impl TriangleSet {
+    // The empty set.
+    pub fn new() -> TriangleSet
+        ensures { result ≡ empty_set }
+    {
+        TriangleSet { masks: [0; PAIRS] }
+    }
 
-// Is (a, b, c) in the set?
-pub fn contains(masks: &[u64; PAIRS], a: usize, b: usize, c: usize) -> bool
-    requires { (a < max_vertices) × (b < max_vertices) × (c < max_vertices) }
-    ensures { result ≡ has masks.now a b c }
-{
-    let index = pair_index(a, b);
-    has_vertex(masks[index], c)
-}
+    // Empties the set.
+    pub fn clear(&mut self)
+        ensures { self.new ≡ empty_set }
+    {
+        self.masks = [0; PAIRS];
+    }
 
-// How many triangles on the first n vertices the set has.
-pub fn count(masks: &[u64; PAIRS], n: usize) -> usize
-    requires { n ≤ max_vertices }
-    ensures { result ≡ length (triples_of n (has masks.now)) }
-{
-    let mut count = 0;
-    for i in 0..n {
-        for j in i + 1..n {
-            for k in j + 1..n {
-                if contains(masks, i, j, k) {
-                    count += 1;
+    // Inserts a triangle.
+    pub fn insert(&mut self, a: usize, b: usize, c: usize)
+        requires { (a < max_vertices) × (b < max_vertices) × (c < max_vertices) }
+        ensures masks { self.new ≡ with_triple self.old a b c }
+        ensures triangles { Joined self.old (same_triple a b c) self.new }
+    {
+        let ab = pair_index(a, b);
+        self.masks[ab] = with_vertex(self.masks[ab], c);
+    }
+
+    // Inserts the four faces of a tetrahedron.
+    pub fn insert_faces(&mut self, a: usize, b: usize, c: usize, d: usize)
+        requires { (a < max_vertices) × (b < max_vertices) × (c < max_vertices) × (d < max_vertices) }
+        ensures masks { self.new ≡ with_faces self.old a b c d }
+        ensures triangles { Joined self.old (is_face a b c d) self.new }
+    {
+        self.insert(b, c, d);
+        self.insert(a, c, d);
+        self.insert(a, b, d);
+        self.insert(a, b, c);
+    }
+
+    // Is (a, b, c) in the set?
+    pub fn contains(&self, a: usize, b: usize, c: usize) -> bool
+        requires { (a < max_vertices) × (b < max_vertices) × (c < max_vertices) }
+        ensures { result ≡ has self.now a b c }
+    {
+        let index = pair_index(a, b);
+        has_vertex(self.masks[index], c)
+    }
+
+    // How many triangles on the first n vertices the set has.
+    pub fn count(&self, n: usize) -> usize
+        requires { n ≤ max_vertices }
+        ensures { result ≡ length (triples_of n (has self.now)) }
+    {
+        let mut count = 0;
+        // The loops run through the triples of numbers, not through a table: each number is asked for.
+        for i in 0..n {
+            for j in i + 1..n {
+                for k in j + 1..n {
+                    if self.contains(i, j, k) {
+                        count += 1;
+                    }
                 }
             }
         }
+        count
     }
-    count
-}
 
-// The triangles of the set on the first n vertices, in ascending order.
-pub fn list(masks: &[u64; PAIRS], n: usize, out: &mut [[u8; 3]]) -> usize
-    requires { (n ≤ max_vertices) × (length (triples_of n (has masks.now)) ≤ length out.old) }
-    ensures { (result
-        ≡ length (triples_of n (has masks.now))) × (out.new ≡ filled (triples_of n (has masks.now)) out.old) }
-{
-    let mut count = 0;
-    for a in 0..n {
-        for b in a + 1..n {
-            for c in b + 1..n {
-                if contains(masks, a, b, c) {
-                    out[count] = [a as u8, b as u8, c as u8];
-                    count += 1;
+    // Lists the triangles of the set on the first n vertices, in ascending order: how many there are.
+    pub fn list(&self, n: usize, out: &mut [[u8; 3]]) -> usize
+        requires { (n ≤ max_vertices) × (length (triples_of n (has self.now)) ≤ length out.old) }
+        ensures { (result ≡ length (triples_of n (has self.now))) × (out.new ≡ filled (triples_of n (has self.now)) out.old) }
+    {
+        let mut count = 0;
+        for a in 0..n {
+            for b in a + 1..n {
+                for c in b + 1..n {
+                    if self.contains(a, b, c) {
+                        out[count] = [a as u8, b as u8, c as u8];
+                        count += 1;
+                    }
                 }
             }
         }
+        count
     }
-    count
 }

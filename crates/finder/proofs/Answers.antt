@@ -2,43 +2,41 @@
 use mathlib.Core.Path.{◌≡◌, refl, sym, ◌∙◌, ap}
 use mathlib.Core.Bool.{Bool, true, false, cond}
 use mathlib.Core.List.{List}
-use Prim.Native.Nat.{ℕ, zero, suc, ◌-◌}
+use Prim.Native.Nat.{ℕ, zero, suc, ◌-◌, ◌≤◌}
 use native.Mathlib.Omega.{arith}
-use borrow.Author.Tests.{eq-eqb, le-ltb, eqb-true}
+use borrow.Author.Tests.{eq-eqb, ne_eqb, le-ltb, eqb-true, ltb-false}
 use lib.Dec.{eqb}
 use lib.ListN.{length}
 use Rattle.codes.specs.declared.Refusal.{Refusal}
-use Rattle.codes.specs.Refusals.{refusal}
+use Rattle.std.specs.Prelude.{Result, Ok, Err}
+use Rattle.codes.specs.Refusals.{refusal, number_of, or_refused}
+use Rattle.codes.proofs.Refusals.{number_answered, none_answered, refused_answered, handed_on}
 use Rattle.terms.specs.Limits.{max_triples}
 use Rattle.polygon.specs.declared.Polygon.{Polygon}
-use Rattle.polygon.specs.Polygon.{code_of}
+use Rattle.polygon.specs.Polygon.{code_of, ValidPolygon}
 use Rattle.polygon.proofs.Validity.{code_valid}
 use Rattle.delaunay.specs.Candidates.{candidates_of, degenerate, is_candidate}
 use Rattle.dihedrals.specs.Dihedrals.{rows_of}
 use Rattle.dihedrals.proofs.Rows.{row_count}
+use Rattle.faces.specs.Masks.{empty_set}
 use Rattle.faces.proofs.Sets.{triples_bound}
+use Rattle.delaunay_search.specs.Search.{Marked}
+use Rattle.delaunay.proofs.Marking.{listed_are}
 use Rattle.lists.specs.Lists.{either}
-use Rattle.lists.proofs.Choice.{Truth, holds, fails, truth, yes, no, true_not_false}
-use Rattle.finder.specs.declared.Found.{Found}
-use Rattle.finder.specs.declared.Found.TheVariants.{Refused}
+use Rattle.lists.proofs.Choice.{Truth, holds, fails, truth, yes, no, true_not_false, not_true_false, either_neither, not_false_true}
 use Rattle.finder.specs.declared.Places.{Places}
-use Rattle.finder.specs.declared.Sizes.TheVariants.{Known}
-use Rattle.finder.specs.declared.Sizes.TheVariants as variants
-use Rattle.finder.specs.declared.Sizes.{Sizes}
-use Rattle.finder.specs.Sizes.{places_in, due_places, sizes_by, sizes_of}
-use Rattle.finder.specs.Sizes as sizes
-use Rattle.finder.specs.Finding.{Finding, finding, values_of, due_values, short, short_tables, short_beside}
+use Rattle.finder.specs.Sizes.{Sizes, places_of, places_in, due_places, sizes_by, sizes_of}
+use Rattle.finder.specs.Finding.{Found, counts, Finding, finding, values_of, due_values, short, short_tables, short_beside}
 use Rattle.finder.specs.Finding.{number_due, find_by, find_number, beside_number, find_beside_call}
-use Rattle.finder.specs.Filling.{places_for, fill_or13}
+use Rattle.finder.specs.Filling.{places_for, Searched, Room, Written, fill_or13}
 
--- one test after the other, as one
-one_test : {A : Type 0} (a b c d e : Bool) (x y : A) →
-    cond a x (cond b x (cond c x (cond d x (cond e x y)))) ≡ cond (either (either a b) (either c (either d e))) x y
-one_test true b c d e x y = refl
-one_test false true c d e x y = refl
-one_test false false true d e x y = refl
-one_test false false false true e x y = refl
-one_test false false false false e x y = refl
+-- neither of two tests
+neither : {a b : Bool} → a ≡ false → b ≡ false → either a b ≡ false
+neither {a} {b} p q = ap (λ x. either x b) p ∙ q
+
+first_fails : (a b : Bool) → either a b ≡ false → a ≡ false
+first_fails true b e = absurd (true_not_false refl e)
+first_fails false b e = refl
 
 -- ---- the number due
 -- a number that is due, and else 13
@@ -87,26 +85,50 @@ module _ (p : Polygon) where
   pub due_13 : (too_short : Bool) → number_due false p ≡ 0 → number_due too_short p ≡ cond too_short 13 0
   due_13 too_short e = thirteen_last too_short ∙ ap (λ (k : ℕ). then13 k too_short) e
 
+  -- ---- the search
+  -- the polygon's own number
+  pub code_due : (k : ℕ) {r : Refusal} {masks : List ℕ} → r ≡ refusal k → k ≡ code_of p → (k ≡ 0 → ⊥) → Searched p (Err r) masks
+  unfolding number_due
+  code_due zero m e h = absurd (h refl)
+  code_due (suc k) m e h =
+      let due : number_due false p ≡ suc k = no _ _ (ne_eqb (code_of p) 0 (λ z. h (e ∙ z))) ∙ sym e in
+      record {
+        is_due = ap (λ (r : Refusal). Err r) m ∙ sym (ap (λ (k : ℕ). or_refused k tt) due);
+        listed = λ z. absurd (let y = sym due ∙ z in omega (arith, y));
+      }
+
+  pub marked_searched : {masks : List ℕ} {answer : Result Unit Refusal} → code_of p ≡ 0 →
+      Marked (is_candidate p) (degenerate p) empty_set answer masks → Searched p answer masks
+  unfolding number_due
+  marked_searched e m =
+      let due : number_due false p ≡ cond (degenerate p) 12 0 = yes _ _ (eq-eqb (code_of p) 0 e) in
+      record {
+        is_due = m.searched.found ∙ ap (λ (k : ℕ). or_refused k tt) (sym due);
+        listed = λ z. listed_are p (code_valid p e).most (not_true_false (degenerate p)
+            (λ t. let y = ap (λ (b : Bool). cond b 12 0) (sym t) ∙ sym due ∙ z in absurd (omega (arith, y)))) m;
+      }
+
+  pub none_due : {x : Unit} → Ok x ≡ or_refused {A = Unit} (number_due false p) tt → number_due false p ≡ 0
+  none_due e = (none_answered (number_due false p) e).0
+
+  pub due_valid : number_due false p ≡ 0 → ValidPolygon p
+  due_valid e = code_valid p (clear false e).code
+
   -- ---- the places
-  pub sizes_refused : {r : Refusal} (k : ℕ) → r ≡ refusal k → k ≡ number_due false p → (k ≡ 0 → ⊥) → variants.Refused r ≡ sizes_of p
-  sizes_refused zero m e h = absurd (h refl)
-  sizes_refused (suc k) m e h = ap (λ (r : Refusal). variants.Refused r) m ∙ ap (λ (k : ℕ). sizes_by k p) e
+  pub sizes_refused : {r : Refusal} → Err r ≡ or_refused {A = Unit} (number_due false p) tt → Err r ≡ sizes_of p
+  sizes_refused e = handed_on (number_due false p) tt (places_of p) e
 
   pub sizes_known : {places : Places} {found : List (List ℕ)} → number_due false p ≡ 0 → found ≡ candidates_of p →
-      places ≡ places_for p.n found → Known places ≡ sizes_of p
+      places ≡ places_for p.n found → Ok places ≡ sizes_of p
   sizes_known {places} {found} e f g =
-      ap (λ (x : Places). Known x) (g ∙ ap (places_for p.n) f
+      ap (λ (x : Places). Ok x) (g ∙ ap (places_for p.n) f
       ∙ ap (λ (m : ℕ). record { triangles = p.n - 2; candidates = length (candidates_of p); rows = m }) (sym (row_count p (candidates_of p))))
       ∙ ap (λ (k : ℕ). sizes_by k p) (sym e)
 
 -- the number and the places of a sizing call, by the number due
-pub sizes_values : (p : Polygon) (k : ℕ) {r : Sizes} → r ≡ sizes_by k p → (r ≡ sizes_by k p) × ((sizes.number_of r ≡ k) × (places_in r ≡ due_places k p))
-sizes_values p k e = (e, (ap sizes.number_of e ∙ number k, ap places_in e ∙ places k))
+pub sizes_values : (p : Polygon) (k : ℕ) {r : Sizes} → r ≡ sizes_by k p → (r ≡ sizes_by k p) × ((number_of r ≡ k) × (places_in r ≡ due_places k p))
+sizes_values p k e = (e, (ap number_of e ∙ number_answered k (places_of p), ap places_in e ∙ places k))
   where
-    number : (k : ℕ) → sizes.number_of (sizes_by k p) ≡ k
-    number zero = refl
-    number (suc k) = refl
-
     places : (k : ℕ) → places_in (sizes_by k p) ≡ due_places k p
     places zero = refl
     places (suc k) = refl
@@ -123,31 +145,76 @@ pub values_found : (p : Polygon) (k : ℕ) (candidates : List (List ℕ)) (weigh
 values_found p k candidates weights rows e = (e, ap (λ (f : Finding). values_of f.answer) e ∙ found_values p k candidates weights rows)
 
 module _ (p : Polygon) (trianglePlaces workPlaces : ℕ) (candidates : List (List ℕ)) (weights : List ℕ) (rows : List (List ℕ)) where
-  pub find_refused : {r : Refusal} (k : ℕ) → r ≡ refusal k → k ≡ number_due false p → (k ≡ 0 → ⊥) →
-      finding (Refused r) candidates weights rows ≡ find_beside_call p trianglePlaces workPlaces candidates weights rows
-  find_refused zero m e h = absurd (h refl)
-  find_refused (suc k) m e h =
-      ap (λ (r : Refusal). finding (Refused r) candidates weights rows) m
-      ∙ ap (λ (k : ℕ). find_by k p candidates weights rows)
-      (due_first p (suc k) (either (short_beside p trianglePlaces workPlaces) (short_tables p candidates weights rows)) e h)
+  abbrev too_short : Bool
+  too_short = either (short_beside p trianglePlaces workPlaces) (short_tables p candidates weights rows)
+
+  pub find_refused : {r : Refusal} → Err r ≡ or_refused {A = Unit} (number_due false p) tt →
+      finding (Err r) candidates weights rows ≡ find_beside_call p trianglePlaces workPlaces candidates weights rows
+  find_refused e = go (number_due false p) e ∙ ap (λ (k : ℕ). find_by k p candidates weights rows) (sym (thirteen_last p too_short))
+    where
+      go : (k : ℕ) {r : Refusal} → Err r ≡ or_refused {A = Unit} k tt →
+          finding (Err r) candidates weights rows ≡ find_by (then13 k too_short) p candidates weights rows
+      go zero e = absurd cc
+      go (suc k) e = ap (λ (r : Refusal). finding (Err r) candidates weights rows) (refused_answered (suc k) tt e).1
 
   pub filled_is : number_due false p ≡ 0 → fill_or13 p (candidates_of p) trianglePlaces workPlaces candidates weights rows
       ≡ find_beside_call p trianglePlaces workPlaces candidates weights rows
   unfolding fill_or13
-  filled_is e =
-      one_test (short trianglePlaces (p.n - 2)) (short workPlaces (length (candidates_of p))) (short (length candidates) (length (candidates_of p)))
-      (short (length weights) (length (candidates_of p))) (short (length rows) (length (rows_of p (candidates_of p))))
-      (finding (Refused (refusal 13)) candidates weights rows) _
-      ∙ by too_short
-      ∙ ap (λ (k : ℕ). find_by k p candidates weights rows) (sym (due_13 p too_short e))
+  filled_is e = by too_short ∙ ap (λ (k : ℕ). find_by k p candidates weights rows) (sym (due_13 p too_short e))
     where
-      too_short : Bool
-      too_short = either (short_beside p trianglePlaces workPlaces) (short_tables p candidates weights rows)
-
-      by : (b : Bool) → cond b (finding (Refused (refusal 13)) candidates weights rows) (find_by 0 p candidates weights rows)
+      by : (b : Bool) → cond b (finding (Err (refusal 13)) candidates weights rows) (find_by 0 p candidates weights rows)
           ≡ find_by (cond b 13 0) p candidates weights rows
       by true = refl
       by false = refl
+
+-- ---- the lists, or 13
+module _ (p : Polygon) (found : List (List ℕ)) (trianglePlaces workPlaces : ℕ) (candidates : List (List ℕ)) (weights : List ℕ) (rows : List (List ℕ)) where
+  -- every table has its places
+  pub record Enough : Type 0 where
+    pub for_triangles : p.n - 2 ≤ trianglePlaces
+    pub for_work : length found ≤ workPlaces
+    pub for_lists : Room p found candidates weights rows
+
+  abbrev tests : Bool
+  tests =
+      either
+      (either (short trianglePlaces (p.n - 2)) (short workPlaces (length found)))
+      (either (short (length candidates) (length found))
+      (either (short (length weights) (length found)) (short (length rows) (length (rows_of p found)))))
+
+  enough_passes : Enough → tests ≡ false
+  enough_passes e =
+      neither
+      (neither (le-ltb trianglePlaces (p.n - 2) e.for_triangles) (le-ltb workPlaces (length found) e.for_work))
+      (neither (le-ltb (length candidates) (length found) e.for_lists.for_candidates)
+      (neither (le-ltb (length weights) (length found) e.for_lists.for_weights) (le-ltb (length rows) (length (rows_of p found)) e.for_lists.for_rows)))
+
+  passed_enough : tests ≡ false → Enough
+  passed_enough e =
+      let beside = first_fails _ _ e in
+      let lists = either_neither _ _ e in
+      let more = either_neither _ _ lists in
+      record {
+        for_triangles = ltb-false trianglePlaces (p.n - 2) (first_fails _ _ beside);
+        for_work = ltb-false workPlaces (length found) (either_neither _ _ beside);
+        for_lists = record {
+          for_candidates = ltb-false (length candidates) (length found) (first_fails _ _ lists);
+          for_weights = ltb-false (length weights) (length found) (first_fails _ _ more);
+          for_rows = ltb-false (length rows) (length (rows_of p found)) (either_neither _ _ more);
+        };
+      }
+
+  pub fill_13 : (Enough → ⊥) → finding (Err (refusal 13)) candidates weights rows
+      ≡ fill_or13 p found trianglePlaces workPlaces candidates weights rows
+  unfolding fill_or13
+  fill_13 h = sym (yes _ _ (not_false_true tests (λ e. h (passed_enough e))))
+
+  pub fill_lists : {x y : ℕ} {c r : List (List ℕ)} {w : List ℕ} → Enough → x ≡ length found → y ≡ length (rows_of p found) →
+      Written p found candidates weights rows c w r →
+      finding (Ok (counts x y)) c w r ≡ fill_or13 p found trianglePlaces workPlaces candidates weights rows
+  unfolding fill_or13
+  fill_lists e ex ey w =
+      (λ i. finding (Ok (counts (ex i) (ey i))) (w.the_candidates i) (w.the_weights i) (w.the_rows i)) ∙ sym (no _ _ (enough_passes e))
 
 -- two tables of enough places beside the finder's change nothing
 pub beside_enough : (p : Polygon) (candidates : List (List ℕ)) (weights : List ℕ) (rows : List (List ℕ)) →

@@ -1,29 +1,32 @@
 -- What the candidate finder answers and leaves in every table. Definitions only.
-use Rattle.std.specs.Prelude.{Bool, cond, List, ℕ, zero, suc, ◌-◌, eqb, ltb, length}
-use Rattle.codes.specs.Refusals.{refusal}
+use Rattle.std.specs.Prelude.{Bool, cond, List, ℕ, zero, suc, ◌-◌, eqb, ltb, length, Result, Ok, Err}
+use Rattle.codes.specs.declared.Refusal.{Refusal}
+use Rattle.codes.specs.Refusals.{refusal, number_of}
 use Rattle.polygon.specs.declared.Polygon.{Polygon}
 use Rattle.polygon.specs.Polygon.{code_of}
 use Rattle.delaunay.specs.Candidates.{candidates_of, degenerate}
 use Rattle.dihedrals.specs.Dihedrals.{rows_of}
 use Rattle.weights.specs.Weights.{weights_of}
 use Rattle.lists.specs.Lists.{either, filled}
-use Rattle.finder.specs.declared.Found.{Found}
-use Rattle.finder.specs.declared.Found.TheVariants.{Lists, Refused}
+use Rattle.finder.specs.declared.Counts.{Counts}
 
--- the number and the two counts of each case of an answer (rule 5.2)
-abbrev pub number_of : Found → ℕ
-number_of (Lists candidates rows) = 0
-number_of (Refused r) = r.number
+-- the counts of the lists, or a refusal (rule 5.2)
+abbrev pub Found : Type 0
+Found = Result Counts Refusal
 
+abbrev pub counts : ℕ → ℕ → Counts
+counts candidates rows = record { candidates = candidates; rows = rows }
+
+-- the two counts of each case of an answer (rule 5.2)
 abbrev pub candidate_count_of : Found → ℕ
-candidate_count_of (Lists candidates rows) = candidates
-candidate_count_of (Refused r) = 0
+candidate_count_of (Ok lists) = lists.candidates
+candidate_count_of (Err r) = 0
 
 abbrev pub row_count_of : Found → ℕ
-row_count_of (Lists candidates rows) = rows
-row_count_of (Refused r) = 0
+row_count_of (Ok lists) = lists.rows
+row_count_of (Err r) = 0
 
--- the three together (rule 5.2)
+-- the number and the two counts together (rule 5.2)
 pub record Values : Type 0 where
   pub number : ℕ
   pub candidates : ℕ
@@ -72,11 +75,11 @@ number_due too_short p = cond (eqb (code_of p) 0) (cond (degenerate p) 12 (cond 
 -- no number: the lists in the first places of the tables, all further places as they were (rule 3.9); a number changes no table (rule 4.30)
 abbrev pub find_by : ℕ → Polygon → List (List ℕ) → List ℕ → List (List ℕ) → Finding
 find_by zero p candidates weights rows =
-    finding (Lists (length (candidates_of p)) (length (rows_of p (candidates_of p))))
+    finding (Ok (counts (length (candidates_of p)) (length (rows_of p (candidates_of p)))))
     (filled (candidates_of p) candidates)
     (filled (weights_of p (candidates_of p)) weights)
     (filled (rows_of p (candidates_of p)) rows)
-find_by (suc k) p candidates weights rows = finding (Refused (refusal (suc k))) candidates weights rows
+find_by (suc k) p candidates weights rows = finding (Err (refusal (suc k))) candidates weights rows
 
 -- the finder's call, by its first number due (rule 5.1)
 abbrev pub find_number : Polygon → List (List ℕ) → List ℕ → List (List ℕ) → ℕ

@@ -6,97 +6,48 @@ ghost use Rattle.terms.specs.Limits.{min_vertices, max_vertices};
 ghost use Rattle.faces.specs.Faces.{triples_of};
 ghost use Rattle.faces.specs.Masks.{has, empty_set};
 ghost use Rattle.dihedrals.specs.Lists.{ProperCandidates};
-ghost use Rattle.finder.specs.Finding.{number_of, candidate_count_of, row_count_of, values_of, due_values, finding};
-ghost use Rattle.finder.specs.Finding.{number_due, find_number, find_call, beside_number, find_beside_call};
+ghost use Rattle.codes.specs.Refusals.{number_of};
+ghost use Rattle.finder.specs.Finding.{values_of, due_values, finding, number_due, find_number, find_call, beside_number, find_beside_call};
 ghost use Rattle.finder.specs.Sizes.{places_in, due_places, sizes_of};
-ghost use Rattle.finder.specs.Sizes as sizes;
 ghost use Rattle.finder.specs.Filling.{faces_of, places_for, Searched, Room, Written, fill_or13};
 
 use codes::Refusal;
+use faces::TriangleSet;
 use polygon::Polygon;
 
-// What the finder answers.
-#[derive(Clone, Copy)]
-pub enum Found {
-    Lists { candidates: usize, rows: usize },
-    Refused(Refusal),
-}
-
-impl Found {
-    // The number of a refusal; 0 where the lists were found.
-    pub fn number(self) -> u32
-        ensures { result ≡ number_of self }
-    {
-        match self {
-            Found::Lists {
-                candidates: _,
-                rows: _,
-            } => 0,
-            Found::Refused(refusal) => refusal.number,
-        }
-    }
-
-    pub fn candidate_count(self) -> usize
-        ensures { result ≡ candidate_count_of self }
-    {
-        match self {
-            Found::Lists {
-                candidates,
-                rows: _,
-            } => candidates,
-            Found::Refused(_) => 0,
-        }
-    }
-
-    pub fn row_count(self) -> usize
-        ensures { result ≡ row_count_of self }
-    {
-        match self {
-            Found::Lists {
-                candidates: _,
-                rows,
-            } => rows,
-            Found::Refused(_) => 0,
-        }
-    }
+// How many candidates and rows the lists have.
+#[derive(Clone, Copy, Debug, PartialEq, Eq)]
+pub struct Counts {
+    pub candidates: usize,
+    pub rows: usize,
 }
 
 // How many places the lent tables need: `candidates` is for the candidate, weight and work tables.
-#[derive(Clone, Copy)]
+#[derive(Clone, Copy, Debug, PartialEq, Eq)]
 pub struct Places {
     pub triangles: usize,
     pub candidates: usize,
     pub rows: usize,
 }
 
-// The places that a polygon needs, or a refusal.
-#[derive(Clone, Copy)]
-pub enum Sizes {
-    Known(Places),
-    Refused(Refusal),
-}
-
-// The number due on the polygon, then 12, else 0: then the candidates are in the set.
-fn search(p: Polygon, masks: &mut [u64; faces::PAIRS]) -> u32
-    requires { masks.old ≡ empty_set }
-    ensures { Searched p result masks.new }
+// The number due on the polygon, then 12. Where none is due, the candidates are in the set.
+fn search(p: Polygon, set: &mut TriangleSet) -> Result<(), Refusal>
+    requires { set.old ≡ empty_set }
+    ensures { Searched p result set.new }
 {
     let code = polygon::polygon_code(p);
     if code != 0 {
-        return code;
+        return Err(Refusal::new(code));
     }
-    if delaunay::mark_candidates(p, masks) {
-        return codes::COSPHERICAL;
-    }
-    0
+    delaunay::mark_candidates(p, set)
 }
 
-fn count_places(n: usize, masks: &[u64; faces::PAIRS]) -> Places
+fn count_places(n: usize, set: &TriangleSet) -> Places
     requires { (min_vertices ≤ n) × (n ≤ max_vertices) }
-    ensures { result ≡ places_for n (triples_of n (has masks.now)) }
+    ensures { result ≡ places_for n (triples_of n (has set.now)) }
 {
-    let candidates = faces::count(masks, n);
-    let pairs = hinges::count_rows(masks, n);
+    let candidates = set.count(n);
+    let pairs = hinges::count_rows(set, n);
     Places {
         triangles: n - 2,
         candidates,
@@ -105,34 +56,29 @@ fn count_places(n: usize, masks: &[u64; faces::PAIRS]) -> Places
 }
 
 // The places that the lent tables need for this polygon, or the number due on it: 2, 5, 9, 18, 10, 11 or 12.
-pub fn table_sizes(p: Polygon) -> Sizes
+pub fn table_sizes(p: Polygon) -> Result<Places, Refusal>
     ensures sizes { result ≡ sizes_of p }
-    ensures values { (sizes.number_of result ≡ number_due false p) × (places_in result ≡ due_places (number_due false p) p) }
+    ensures values { (number_of result ≡ number_due false p) × (places_in result ≡ due_places (number_due false p) p) }
 {
-    let mut masks = [0u64; faces::PAIRS];
-    let number = search(p, &mut masks);
-    if number != 0 {
-        return Sizes::Refused(Refusal::new(number));
-    }
-    let n = p.n;
-    let places = count_places(n, &masks);
-    Sizes::Known(places)
+    let mut set = TriangleSet::new();
+    search(p, &mut set)?;
+    Ok(count_places(p.n, &set))
 }
 
 // Writes the lists of the set's triangles. The weight table holds the lengths of the normals until the rows are made.
 fn write_lists(
     p: Polygon,
-    masks: &[u64; faces::PAIRS],
+    set: &TriangleSet,
     candidates: &mut [[u8; 3]],
     weights: &mut [u32],
     rows: &mut [[u32; 3]],
 )
-    requires { (ProperCandidates p (faces_of p masks.now)) × Room p (faces_of p masks.now) candidates.old weights.old rows.old }
-    ensures { Written p (faces_of p masks.now) candidates.old weights.old rows.old
+    requires { (ProperCandidates p (faces_of p set.now)) × Room p (faces_of p set.now) candidates.old weights.old rows.old }
+    ensures { Written p (faces_of p set.now) candidates.old weights.old rows.old
         candidates.new weights.new rows.new }
 {
     let n = p.n;
-    let count = faces::list(masks, n, candidates);
+    let count = set.list(n, candidates);
     let found = &candidates[..count];
     let starts = blocks::block_starts(found);
     dihedrals::write_lengths(p, found, weights);
@@ -143,42 +89,32 @@ fn write_lists(
 // 13, or the lists of the set's triangles. They are counted first: all tables are tested before one is written.
 fn fill(
     p: Polygon,
-    masks: &[u64; faces::PAIRS],
+    set: &TriangleSet,
     triangle_places: usize,
     work_places: usize,
     candidates: &mut [[u8; 3]],
     weights: &mut [u32],
     rows: &mut [[u32; 3]],
-) -> Found
-    requires { ProperCandidates p (faces_of p masks.now) }
+) -> Result<Counts, Refusal>
+    requires { ProperCandidates p (faces_of p set.now) }
     ensures { finding result candidates.new weights.new rows.new
-        ≡ fill_or13 p (faces_of p masks.now) triangle_places work_places candidates.old weights.old rows.old }
+        ≡ fill_or13 p (faces_of p set.now) triangle_places work_places candidates.old weights.old rows.old }
 {
-    let n = p.n;
-    let needed = count_places(n, masks);
-    let triangles = needed.triangles;
+    let needed = count_places(p.n, set);
     let count = needed.candidates;
-    let row_count = needed.rows;
-    if triangle_places < triangles {
-        return Found::Refused(Refusal::new(codes::TABLE_TOO_SHORT));
+    if triangle_places < needed.triangles
+        || work_places < count
+        || candidates.len() < count
+        || weights.len() < count
+        || rows.len() < needed.rows
+    {
+        return Err(Refusal::TABLE_TOO_SHORT);
     }
-    if work_places < count {
-        return Found::Refused(Refusal::new(codes::TABLE_TOO_SHORT));
-    }
-    if candidates.len() < count {
-        return Found::Refused(Refusal::new(codes::TABLE_TOO_SHORT));
-    }
-    if weights.len() < count {
-        return Found::Refused(Refusal::new(codes::TABLE_TOO_SHORT));
-    }
-    if rows.len() < row_count {
-        return Found::Refused(Refusal::new(codes::TABLE_TOO_SHORT));
-    }
-    write_lists(p, masks, candidates, weights, rows);
-    Found::Lists {
+    write_lists(p, set, candidates, weights, rows);
+    Ok(Counts {
         candidates: count,
-        rows: row_count,
-    }
+        rows: needed.rows,
+    })
 }
 
 // The finder where a triangle table and a work table of these many places are lent to a later stage: 13 is due for them too, before any table is
@@ -190,20 +126,17 @@ pub fn find_beside(
     candidates: &mut [[u8; 3]],
     weights: &mut [u32],
     rows: &mut [[u32; 3]],
-) -> Found
+) -> Result<Counts, Refusal>
     ensures tables { finding result candidates.new weights.new rows.new
         ≡ find_beside_call p triangle_places work_places candidates.old weights.old rows.old }
     ensures values { values_of result
         ≡ due_values (beside_number p triangle_places work_places candidates.old weights.old rows.old) p }
 {
-    let mut masks = [0u64; faces::PAIRS];
-    let number = search(p, &mut masks);
-    if number != 0 {
-        return Found::Refused(Refusal::new(number));
-    }
+    let mut set = TriangleSet::new();
+    search(p, &mut set)?;
     fill(
         p,
-        &masks,
+        &set,
         triangle_places,
         work_places,
         candidates,
@@ -218,11 +151,10 @@ pub fn find(
     candidates: &mut [[u8; 3]],
     weights: &mut [u32],
     rows: &mut [[u32; 3]],
-) -> Found
+) -> Result<Counts, Refusal>
     ensures tables { finding result candidates.new weights.new rows.new
         ≡ find_call p candidates.old weights.old rows.old }
     ensures values { values_of result ≡ due_values (find_number p candidates.old weights.old rows.old) p }
 {
-    let n = p.n;
-    find_beside(p, n, faces::TRIPLES, candidates, weights, rows)
+    find_beside(p, p.n, faces::TRIPLES, candidates, weights, rows)
 }

@@ -3,6 +3,8 @@ pub mod Bools
 pub mod Ranges
 pub mod Parts
 pub mod Fronts
+pub mod Points
+pub mod Made
 pub mod Pieces
 pub mod Members
 pub mod Maps

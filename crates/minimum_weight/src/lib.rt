@@ -42,7 +42,5 @@ pub fn clear(table: &mut [u64], n: usize)
     requires { n ≤ length table.old }
     ensures { table.new ≡ filled (replicate n 0) table.old }
 {
-    for i in 0..n {
-        table[i] = 0;
-    }
+    table[..n].fill(0);
 }

@@ -5,16 +5,10 @@ use Rattle.delaunay.proofs.Marking.{marked_flat, marked_solid}
 use Rattle.delaunay.proofs.mark_candidates.Goals as goal
 
 pub mark_triangles-requires : goal.mark_triangles-requires
-mark_triangles-requires c =
-    let f = c in
-    (f.requires.0, flat_plane f.args.p (sym f.is_flat.ensures ∙ c.if-is_flat.true), f.requires.1)
+mark_triangles-requires c = (c.requires, flat_plane c.args.p (sym c.is_flat.ensures ∙ c.if-is_flat.true))
 
 pub returns-then-is_flat : goal.returns-then-is_flat
-returns-then-is_flat c =
-    let f = c in
-    marked_flat f.args.p (sym f.is_flat.ensures ∙ c.if-is_flat.true) c.mark_triangles.ensures
+returns-then-is_flat c = marked_flat c.args.p (sym c.is_flat.ensures ∙ c.if-is_flat.true) c.mark_triangles.ensures
 
-pub returns : goal.returns
-returns c =
-    let f = c in
-    marked_solid f.args.p (sym f.is_flat.ensures ∙ c.if-is_flat.false) c.mark_tetrahedra.ensures
+pub returns-else-is_flat : goal.returns-else-is_flat
+returns-else-is_flat c = marked_solid c.args.p (sym c.is_flat.ensures ∙ c.if-is_flat.false) c.mark_tetrahedra.ensures

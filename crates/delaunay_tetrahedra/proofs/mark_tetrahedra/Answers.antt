@@ -1,9 +1,403 @@
--- `delaunay_tetrahedra::mark_tetrahedra` meets its contract. Assumes nothing.
-use Rattle.delaunay_search.proofs.Marking.{marked_none, marked_all}
+-- `delaunay_tetrahedra::mark_tetrahedra` meets its contract: at each loop's head what is marked and what is left make up all candidates. Assumes nothing.
+use mathlib.Core.Path.{◌≡◌, refl, sym, ◌∙◌, ap, subst}
+use mathlib.Core.Bool.{true}
+use mathlib.Core.List.{List}
+use Prim.Native.Nat.{ℕ, ◌+◌, ◌-◌, ◌<◌, ◌≤◌}
+use native.Mathlib.Omega.{arith}
+use Rattle.integers.proofs.Order.{zero_bits, other_bits}
+use Rattle.integers.proofs.Bounds.{signed_fits}
+use Rattle.polygon.specs.declared.Polygon.{Polygon}
+use Rattle.polygon.specs.Polygon.{ValidPolygon}
+use Rattle.geometry.specs.declared.sphere.Lifted.{Lifted}
+use Rattle.geometry.specs.declared.sphere.Sphere.{Sphere}
+use lib.ListN.{get_or}
+use Rattle.geometry.specs.declared.sphere.Pencil.{Pencil}
+use Rattle.geometry.specs.Lifting.{pencil_of}
+use Rattle.delaunay_search.specs.Search.{Lifts, unlifted}
+use Rattle.geometry.specs.Bounds.{SphereBounds}
+use Rattle.faces.proofs.Fours.{left3, left4, into2, into3, into4, out2, out3, out4}
+use Rattle.delaunay_tetrahedra.specs.Tetrahedra.{counts}
+use Rattle.delaunay_search.proofs.Marking.{kept_start, kept_turn, kept_then}
+use Rattle.delaunay_search.proofs.Scanning.{scanned_in}
+use Rattle.delaunay_tetrahedra.proofs.Counting.{not_counts_flat}
+use Rattle.delaunay_search.proofs.Lifting.{lift_in, seen_long, seen_at}
+use Rattle.geometry.specs.Bounds.{LiftedBounds}
+use Rattle.geometry.specs.Lifting.{position_by}
+use Rattle.faces.specs.Faces.{is_face}
+use Rattle.faces.specs.Masks.{Joined}
+use Rattle.delaunay_search.proofs.Placing.{is_inside_lem, not_inside_lem}
+use Rattle.delaunay_tetrahedra.proofs.Corners.{Three, vertex_in, pencil_in, none_counts, sphere_in, flat_is}
+use Rattle.delaunay_tetrahedra.proofs.Tetrahedra.{Hints, has_fifth, Kept, kept_skip, kept_leave, Four, four_dropped, three_left, vertex_passed}
+use Rattle.delaunay_tetrahedra.proofs.Tetrahedra.{four_counts, fifth_passed, four_cospherical, four_marked, twelve_due, all_marked}
+use Rattle.delaunay_tetrahedra.proofs.mark_tetrahedra.Goals.{After-pencil_through-pencil, After-scanned-v, After-locate-in-loop-v, At-loop-i, In-loop-v, In-four, In-three}
 use Rattle.delaunay_tetrahedra.proofs.mark_tetrahedra.Goals as goal
 
-pub returns-then-mark_fours : goal.returns-then-mark_fours
-returns-then-mark_fours c = marked_none c.mark_fours.ensures c.if-mark_fours.true c.clear.ensures
+three_of : {p : Polygon} {a b c : ℕ} {lifted : List Lifted} {k : Pencil} → ValidPolygon p → a < p.n - 3 → b < p.n - 2 → c < p.n - 1 →
+    Lifts p a lifted → k ≡ pencil_of (get_or lifted b unlifted) (get_or lifted c unlifted) → Three p a b c lifted k
+three_of valid a<n b<n c<n lifts spans =
+    record { valid = valid; a<n = omega (arith, a<n); b<n = omega (arith, b<n); c<n = omega (arith, c<n); lifts = lifts; spans = spans }
+
+-- at three corners
+module _ (g : goal.In-three) where
+  abbrev polygon : Polygon
+  polygon = g.args.p
+
+  valid : ValidPolygon polygon
+  valid = g.requires
+
+  abbrev A : ℕ
+  A = g.loop-a.a
+
+  abbrev B : ℕ
+  B = g.loop-b.b
+
+  abbrev C : ℕ
+  C = g.three.c
+
+  a<n : A < polygon.n
+  a<n = omega (arith, g.loop-a-test.true)
+
+  b<n : B < polygon.n
+  b<n = omega (arith, g.loop-b-test.true)
+
+  c<n : C < polygon.n
+  c<n = omega (arith, g.three-test.true)
+
+  hints : Hints polygon.n g.three.last g.three.apex
+  hints = g.three.invariant.0
+
+  -- up to the first four of the three
+  entered : Kept polygon g.loop-b.set g.three.set (λ P. left3 polygon.n P A B (B + 1)) (λ P. left4 polygon.n P A B C (C + 1))
+  entered = kept_turn (λ P. into4 _ P _ _ _ c<n) g.three.invariant.1
+
+-- with their pencil
+module _ (k : goal.After-pencil_through-pencil) where
+  three : Three k.args.p k.loop-a.a k.loop-b.b k.three.c k.lift_vertices-lifted.result k.pencil_through-pencil.result
+  three = three_of k.requires k.loop-a-test.true k.loop-b-test.true k.three-test.true k.lift_vertices-lifted.ensures k.pencil_through-pencil.ensures
+
+-- at four corners
+module _ (s : goal.In-four) where
+  abbrev D : ℕ
+  D = s.four.d
+
+  d<n : D < s.args.p.n
+  d<n = s.four-test.true
+
+  known : Hints s.args.p.n s.four.last s.four.apex
+  known = s.four.invariant.1
+
+  triangle : Three s.args.p s.loop-a.a s.loop-b.b s.three.c s.lift_vertices-lifted.result s.pencil_through-pencil.result
+  triangle = three_of s.requires s.loop-a-test.true s.loop-b-test.true s.three-test.true s.lift_vertices-lifted.ensures s.pencil_through-pencil.ensures
+
+-- in the scan: they are not in one plane
+module _ (l : goal.At-loop-i) where
+  abbrev ball : Sphere
+  ball = l.circumsphere-ball.result
+
+  abbrev FourAt : ℕ → ℕ → Type 0
+  FourAt c d =
+      Four l.args.p l.loop-a.a l.loop-b.b c d l.lift_vertices-lifted.result l.pencil_through-pencil.result ball l.three.set l.four.set
+      (λ P. left4 l.args.p.n P l.loop-a.a l.loop-b.b l.three.c (l.three.c + 1))
+
+  triangle_of : Three l.args.p l.loop-a.a l.loop-b.b l.three.c l.lift_vertices-lifted.result l.pencil_through-pencil.result
+  triangle_of =
+      three_of l.requires l.loop-a-test.true l.loop-b-test.true l.three-test.true l.lift_vertices-lifted.ensures l.pencil_through-pencil.ensures
+
+  four : FourAt l.three.c l.four.d
+  four = record {
+    three = triangle_of;
+    d<n = l.four-test.true;
+    through = l.circumsphere-ball.ensures;
+    solid = sym (flat_is triangle_of l.four.d l.four-test.true l.circumsphere-ball.ensures) ∙ other_bits ball.orient l.if-ball-eq0.false;
+    kept = l.four.invariant.2;
+  }
+
+  ball_in : SphereBounds ball
+  ball_in = sphere_in triangle_of l.four.d l.four-test.true l.circumsphere-ball.ensures
+
+  -- no vertex is inside
+  full : l.args.p.n + 1 ≤ l.loop-i.i → counts l.args.p l.loop-a.a l.loop-b.b l.three.c l.four.d ≡ true
+  full h = four_counts four (l.loop-i.i - 1) (omega (arith, h)) l.loop-i.invariant.scanned
+
+-- at the vertex of a turn
+v<n : (w : goal.After-scanned-v) → w.scanned-v.result < w.args.p.n
+v<n w = scanned_in _ w.loop-i.last w.loop-i.i w.scanned-v.result w.loop-i.invariant.known.last<n w.loop-i-test.true w.scanned-v.ensures
+
+-- at a vertex of the last loop
+looked<n : (w : goal.In-loop-v) → w.loop-v.v < w.args.p.n
+looked<n w = omega (arith, seen_long w.requires w.lift_vertices-lifted.ensures, w.loop-v-test.true)
+
+seen_place : (k : goal.After-locate-in-loop-v) →
+    k.locate-in-loop-v.result ≡ position_by k.circumsphere-ball.result (get_or k.lift_vertices-lifted.result k.loop-v.v unlifted)
+seen_place k =
+    let h : k.loop-v.v < k.args.p.n = omega (arith, seen_long k.requires k.lift_vertices-lifted.ensures, k.loop-v-test.true) in
+    k.locate-in-loop-v.ensures ∙ ap (λ (s : Lifted). position_by k.circumsphere-ball.result s) (seen_at k.args.p _ _ h)
+
+pub overflow_sub-a-end : goal.overflow_sub-a-end
+overflow_sub-a-end c = c.requires.least
+
+pub loop-a-init : goal.loop-a-init
+loop-a-init c = (omega (arith, c.requires.least), kept_start)
+
+pub lift_vertices-lifted-requires : goal.lift_vertices-lifted-requires
+lift_vertices-lifted-requires c = (c.requires, omega (arith, c.loop-a-test.true))
+
+pub overflow_step-b : goal.overflow_step-b
+overflow_step-b c = omega (arith, c.requires.most, c.loop-a-test.true)
+
+pub overflow_sub-b-end : goal.overflow_sub-b-end
+overflow_sub-b-end c = omega (arith, c.requires.least)
+
+pub loop-b-init : goal.loop-b-init
+loop-b-init c = (c.loop-a.invariant.0, kept_start)
+
+pub overflow_step-c : goal.overflow_step-c
+overflow_step-c c = omega (arith, c.requires.most, c.loop-b-test.true)
+
+pub overflow_sub-c-end : goal.overflow_sub-c-end
+overflow_sub-c-end c = omega (arith, c.requires.least)
+
+pub three-init : goal.three-init
+three-init c = (c.loop-b.invariant.0, kept_start)
+
+pub offset_bounds-lifted-b : goal.offset_bounds-lifted-b
+offset_bounds-lifted-b c = omega (arith, c.requires.most, b<n (goal.at.offset_bounds-lifted-b c).In-three)
+
+pub bounds-lifted-b : goal.bounds-lifted-b
+bounds-lifted-b c = omega (arith, c.requires.most, b<n (goal.at.bounds-lifted-b c).In-three)
+
+pub offset_bounds-lifted-c : goal.offset_bounds-lifted-c
+offset_bounds-lifted-c c = omega (arith, c.requires.most, c<n (goal.at.offset_bounds-lifted-c c).In-three)
+
+pub bounds-lifted-c : goal.bounds-lifted-c
+bounds-lifted-c c = omega (arith, c.requires.most, c<n (goal.at.bounds-lifted-c c).In-three)
+
+pub pencil_through-pencil-requires : goal.pencil_through-pencil-requires
+pencil_through-pencil-requires c =
+    let g = (goal.at.pencil_through-pencil-requires c).In-three in
+    let l = g.lift_vertices-lifted.ensures in
+    (lift_in (valid g) (a<n g) l (B g) (b<n g), lift_in (valid g) (a<n g) l (C g) (c<n g))
+
+pub offset_bounds-lifted-apex : goal.offset_bounds-lifted-apex
+offset_bounds-lifted-apex c = omega (arith, c.requires.most, (hints (goal.at.offset_bounds-lifted-apex c).In-three).apex<n)
+
+pub bounds-lifted-apex : goal.bounds-lifted-apex
+bounds-lifted-apex c = omega (arith, c.requires.most, (hints (goal.at.bounds-lifted-apex c).In-three).apex<n)
+
+pub offset_bounds-lifted-last : goal.offset_bounds-lifted-last
+offset_bounds-lifted-last c = let g = (goal.at.offset_bounds-lifted-last c).In-three in omega (arith, c.requires.most, (hints g).last<n)
+
+pub bounds-lifted-last : goal.bounds-lifted-last
+bounds-lifted-last c = let g = (goal.at.bounds-lifted-last c).In-three in omega (arith, c.requires.most, (hints g).last<n)
+
+pub still_refuted-requires : goal.still_refuted-requires
+still_refuted-requires c =
+    let k = (goal.at.still_refuted-requires c).After-pencil_through-pencil in
+    let g = (goal.at.still_refuted-requires c).In-three in
+    (c.requires.most, c<n g, pencil_in (three k), vertex_in (three k) _ (hints g).apex<n, vertex_in (three k) _ (hints g).last<n)
+
+pub overflow_step-c-then-still_refuted : goal.overflow_step-c-then-still_refuted
+overflow_step-c-then-still_refuted c = let g = (goal.at.overflow_step-c-then-still_refuted c).In-three in omega (arith, c.requires.most, c<n g)
+
+pub three-smaller-then-still_refuted : goal.three-smaller-then-still_refuted
+three-smaller-then-still_refuted c = let g = (goal.at.three-smaller-then-still_refuted c).In-three in omega (arith, c<n g)
+
+pub three-preserved-then-still_refuted : goal.three-preserved-then-still_refuted
+three-preserved-then-still_refuted c =
+    let k = (goal.at.three-preserved-then-still_refuted c).After-pencil_through-pencil in
+    let g = (goal.at.three-preserved-then-still_refuted c).In-three in
+    (hints g, kept_leave _ _ _ _ _ (entered g) (none_counts (three k) _ _ (hints g).apex<n (hints g).last<n (c.still_refuted.ensures c.if-still_refuted.true)))
+
+pub overflow_step-d : goal.overflow_step-d
+overflow_step-d c = let g = (goal.at.overflow_step-d c).In-three in omega (arith, c.requires.most, c<n g)
+
+pub four-init : goal.four-init
+four-init c = (refl, hints (goal.at.four-init c).In-three, kept_start)
+
+pub offset_bounds-lifted-d : goal.offset_bounds-lifted-d
+offset_bounds-lifted-d c = omega (arith, c.requires.most, d<n (goal.at.offset_bounds-lifted-d c).In-four)
+
+pub bounds-lifted-d : goal.bounds-lifted-d
+bounds-lifted-d c = omega (arith, c.requires.most, d<n (goal.at.bounds-lifted-d c).In-four)
+
+pub circumsphere-ball-requires : goal.circumsphere-ball-requires
+circumsphere-ball-requires c = let s = (goal.at.circumsphere-ball-requires c).In-four in (pencil_in (triangle s), vertex_in (triangle s) (D s) (d<n s))
+
+pub overflow_step-d-then-ball-eq0 : goal.overflow_step-d-then-ball-eq0
+overflow_step-d-then-ball-eq0 c = let s = (goal.at.overflow_step-d-then-ball-eq0 c).In-four in omega (arith, c.requires.most, d<n s)
+
+pub four-smaller-then-ball-eq0 : goal.four-smaller-then-ball-eq0
+four-smaller-then-ball-eq0 c = let s = (goal.at.four-smaller-then-ball-eq0 c).In-four in omega (arith, d<n s)
+
+pub four-preserved-then-ball-eq0 : goal.four-preserved-then-ball-eq0
+four-preserved-then-ball-eq0 c =
+    let s = (goal.at.four-preserved-then-ball-eq0 c).In-four in
+    let e = c.circumsphere-ball.ensures in
+    let flat = zero_bits _ (signed_fits tt (sphere_in (triangle s) (D s) (d<n s) e).orient_in) c.if-ball-eq0.true in
+    (refl, known s, kept_skip _ _ _ _ (D s) s.four.invariant.2 (d<n s) (not_counts_flat _ _ _ _ _ (sym (flat_is (triangle s) (D s) (d<n s) e) ∙ flat)))
+
+pub overflow_add-i-end : goal.overflow_add-i-end
+overflow_add-i-end c = let s = (goal.at.overflow_add-i-end c).In-four in omega (arith, c.requires.most)
+
+pub loop-i-init : goal.loop-i-init
+loop-i-init c = record { same_c = refl; same_d = refl; ahead = omega arith; known = known (goal.at.loop-i-init c).In-four; scanned = refl }
+
+pub offset_bounds-lifted-v : goal.offset_bounds-lifted-v
+offset_bounds-lifted-v c = omega (arith, c.requires.most, v<n (goal.at.offset_bounds-lifted-v c).After-scanned-v)
+
+pub bounds-lifted-v : goal.bounds-lifted-v
+bounds-lifted-v c = omega (arith, c.requires.most, v<n (goal.at.bounds-lifted-v c).After-scanned-v)
+
+pub locate-requires : goal.locate-requires
+locate-requires c = let w = (goal.at.locate-requires c).After-scanned-v in
+    (ball_in (goal.at.locate-requires c).At-loop-i, vertex_in (four (goal.at.locate-requires c).At-loop-i).three _ (v<n w))
+
+pub offset_bounds-lifted-d-then-eq : goal.offset_bounds-lifted-d-then-eq
+offset_bounds-lifted-d-then-eq c = let f = four (goal.at.offset_bounds-lifted-d-then-eq c).At-loop-i in omega (arith, c.requires.most, f.d<n)
+
+pub bounds-lifted-d-then-eq : goal.bounds-lifted-d-then-eq
+bounds-lifted-d-then-eq c = let f = four (goal.at.bounds-lifted-d-then-eq c).At-loop-i in omega (arith, c.requires.most, f.d<n)
+
+pub offset_bounds-lifted-v-then-eq : goal.offset_bounds-lifted-v-then-eq
+offset_bounds-lifted-v-then-eq c = let w = (goal.at.offset_bounds-lifted-v-then-eq c).After-scanned-v in omega (arith, c.requires.most, v<n w)
+
+pub bounds-lifted-v-then-eq : goal.bounds-lifted-v-then-eq
+bounds-lifted-v-then-eq c = let w = (goal.at.bounds-lifted-v-then-eq c).After-scanned-v in omega (arith, c.requires.most, v<n w)
+
+pub separates-requires : goal.separates-requires
+separates-requires c = let w = (goal.at.separates-requires c).After-scanned-v in let f = four (goal.at.separates-requires c).At-loop-i in
+    (pencil_in f.three, vertex_in f.three _ f.d<n, vertex_in f.three _ (v<n w))
+
+pub overflow_step-c-then-separates : goal.overflow_step-c-then-separates
+overflow_step-c-then-separates c = let f = four (goal.at.overflow_step-c-then-separates c).At-loop-i in omega (arith, c.requires.most, f.three.c<n)
+
+pub three-smaller-then-separates : goal.three-smaller-then-separates
+three-smaller-then-separates c = let l = (goal.at.three-smaller-then-separates c).At-loop-i in
+    omega (arith, c<n (goal.at.three-smaller-then-separates c).In-three)
+
+pub three-preserved-then-separates : goal.three-preserved-then-separates
+three-preserved-then-separates c =
+    let t = c in
+    let w = (goal.at.three-preserved-then-separates c).After-scanned-v in
+    let f = four (goal.at.three-preserved-then-separates c).At-loop-i in (
+      record { last<n = v<n w; apex<n = f.d<n },
+      kept_then (entered (goal.at.three-preserved-then-separates c).In-three)
+          (three_left f _ (v<n w) t.locate.ensures (is_inside_lem _ (sym c.eq.ensures ∙ c.if-eq.true)) (sym c.separates.ensures ∙ c.if-separates.true)),
+    )
+
+pub overflow_step-d-then-eq : goal.overflow_step-d-then-eq
+overflow_step-d-then-eq c = let f = four (goal.at.overflow_step-d-then-eq c).At-loop-i in omega (arith, c.requires.most, f.d<n)
+
+pub four-smaller-then-eq : goal.four-smaller-then-eq
+four-smaller-then-eq c = let l = (goal.at.four-smaller-then-eq c).At-loop-i in omega (arith, d<n (goal.at.four-smaller-then-eq c).In-four)
+
+pub four-preserved-then-eq : goal.four-preserved-then-eq
+four-preserved-then-eq c =
+    let t = c in
+    let w = (goal.at.four-preserved-then-eq c).After-scanned-v in
+    let l = (goal.at.four-preserved-then-eq c).At-loop-i in
+    (refl, record { last<n = v<n w; apex<n = l.loop-i.invariant.known.apex<n }, four_dropped (four l) _ (v<n w) t.locate.ensures (is_inside_lem _ (sym c.eq.ensures ∙ c.if-eq.true)))
+
+pub overflow_step-i : goal.overflow_step-i
+overflow_step-i c = let w = (goal.at.overflow_step-i c).After-scanned-v in omega (arith, c.requires.most, w.loop-i-test.true)
+
+pub loop-i-smaller : goal.loop-i-smaller
+loop-i-smaller c = omega (arith, c.loop-i-test.true)
+
+pub loop-i-preserved : goal.loop-i-preserved
+loop-i-preserved c =
+    let w = (goal.at.loop-i-preserved c).After-scanned-v in
+    let l = (goal.at.loop-i-preserved c).At-loop-i in
+    record {
+      same_c = refl;
+      same_d = refl;
+      ahead = omega (arith, w.loop-i-test.true);
+      known = l.loop-i.invariant.known;
+      scanned = vertex_passed (four l) _ (v<n w) c.locate.ensures (not_inside_lem _ (sym c.eq.ensures ∙ c.if-eq.false)) l.loop-i.last l.loop-i.i w.scanned-v.ensures
+          l.loop-i.invariant.scanned;
+    }
+
+pub locate-requires-in-loop-v : goal.locate-requires-in-loop-v
+locate-requires-in-loop-v c =
+    let l = (goal.at.locate-requires-in-loop-v c).At-loop-i in
+    let h = looked<n (goal.at.locate-requires-in-loop-v c).In-loop-v in
+    (ball_in l, subst (λ (s : Lifted). LiftedBounds s) (sym (seen_at c.args.p _ _ h)) (vertex_in (four l).three _ h))
+
+pub returns-then-is_fifth : goal.returns-then-is_fifth
+returns-then-is_fifth c =
+    let l = (goal.at.returns-then-is_fifth c).At-loop-i in
+    let g = (goal.at.returns-then-is_fifth c).In-three in
+    let P = has_fifth c.args.p in
+    twelve_due c.args.p
+    (sym g.loop-a.invariant.1.twelve ∙ into2 _ P _ (a<n g)
+    ∙ sym g.loop-b.invariant.1.twelve ∙ into3 _ P _ _ (b<n g)
+    ∙ sym (entered g).twelve
+    ∙ four_cospherical (four l) (full l c.loop-i-test.false) _ (looked<n (goal.at.returns-then-is_fifth c).In-loop-v)
+    (seen_place (goal.at.returns-then-is_fifth c).After-locate-in-loop-v) c.is_fifth.ensures c.if-is_fifth.true) c.clear.ensures
+
+pub overflow_step-v : goal.overflow_step-v
+overflow_step-v c = omega (arith, c.requires.most, c.loop-v-test.true)
+
+pub loop-v-smaller : goal.loop-v-smaller
+loop-v-smaller c = omega (arith, c.loop-v-test.true)
+
+pub loop-v-preserved : goal.loop-v-preserved
+loop-v-preserved c =
+    let l = (goal.at.loop-v-preserved c).At-loop-i in record {
+      same_set = c.loop-v.invariant.same_set;
+      passed = fifth_passed (four l) (full l c.loop-i-test.false) _ (looked<n (goal.at.loop-v-preserved c).In-loop-v)
+          (seen_place (goal.at.loop-v-preserved c).After-locate-in-loop-v) c.is_fifth.ensures c.if-is_fifth.false c.loop-v.invariant.passed;
+    }
+
+pub insert_faces-requires : goal.insert_faces-requires
+insert_faces-requires c =
+    let f = four (goal.at.insert_faces-requires c).At-loop-i in
+    let m = c.requires.most in
+    (omega (arith, m, f.three.a<n), omega (arith, m, f.three.b<n), omega (arith, m, f.three.c<n), omega (arith, m, f.d<n))
+
+pub overflow_step-d-in-four : goal.overflow_step-d-in-four
+overflow_step-d-in-four c = let f = four (goal.at.overflow_step-d-in-four c).At-loop-i in omega (arith, c.requires.most, f.d<n)
+
+pub four-smaller : goal.four-smaller
+four-smaller c = let l = (goal.at.four-smaller c).At-loop-i in omega (arith, d<n (goal.at.four-smaller c).In-four)
+
+pub four-preserved : goal.four-preserved
+four-preserved c =
+    let l = (goal.at.four-preserved c).At-loop-i in
+    let seen = seen_long c.requires c.lift_vertices-lifted.ensures in (
+      refl,
+      l.loop-i.invariant.known,
+      four_marked (four l) (full l c.loop-i-test.false) _ (omega (arith, seen, c.loop-v-test.false)) c.loop-v.invariant.passed
+          (subst (λ (s : List ℕ). Joined s (is_face c.loop-a.a c.loop-b.b l.three.c l.four.d) c.insert_faces.new.self)
+          c.loop-v.invariant.same_set c.insert_faces.ensures.triangles),
+    )
+
+pub overflow_step-c-in-three : goal.overflow_step-c-in-three
+overflow_step-c-in-three c = let g = (goal.at.overflow_step-c-in-three c).In-three in omega (arith, c.requires.most, c<n g)
+
+pub three-smaller : goal.three-smaller
+three-smaller c = let g = (goal.at.three-smaller c).In-three in omega (arith, c<n g)
+
+pub three-preserved : goal.three-preserved
+three-preserved c =
+    let g = (goal.at.three-preserved c).In-three in
+    (c.four.invariant.1, kept_turn (λ P. out4 _ P _ _ _ _ c.four-test.false) (kept_then (entered g) c.four.invariant.2))
+
+pub loop-b-preserved : goal.loop-b-preserved
+loop-b-preserved c = (
+  c.three.invariant.0,
+  kept_turn (λ P. out3 _ P _ _ _ (omega (arith, c.three-test.false)))
+      (kept_then (kept_turn (λ P. into3 _ P _ _ (omega (arith, c.loop-b-test.true))) c.loop-b.invariant.1)
+      c.three.invariant.1),
+)
+
+pub loop-a-preserved : goal.loop-a-preserved
+loop-a-preserved c = (
+  c.loop-b.invariant.0,
+  kept_turn (λ P. out2 _ P _ _ (omega (arith, c.loop-b-test.false)))
+      (kept_then (kept_turn (λ P. into2 _ P _ (omega (arith, c.loop-a-test.true))) c.loop-a.invariant.1)
+      c.loop-b.invariant.1),
+)
 
 pub returns : goal.returns
-returns c = marked_all c.mark_fours.ensures c.if-mark_fours.false
+returns c = all_marked c.args.p _ (omega (arith, c.loop-a-test.false)) c.loop-a.invariant.1

@@ -22,7 +22,7 @@ pub loop-x-preserved : goal.loop-x-preserved
 loop-x-preserved c =
     let l = c in
     let a = l.args in
-    let P = has a.masks.now in
+    let P = has a.set.now in
     elim c.if-contains.branch [
       | then-contains w ↦ (
         omega (arith, w.count-is, l.loop-x.invariant.0),

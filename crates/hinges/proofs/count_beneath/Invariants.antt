@@ -12,4 +12,4 @@ abbrev pub from : (ℕ → ℕ → ℕ → Bool) → ℕ → ℕ → ℕ → Lis
 from P i j x = over x j (λ x. when (P i x j) x)
 
 abbrev pub invariant-loop-x : goal.invariant-loop-x
-invariant-loop-x l = (l.count ≤ l.x) × Counting (beneath (has l.masks) l.i l.j) (from (has l.masks) l.i l.j l.x) l.count
+invariant-loop-x l = (l.count ≤ l.x) × Counting (beneath (has l.set) l.i l.j) (from (has l.set) l.i l.j l.x) l.count

@@ -17,12 +17,12 @@ use Rattle.hinges.proofs.count_rows.Goals as goal
 counted :
     (s : goal.After-contains) {x y : ℕ} →
     s.contains.result ≡ true →
-    x ≡ length (beneath (has s.args.masks.now) s.loop-a.a s.loop-b.b) →
-    y ≡ length (beneath (has s.args.masks.now) s.loop-b.b s.loop-c.c) →
-    Counting (left1 s.args.n (hung (has s.args.masks.now)) 0)
-    (left3 s.args.n (hung (has s.args.masks.now)) s.loop-a.a s.loop-b.b (s.loop-c.c + 1)) (s.loop-c.count + (x + y))
+    x ≡ length (beneath (has s.args.set.now) s.loop-a.a s.loop-b.b) →
+    y ≡ length (beneath (has s.args.set.now) s.loop-b.b s.loop-c.c) →
+    Counting (left1 s.args.n (hung (has s.args.set.now)) 0)
+    (left3 s.args.n (hung (has s.args.set.now)) s.loop-a.a s.loop-b.b (s.loop-c.c + 1)) (s.loop-c.count + (x + y))
 counted s t on-x beside-y =
-    let P = has s.args.masks.now in
+    let P = has s.args.set.now in
     let on = beneath P s.loop-a.a s.loop-b.b in
     let beside = beneath P s.loop-b.b s.loop-c.c in
     count_moved (ap (λ (k : ℕ). s.loop-c.count + k) ((λ i. on-x i + beside-y i) ∙ sym (length-append on beside)))
@@ -33,10 +33,10 @@ counted s t on-x beside-y =
 few :
     (s : goal.After-contains) {x y : ℕ} →
     s.contains.result ≡ true →
-    x ≡ length (beneath (has s.args.masks.now) s.loop-a.a s.loop-b.b) →
-    y ≡ length (beneath (has s.args.masks.now) s.loop-b.b s.loop-c.c) →
+    x ≡ length (beneath (has s.args.set.now) s.loop-a.a s.loop-b.b) →
+    y ≡ length (beneath (has s.args.set.now) s.loop-b.b s.loop-c.c) →
     s.loop-c.count + (x + y) ≤ max_pairs
-few s t on-x beside-y = omega (arith, (counted s t on-x beside-y).sum, pairs_bound s.args.n (has s.args.masks.now) s.requires)
+few s t on-x beside-y = omega (arith, (counted s t on-x beside-y).sum, pairs_bound s.args.n (has s.args.set.now) s.requires)
 
 pub loop-a-init : goal.loop-a-init
 loop-a-init c = count_start _
@@ -48,7 +48,7 @@ pub loop-c-init : goal.loop-c-init
 loop-c-init c =
     let m = c in
     let u = m in
-    count_turn (into3 u.args.n (hung (has u.args.masks.now)) u.loop-a.a m.loop-b.b (omega arith)) m.loop-b.invariant
+    count_turn (into3 u.args.n (hung (has u.args.set.now)) u.loop-a.a m.loop-b.b (omega arith)) m.loop-b.invariant
 
 pub overflow_add-count : goal.overflow_add-count
 overflow_add-count c = omega (
@@ -69,7 +69,7 @@ loop-c-preserved c =
     elim c.if-contains.branch [
       | then-contains w ↦ count_moved w.count-is (counted (goal.at.loop-c-preserved c).After-contains w.if-contains.true
           w.count_beneath-first.ensures w.count_beneath-second.ensures)
-      | else-contains w ↦ count_moved w.count-is (count_turn (next_hung u.args.n (has u.args.masks.now) u.loop-a.a m.loop-b.b
+      | else-contains w ↦ count_moved w.count-is (count_turn (next_hung u.args.n (has u.args.set.now) u.loop-a.a m.loop-b.b
           l.loop-c.c {t = false} (omega arith) (sym w.if-contains.false ∙ c.contains.ensures)) l.loop-c.invariant)
     ]
 
@@ -78,7 +78,7 @@ loop-b-preserved c =
     let l = c in
     let m = l in
     let u = m in
-    count_turn (out3 u.args.n (hung (has u.args.masks.now)) u.loop-a.a m.loop-b.b l.loop-c.c (omega arith)) l.loop-c.invariant
+    count_turn (out3 u.args.n (hung (has u.args.set.now)) u.loop-a.a m.loop-b.b l.loop-c.c (omega arith)) l.loop-c.invariant
 
 pub loop-a-preserved : goal.loop-a-preserved
 loop-a-preserved c = count_turn (out2 _ _ _ _ (omega arith)) c.loop-b.invariant
@@ -86,4 +86,4 @@ loop-a-preserved c = count_turn (out2 _ _ _ _ (omega arith)) c.loop-b.invariant
 pub returns : goal.returns
 returns c =
     let s = c in
-    count_all (count_turn (out1 _ _ _ (omega arith)) c.loop-a.invariant) ∙ sym (pairs_count s.args.n (has s.args.masks.now))
+    count_all (count_turn (out1 _ _ _ (omega arith)) c.loop-a.invariant) ∙ sym (pairs_count s.args.n (has s.args.set.now))

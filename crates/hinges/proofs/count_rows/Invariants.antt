@@ -5,10 +5,10 @@ use Rattle.hinges.proofs.Counts.{hung}
 use Rattle.hinges.proofs.count_rows.Given as goal
 
 abbrev pub invariant-loop-c : goal.invariant-loop-c
-invariant-loop-c l = Counting (left1 l.n (hung (has l.masks)) 0) (left3 l.n (hung (has l.masks)) l.a l.b l.c) l.count
+invariant-loop-c l = Counting (left1 l.n (hung (has l.set)) 0) (left3 l.n (hung (has l.set)) l.a l.b l.c) l.count
 
 abbrev pub invariant-loop-b : goal.invariant-loop-b
-invariant-loop-b l = Counting (left1 l.n (hung (has l.masks)) 0) (left2 l.n (hung (has l.masks)) l.a l.b) l.count
+invariant-loop-b l = Counting (left1 l.n (hung (has l.set)) 0) (left2 l.n (hung (has l.set)) l.a l.b) l.count
 
 abbrev pub invariant-loop-a : goal.invariant-loop-a
-invariant-loop-a l = Counting (left1 l.n (hung (has l.masks)) 0) (left1 l.n (hung (has l.masks)) l.a) l.count
+invariant-loop-a l = Counting (left1 l.n (hung (has l.set)) 0) (left1 l.n (hung (has l.set)) l.a) l.count
