@@ -9,9 +9,8 @@ use codes::Refusal;
 use converter::Conversion;
 use finder::{Counts, Places};
 use judge::Judgement;
-use pricing::Quote;
 use reader::Reading;
-use triangulator::Outcome;
+use triangulator::Patch;
 
 // A patch where the number is 0 and there are triangles, 'none' where both are 0.
 #[repr(C)]
@@ -75,29 +74,23 @@ pub struct ConvertAnswer {
     pub length: usize,
 }
 
-pub fn patch_answer(outcome: Outcome) -> PatchAnswer
+pub fn patch_answer(outcome: Result<Option<Patch>, Refusal>) -> PatchAnswer
     ensures { result ≡ patch_answer_of outcome }
 {
-    let number = outcome.number();
-    let triangles = outcome.triangles();
-    let total = outcome.total();
     PatchAnswer {
-        number,
-        triangles,
-        total,
+        number: codes::number_of(&outcome),
+        triangles: triangulator::triangles_of(&outcome),
+        total: triangulator::total_of(&outcome),
     }
 }
 
-pub fn price_answer(quote: Quote) -> PriceAnswer
+pub fn price_answer(quote: Result<Option<Patch>, Refusal>) -> PriceAnswer
     ensures { result ≡ price_answer_of quote }
 {
-    let number = quote.number();
-    let triangles = quote.triangles();
-    let least = quote.total();
     PriceAnswer {
-        number,
-        triangles,
-        total: least,
+        number: codes::number_of(&quote),
+        triangles: triangulator::triangles_of(&quote),
+        total: triangulator::total_of(&quote),
     }
 }
 

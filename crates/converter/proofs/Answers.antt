@@ -18,8 +18,7 @@ use Rattle.polygon.specs.declared.Polygon.{Polygon}
 use Rattle.reader.specs.Reading as reader
 use Rattle.reader.proofs.FirstNumber.{no_number_read}
 use Rattle.conversion.specs.Converted.{converted, other_edition}
-use Rattle.converter.specs.Call.{values_of, conversion_code, conversion_number, number_due, due_values, Converting, converting, convert_by, convert_call}
-use Rattle.converter.specs.declared.Converted.{Converted}
+use Rattle.converter.specs.Call.{Conversion, values_of, conversion_code, conversion_number, number_due, due_values, Converting, converting, convert_by, convert_call}
 
 -- 13 is not due where no number is
 pub not_short : (short lost : Bool) → conversion_code short lost ≡ 0 → short ≡ false
@@ -51,7 +50,7 @@ module _ (file out : List ℕ) where
   by_values zero = refl
   by_values (suc k) = refl
 
-  pub call_values : {r : Result Converted Refusal} {left : List ℕ} → converting r left ≡ convert_call file out → values_of r ≡ due_values (number_due file out) file
+  pub call_values : {r : Conversion} {left : List ℕ} → converting r left ≡ convert_call file out → values_of r ≡ due_values (number_due file out) file
   unfolding convert_call
   call_values e = ap (λ (x : Converting). values_of x.answer) e ∙ by_values (number_due file out)
 
@@ -69,7 +68,7 @@ module _ (file out : List ℕ) where
   call_read e = sym (ap (λ (i : ℕ). convert_by (first_due i (conversion_number file out)) file out) e)
 
   -- both promises from the call's answer
-  pub promised : {r : Result Converted Refusal} {left : List ℕ} → converting r left ≡ convert_call file out →
+  pub promised : {r : Conversion} {left : List ℕ} → converting r left ≡ convert_call file out →
       (converting r left ≡ convert_call file out) × (values_of r ≡ due_values (number_due file out) file)
   promised e = (e, call_values e)
 

@@ -7,8 +7,7 @@ use borrow.Author.Tests.{eq-eqb}
 use lib.Dec.{eqb}
 use lib.Ieee.{of_bits}
 use lib.ListN.{replicate}
-use Rattle.std.specs.Prelude.{Result, Ok, Err}
-use Rattle.codes.specs.declared.Refusal.{Refusal}
+use Rattle.std.specs.Prelude.{Ok, Err}
 use Rattle.codes.specs.Refusals.{refusal, number_of}
 use Rattle.lists.specs.Lists.{up_from, some_from, both}
 use Rattle.lists.proofs.Comparing.{same_list, same_list_lem, any_of, any_of_lem}
@@ -20,8 +19,7 @@ use Rattle.reader.specs.Chain.{link, met_before, height_before, link_code, posit
 use Rattle.reader.specs.Reading as reader
 use Rattle.reader.proofs.Cases.{point_then, zero_mm, one_mm, no_surface}
 use Rattle.conversion.specs.Converted.{converted, normal_lost}
-use Rattle.converter.specs.Call.{edition_of, converted_length, Converting, converting, convert_call}
-use Rattle.converter.specs.declared.Converted.{Converted}
+use Rattle.converter.specs.Call.{Conversion, edition_of, converted_length, Converting, converting, convert_call}
 
 -- ---- two files of one rim: a chain of records 1, 2 and 3, and a spare record 4
 abbrev header : List ℕ
@@ -61,7 +59,7 @@ pub record Try : Type 0 where
 abbrev try : List ℕ → List ℕ → Converting → Converting → Try
 try file out right wrong = record { file = file; out = out; right = right; wrong = wrong }
 
-abbrev made : ℕ → ℕ → Result Converted Refusal
+abbrev made : ℕ → ℕ → Conversion
 made edition size = Ok (record { edition = edition; length = size })
 
 abbrev pub tries : List Try

@@ -9,12 +9,16 @@ use Rattle.reader.specs.Reading as reader
 use Rattle.conversion.specs.Converted.{converted, other_edition, normal_lost}
 use Rattle.converter.specs.declared.Converted.{Converted}
 
+-- what the converter answers (rules 4.30, 5.7): what a file was converted to, or a refusal
+abbrev pub Conversion : Type 0
+Conversion = Result Converted Refusal
+
 -- the edition of the converted file and its length, in each case of an answer (rule 5.2)
-abbrev pub edition_of : Result Converted Refusal → ℕ
+abbrev pub edition_of : Conversion → ℕ
 edition_of (Ok c) = c.edition
 edition_of (Err r) = 0
 
-abbrev pub converted_length : Result Converted Refusal → ℕ
+abbrev pub converted_length : Conversion → ℕ
 converted_length (Ok c) = c.length
 converted_length (Err r) = 0
 
@@ -27,7 +31,7 @@ pub record Values : Type 0 where
 abbrev pub values : ℕ → ℕ → ℕ → Values
 values k e n = record { number = k; edition = e; length = n }
 
-abbrev pub values_of : Result Converted Refusal → Values
+abbrev pub values_of : Conversion → Values
 values_of r = values (number_of r) (edition_of r) (converted_length r)
 
 -- 13 where the output table is too short, before 19 where a normal would be lost (rule 4.35)
@@ -48,10 +52,10 @@ due_values (suc k) file = values (suc k) 0 0
 
 -- an answer, and what the output table holds after the call
 pub record Converting : Type 0 where
-  pub answer : Result Converted Refusal
+  pub answer : Conversion
   pub left : List ℕ
 
-abbrev pub converting : Result Converted Refusal → List ℕ → Converting
+abbrev pub converting : Conversion → List ℕ → Converting
 converting r left = record { answer = r; left = left }
 
 -- what a file is converted to (rules 1.15, 5.2)
@@ -68,7 +72,7 @@ unfoldable pub convert_call : List ℕ → List ℕ → Converting
 convert_call file out = convert_by (number_due file out) file out
 
 -- the part handed back: as many first places as the answer says, none where the table is shorter (rule 5.7)
-abbrev pub part_of : Result Converted Refusal → List ℕ → List ℕ
+abbrev pub part_of : Conversion → List ℕ → List ℕ
 part_of r table = first_places (converted_length r) table
 
 abbrev pub handed_over : Converting → List ℕ

@@ -19,11 +19,9 @@ use Rattle.terms.specs.Entries.{triple, hangs}
 use Rattle.faces.specs.Faces.{is_face}
 use Rattle.delaunay_tetrahedra.specs.Tetrahedra.{counts, is_face_of_four, cospherical}
 use Rattle.delaunay.specs.Candidates.{is_flat, is_candidate, degenerate}
-use Rattle.std.specs.Prelude.{Ok, Err}
+use Rattle.std.specs.Prelude.{Ok, Err, Some}
 use Rattle.finder.specs.Finding.{counts as found_counts, Finding, candidate_count_of, row_count_of, finding, number_due, find_call}
-use Rattle.triangulator.specs.declared.Outcome.{Outcome}
-use Rattle.triangulator.specs.declared.Outcome.TheVariants.{Patch}
-use Rattle.triangulator.specs.Call.{total_of}
+use Rattle.triangulator.specs.Call.{total_of, Outcome, patch_with}
 use Rattle.pipeline.specs.Patching.{Tables, Patching, patching, patch_file}
 use Rattle.demands.specs.Worked.{file_p, file_n, lent_p}
 use Rattle.demands.proofs.Worked.{file_P, file_N}
@@ -90,29 +88,29 @@ pub idle_wrong : {o : Outcome} → patching o lent_p ≡ patch_file max_vertices
 idle_wrong e = let n = ap (λ (x : Patching). get_or x.left.work 0 0) (e ∙ file_P) in omega (arith, n)
 
 -- the one call that hands the tiler no rows, or has whole roots for lengths in the rows, by which they all weigh 0: the total of the areas alone
-pub rows_left_out_wrong : {t : Tables} → patching (Patch 2 629) t ≡ patch_file max_vertices file_p lent_p → ⊥
+pub rows_left_out_wrong : {t : Tables} → patching (Ok (Some (patch_with 2 629))) t ≡ patch_file max_vertices file_p lent_p → ⊥
 rows_left_out_wrong e = let n = ap (λ (x : Patching). total_of x.outcome) (e ∙ file_P) in omega (arith, n)
 
 -- ---- programs with another length or ratio than rules 2.7 and 2.10 say, by their totals for P and for the same rim with normals
 -- four times the whole root: 4 · 93 for the last candidate
-pub whole_root_wrong : {t : Tables} → patching (Patch 2 940) t ≡ patch_file max_vertices file_p lent_p → ⊥
+pub whole_root_wrong : {t : Tables} → patching (Ok (Some (patch_with 2 940))) t ≡ patch_file max_vertices file_p lent_p → ⊥
 whole_root_wrong e = let n = ap (λ (x : Patching). total_of x.outcome) (e ∙ file_P) in omega (arith, n)
 
 -- 1,000 left in the ratio, and 4,000
-pub ratio_1000_wrong : {t : Tables} → patching (Patch 2 1587) t ≡ patch_file max_vertices file_p lent_p → ⊥
+pub ratio_1000_wrong : {t : Tables} → patching (Ok (Some (patch_with 2 1587))) t ≡ patch_file max_vertices file_p lent_p → ⊥
 ratio_1000_wrong e = let n = ap (λ (x : Patching). total_of x.outcome) (e ∙ file_P) in omega (arith, n)
 
-pub ratio_4000_wrong : {t : Tables} → patching (Patch 2 1458) t ≡ patch_file max_vertices file_p lent_p → ⊥
+pub ratio_4000_wrong : {t : Tables} → patching (Ok (Some (patch_with 2 1458))) t ≡ patch_file max_vertices file_p lent_p → ⊥
 ratio_4000_wrong e = let n = ap (λ (x : Patching). total_of x.outcome) (e ∙ file_P) in omega (arith, n)
 
 -- the rows left at whole roots, with 1,000 in their ratio
-pub old_rows_wrong : {t : Tables} → patching (Patch 2 941) t ≡ patch_file max_vertices file_p lent_p → ⊥
+pub old_rows_wrong : {t : Tables} → patching (Ok (Some (patch_with 2 941))) t ≡ patch_file max_vertices file_p lent_p → ⊥
 old_rows_wrong e = let n = ap (λ (x : Patching). total_of x.outcome) (e ∙ file_P) in omega (arith, n)
 
 -- the bends against the surface outside left at whole roots, with 1,000 in their ratio
-pub old_bends_outside_wrong : {t : Tables} → patching (Patch 2 1283) t ≡ patch_file max_vertices file_n lent_p → ⊥
+pub old_bends_outside_wrong : {t : Tables} → patching (Ok (Some (patch_with 2 1283))) t ≡ patch_file max_vertices file_n lent_p → ⊥
 old_bends_outside_wrong e = let n = ap (λ (x : Patching). total_of x.outcome) (e ∙ file_N) in omega (arith, n)
 
 -- the normals outside alone left at whole roots: all their bends come out as 0
-pub old_length_outside_wrong : {t : Tables} → patching (Patch 2 943) t ≡ patch_file max_vertices file_n lent_p → ⊥
+pub old_length_outside_wrong : {t : Tables} → patching (Ok (Some (patch_with 2 943))) t ≡ patch_file max_vertices file_n lent_p → ⊥
 old_length_outside_wrong e = let n = ap (λ (x : Patching). total_of x.outcome) (e ∙ file_N) in omega (arith, n)

@@ -6,7 +6,7 @@ use mathlib.Core.Bool.{false}
 use mathlib.Core.List.{List}
 use Prim.Native.Nat.{ℕ, suc, ◌≤◌, ◌<◌}
 use native.Mathlib.Omega.{arith}
-use Rattle.codes.specs.Refusals.{refusal}
+use Rattle.codes.specs.Refusals.{refusal, number_of}
 use Rattle.terms.specs.Limits.{min_vertices, max_vertices, trim_vertices, count_fits}
 use Rattle.terms.specs.Numbers.{first_due}
 use Rattle.rim_file.specs.File.{Bytes}
@@ -22,7 +22,6 @@ use Rattle.finder.specs.Sizes.{sizes_by}
 use Rattle.pipeline.specs.Patching.{Tables, refused, patch_by, polygon_number, patch_file}
 use Rattle.pipeline.specs.Sizes.{sizes_file}
 use Rattle.pipeline.proofs.Files.{lists_alike}
-use Rattle.triangulator.specs.Call.{number_of}
 use Rattle.demands.specs.Demand1.{CallDue, by_reader}
 use Rattle.demands.specs.Limits.{OneAnswer}
 use Rattle.demands.proofs.Demand1.{refused_first, given_first}

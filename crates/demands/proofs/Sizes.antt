@@ -5,7 +5,8 @@ use mathlib.Core.List.{List}
 use Prim.Native.Nat.{ℕ, zero, suc}
 use native.Mathlib.Omega.{arith}
 use lib.ListN.{length}
-use Rattle.codes.specs.Refusals.{refusal}
+use Rattle.triangulator.specs.Call.{Outcome}
+use Rattle.codes.specs.Refusals.{refusal, number_of}
 use Rattle.codes.specs.Refusals as codes
 use Rattle.lists.proofs.Choice.{Truth, holds, fails, truth, true_not_false}
 use Rattle.terms.specs.Numbers.{first_due}
@@ -18,9 +19,7 @@ use Rattle.finder.specs.Finding.{number_due}
 use Rattle.finder.specs.Sizes.{places_of, sizes_by}
 use Rattle.finder.proofs.Answers.{due_13, due_first}
 use Rattle.triangulation.specs.Triangulations.{best}
-use Rattle.triangulator.specs.Call.{number_of}
 use Rattle.triangulator.specs.Demands.{Taken, a_patch, a_none}
-use Rattle.triangulator.specs.declared.Outcome.{Outcome}
 use Rattle.triangulator.proofs.Demands.{settled_taken}
 use Rattle.pipeline.specs.Patching.{Tables, Patching, refused, problem_in, tables_short, patch_by, polygon_number, file_number, patch_file}
 use Rattle.pipeline.specs.Sizes.{sizes_number, sizes_file}

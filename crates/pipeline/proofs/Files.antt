@@ -9,9 +9,9 @@ use Rattle.codes.specs.Refusals.{refusal, number_of, or_refused}
 use Rattle.codes.proofs.Refusals.{none_answered, refused_answered}
 use Rattle.polygon.specs.declared.Polygon.{Polygon}
 use Rattle.terms.specs.Numbers.{first_due}
-use Rattle.reader.specs.Reading.{polygon_of, reading_of}
+use Rattle.reader.specs.Reading.{Reading, polygon_of, reading_of}
 use Rattle.reader.specs.Reading as reader
-use Rattle.std.specs.Prelude.{Result, Ok, Err}
+use Rattle.std.specs.Prelude.{Err}
 use Rattle.finder.specs.Finding.{values, values_of, due_values, Finding, finding, number_due, find_by, find_number, find_call}
 use Rattle.finder.specs.Sizes.{Sizes, no_places, places_in, due_places, sizes_by, sizes_of}
 use Rattle.finder.proofs.Answers.{sizes_values}
@@ -66,7 +66,7 @@ module _ (limit : ℕ) (s : List ℕ) where
   sizes_read e f = sized_values limit s (f ∙ by_polygon limit s sizes_by (λ (p : Polygon). number_due false p) e)
 
 -- ---- the finder's call, by the answer of the reader
-abbrev find_after : Result Polygon Refusal → List (List ℕ) → List ℕ → List (List ℕ) → Finding
+abbrev find_after : Reading → List (List ℕ) → List ℕ → List (List ℕ) → Finding
 find_after (Err r) candidates weights rows = finding (Err r) candidates weights rows
 find_after (Ok p) candidates weights rows = find_call p candidates weights rows
 
@@ -90,8 +90,8 @@ module _ (limit : ℕ) (s : List ℕ) (candidates : List (List ℕ)) (weights : 
       by zero = refl
       by (suc k) = refl
 
-  after : {r : Result Polygon Refusal} → r ≡ reading_of limit s → find_after r candidates weights rows ≡ find_file limit s candidates weights rows
-  after e = ap (λ (x : Result Polygon Refusal). find_after x candidates weights rows) e ∙ sym after_reading
+  after : {r : Reading} → r ≡ reading_of limit s → find_after r candidates weights rows ≡ find_file limit s candidates weights rows
+  after e = ap (λ (x : Reading). find_after x candidates weights rows) e ∙ sym after_reading
 
   pub lists_refused : {r : Refusal} → Err r ≡ reading_of limit s →
       (finding (Err r) candidates weights rows ≡ find_file limit s candidates weights rows)
@@ -108,5 +108,5 @@ pub lists_alike : (small large : ℕ) (s t : List ℕ) → reading_of small s �
     ≡ find_file large t candidates weights rows
 lists_alike small large s t e candidates weights rows =
     after_reading small s candidates weights rows
-    ∙ ap (λ (x : Result Polygon Refusal). find_after x candidates weights rows) e
+    ∙ ap (λ (x : Reading). find_after x candidates weights rows) e
     ∙ sym (after_reading large t candidates weights rows)

@@ -1,7 +1,8 @@
 -- What is promised of rims, built by hand or in rim files: the finder's call, the one call, their sizes, flat rims, lengths, what is printed. A part of the
 -- page (Promises.antt). Definitions only.
-use Rattle.std.specs.Prelude.{◌≡◌, ◌≢◌, false, List, ℕ, suc, ◌+◌, ◌*◌, ◌≤◌, ◌<◌, pos, nat_abs, take, Ok, Err}
-use Rattle.codes.specs.Refusals.{refusal}
+use Rattle.triangulator.specs.Call.{patch_with}
+use Rattle.std.specs.Prelude.{◌≡◌, ◌≢◌, false, List, ℕ, suc, ◌+◌, ◌*◌, ◌≤◌, ◌<◌, pos, nat_abs, take, Ok, Err, Some, None}
+use Rattle.codes.specs.Refusals.{refusal, number_of}
 use Rattle.terms.specs.Entries.{triple}
 use Rattle.terms.specs.Order.{NoneDue}
 use Rattle.terms.specs.Order as order
@@ -23,8 +24,6 @@ use Rattle.finder.specs.Finding.{counts, Finding, finding}
 use Rattle.codes.specs.Refusals as codes
 use Rattle.finder.specs.Sizes.{places_of, sizes_of}
 use Rattle.triangulation.specs.Triangulations.{ValidProblem}
-use Rattle.triangulator.specs.declared.Outcome.TheVariants.{Patch, None, Refused}
-use Rattle.triangulator.specs.Call.{number_of}
 use Rattle.triangulator.specs.Demands.{Taken}
 use Rattle.pipeline.specs.Patching.{Tables, Patching, refused, patch_file}
 use Rattle.pipeline.specs.Sizes.{sizes_file}
@@ -69,7 +68,7 @@ pub record Closes {Place : Type 0} (Before : Place → Place → Type 0) (Due : 
   pub refused_first : (k : ℕ) → order.First Before Due k → x ≡ refused k t
   pub given_first : (k : ℕ) → number_of x.outcome ≡ suc k → order.First Before Due (suc k)
   -- no total was agreed, so never 23 (rules 4.23, 5.1)
-  pub never_23 : x.outcome ≡ Refused (refusal 23) → ⊥
+  pub never_23 : x.outcome ≡ Err (refusal 23) → ⊥
   -- demand 2, of the lists in the first places of the tables (rules 2.3 to 2.19, 3.9)
   pub lists : NoneDue Due → ListsLeft p t x.left
   -- with lengths that are whole parts of four times the root (rules 2.7, 2.8, 2.10 to 2.15)
@@ -103,11 +102,11 @@ pub record FlatRims : Type 0 where
       Flat (polygon_in limit file) → Cocircular (polygon_in limit file)
   -- a rim with all vertices on one line gets 'none', and every other triangle itself (rule 2.19)
   pub line_gets_none : (limit : ℕ) (file : List ℕ) → Bytes file → (t : Tables) → NoneDue (CallDue limit file t) →
-      OnOneLine (vertex (polygon_in limit file)) (polygon_in limit file).n → (patch_file limit file t).outcome ≡ None
+      OnOneLine (vertex (polygon_in limit file)) (polygon_in limit file).n → (patch_file limit file t).outcome ≡ Ok None
   pub triangle_gets_patch : (limit : ℕ) (file : List ℕ) → Bytes file → (t : Tables) → NoneDue (CallDue limit file t) →
       (polygon_in limit file).n ≡ 3 →
       collinear (vertex (polygon_in limit file) 0) (vertex (polygon_in limit file) 1) (vertex (polygon_in limit file) 2) ≡ false →
-      (patch_file limit file t).outcome ≡ Patch 1 (own_weight (polygon_in limit file) (triple 0 1 2))
+      (patch_file limit file t).outcome ≡ Ok (Some (patch_with 1 (own_weight (polygon_in limit file) (triple 0 1 2))))
 
 -- ---- lengths in quarters, of every normal of a triangle and of a surface outside
 pub record Lengths : Type 0 where

@@ -15,13 +15,12 @@ use Rattle.terms.specs.Limits.{max_vertices, count_fits}
 use Rattle.polygon.specs.Polygon.{repeated_vertex}
 use Rattle.terms.specs.Numbers.{first_due}
 use Rattle.terms.proofs.Numbers.{due_neither}
-use Rattle.polygon.specs.declared.Polygon.{Polygon}
 use Rattle.rim_file.specs.File.{area_factor_of, bend_factor_of, record_count, length_wrong}
 use Rattle.reader.specs.Chain.{met_before, over_limit, link_code, record_code, position_code}
 use Rattle.reader.specs.Chain.{code_from, end_from, chain_code, vertex_count, vertices_of}
 use Rattle.reader.specs.Chain as chain
 use Rattle.reader.specs.Steps.{chain_of}
-use Rattle.reader.specs.Reading.{file_code, number_due, polygon_of, reading_of}
+use Rattle.reader.specs.Reading.{Reading, file_code, number_due, polygon_of, reading_of}
 use Rattle.reader.specs.declared.Chain.{Chain}
 
 -- ---- a chain in which no number is due has at most as many vertices as the limit
@@ -115,7 +114,7 @@ limit_most limit f = leb-true limit max_vertices (both_right (leb 3 limit) (leb 
 
 module _ (limit : ℕ) (s : List ℕ) where
   -- a number that is due is the answer
-  pub answer_refused : (k : ℕ) → 0 < k → number_due limit s ≡ k → ◌≡◌ {A = Result Polygon Refusal} (Err (refusal k)) (reading_of limit s)
+  pub answer_refused : (k : ℕ) → 0 < k → number_due limit s ≡ k → ◌≡◌ {A = Reading} (Err (refusal k)) (reading_of limit s)
   answer_refused k h e = due_refused k (polygon_of s) h ∙ ap (λ (j : ℕ). or_refused j (polygon_of s)) (sym e)
 
   pub limit_due : count_fits limit ≡ false → number_due limit s ≡ 14
@@ -149,7 +148,7 @@ module _ (limit : ℕ) (s : List ℕ) where
         chain_due (suc k) h e = chain_then ∙ ap (λ (j : ℕ). first_due j rest) e
 
         pub chain_refused : {r : Refusal} → ◌≡◌ {A = Result Chain Refusal} (Err r) (or_refused (chain_code limit s) (chain_of s)) →
-            ◌≡◌ {A = Result Polygon Refusal} (Err r) (reading_of limit s)
+            ◌≡◌ {A = Reading} (Err r) (reading_of limit s)
         chain_refused e =
             let p = refused_answered (chain_code limit s) (chain_of s) e in
             rw p.1 (answer_refused (chain_code limit s) p.0 (chain_due (chain_code limit s) p.0 refl))
@@ -174,12 +173,12 @@ module _ (limit : ℕ) (s : List ℕ) where
 -- no number is due: the answer is the polygon
 pub answer_complete : (limit : ℕ) (s : List ℕ) {area bend : ℕ} {r : Chain} → number_due limit s ≡ 0 → r ≡ chain_of s → area ≡ area_factor_of s →
     bend ≡ bend_factor_of s →
-    ◌≡◌ {A = Result Polygon Refusal}
+    ◌≡◌ {A = Reading}
     (Ok (record { n = r.n; area_factor = area; bend_factor = bend; vertices = r.vertices; normals = r.normals })) (reading_of limit s)
 answer_complete limit s e c a b =
     (λ i. Ok (record { n = (c i).n; area_factor = a i; bend_factor = b i; vertices = (c i).vertices; normals = (c i).normals }))
     ∙ ap (λ (j : ℕ). or_refused j (polygon_of s)) (sym e)
 
 -- the whole promise from the answer
-pub promised : (limit : ℕ) (s : List ℕ) {r : Result Polygon Refusal} → r ≡ reading_of limit s → (r ≡ reading_of limit s) × (number_of r ≡ number_due limit s)
+pub promised : (limit : ℕ) (s : List ℕ) {r : Reading} → r ≡ reading_of limit s → (r ≡ reading_of limit s) × (number_of r ≡ number_due limit s)
 promised limit s e = (e, ap number_of e ∙ number_answered (number_due limit s) (polygon_of s))

@@ -33,11 +33,15 @@ polygon_of s = record {
   normals = normals_of s (vertex_count s);
 }
 
--- the answer (rules 4.30, 5.1): the polygon where no number is due, else the refusal with the first number due
-abbrev pub reading_of : ℕ → List ℕ → Result Polygon Refusal
+-- what the reader answers (rules 4.30, 5.1): a polygon, or a refusal
+abbrev pub Reading : Type 0
+Reading = Result Polygon Refusal
+
+-- the polygon where no number is due, else the refusal with the first number due (rule 4.31)
+abbrev pub reading_of : ℕ → List ℕ → Reading
 reading_of limit s = or_refused (number_due limit s) (polygon_of s)
 
 -- the polygon of an answer (rule 4.30): with a refusal the empty one
-abbrev pub polygon_in : Result Polygon Refusal → Polygon
+abbrev pub polygon_in : Reading → Polygon
 polygon_in (Ok p) = p
 polygon_in (Err r) = empty_polygon
