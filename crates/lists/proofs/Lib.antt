@@ -12,3 +12,4 @@ pub mod Flattening
 pub mod Writing
 pub mod Counting
 pub mod Comparing
+pub mod Elements
