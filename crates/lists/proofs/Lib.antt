@@ -4,7 +4,6 @@ pub mod Ranges
 pub mod Parts
 pub mod Fronts
 pub mod Points
-pub mod Made
 pub mod Pieces
 pub mod Members
 pub mod Maps
