@@ -10,6 +10,7 @@ pub fn has_normal(file: &RimFile<'_>) -> bool
     requires { length_wrong file.now.bytes.now ≡ false }
     ensures { result ≡ normal_lost file.now.bytes.now }
 {
+    // A loop, as `any` is not proved over these numbers: its function asks that each names a record of the file.
     let count = file.record_count();
     for k in 1..=count {
         if !file.normal_at(file.record_start(k)).is_none() {

@@ -33,6 +33,7 @@ fn write_records(file: &RimFile<'_>, target: Edition, out: &mut [u8])
         ≡ sets out.old ((layout_in target).header + header_size) (over 1 (suc (record_count file.now.bytes.now)) (λ k. record_bytes
         file.now.bytes.now k ++ ending_in (layout_in target))) }
 {
+    // Records go by number, as in the file: they have other sizes and places there than here.
     let count = file.record_count();
     for k in 1..=count {
         let from = file.record_start(k);

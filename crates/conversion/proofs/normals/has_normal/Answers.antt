@@ -1,7 +1,7 @@
 -- `conversion::normals::has_normal` meets its contract: what is left of the test is the whole test. Assumes nothing.
 use mathlib.Core.Path.{◌≡◌, refl, sym, ap, ◌∙◌}
 use mathlib.Core.Bool.{not}
-use Prim.Native.Nat.{ℕ, suc, ◌+◌, ◌<◌}
+use Prim.Native.Nat.{ℕ, suc, ◌+◌, ◌≤◌, ◌<◌}
 use native.Mathlib.Omega.{arith}
 use Rattle.lists.proofs.Ranges.{some_on, some_stop, some_end}
 use Rattle.polygon.specs.Normal.{is_none}
@@ -16,7 +16,7 @@ use Rattle.conversion.proofs.normals.has_normal.Goals as goal
 -- what the test says of record k
 module _ (c : goal.After-is_none) where
   inside : c.loop-k.k < suc (record_count c.args.file.now.bytes.now)
-  inside = omega (arith, c.record_count-count.ensures.0, c.loop-k-test.true)
+  inside = omega (arith, c.record_count-count.ensures.0)
 
   tested : not (is_none (normal_in c.args.file.now.bytes.now (offset c.args.file.now.bytes.now c.loop-k.k))) ≡ not c.is_none.result
   tested =
@@ -33,7 +33,8 @@ loop-k-init c = (omega arith, refl)
 pub normal_at-requires : goal.normal_at-requires
 normal_at-requires c =
     let k = c.loop-k in
-    (held _ c.requires (λ z. omega (arith, z, k.auto.k)) c.record_count-count.ensures.0 c.loop-k-test.true c.record_start.ensures).whole
+    let in_file : k.k ≤ c.record_count-count.result = omega arith in
+    (held _ c.requires (λ z. omega (arith, z, k.auto.k)) c.record_count-count.ensures.0 in_file c.record_start.ensures).whole
 
 pub returns-then-not-is_none : goal.returns-then-not-is_none
 unfolding normal_lost

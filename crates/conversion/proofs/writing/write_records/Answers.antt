@@ -24,7 +24,7 @@ room c =
       c.record_start-to.ensures,
       c.requires.long,
       piece_end (layout_in c.args.target).record_size c.loop-k.k (record_count c.args.file.now.bytes.now) c.loop-k.invariant.0
-          (omega (arith, c.record_count-count.ensures.0, c.loop-k-test.true)),
+          (omega (arith, c.record_count-count.ensures.0)),
     )
 
 copied_length : (c : goal.After-copy) → length c.copy.new.out ≡ length c.loop-k.out
@@ -41,7 +41,7 @@ stored c =
     let size : record_size1 + length (ending_in target) ≡ target.record_size =
     omega (arith, (edition_bounds c.args.target).least, length-replicate {A = ℕ} (target.record_size - record_size1) 0) in
     record_stored s (whole _ c.requires.right) (ending_in target) c.args.out.now (target.header + header_size) l.k c.record_start-to.result
-    l.invariant.0 (omega (arith, c.record_count-count.ensures.0, c.loop-k-test.true)) l.invariant.3 c.record_start-from.ensures
+    l.invariant.0 (omega (arith, c.record_count-count.ensures.0)) l.invariant.3 c.record_start-from.ensures
     (c.record_start-to.ensures ∙ ap (λ (z : ℕ). target.header + header_size + z * (l.k - 1)) (sym size)) refl c.copy.ensures
     (c.fill.ensures ∙ ap (λ (m : Layout). sets c.copy.new.out (c.record_start-to.result + record_size1) (ending_in m)) c.layout.ensures)
 
@@ -54,8 +54,9 @@ loop-k-init c = (omega arith, omega arith, refl, refl)
 
 pub copy-requires : goal.copy-requires
 copy-requires c =
-    let p = (goal.at.copy-requires c).After-record_start-to in (
-      (held _ c.requires.right (λ z. omega (arith, z, c.loop-k.auto.k)) c.record_count-count.ensures.0 c.loop-k-test.true c.record_start-from.ensures).start,
+    let p = (goal.at.copy-requires c).After-record_start-to in
+    let in_file : c.loop-k.k ≤ c.record_count-count.result = omega arith in (
+      (held _ c.requires.right (λ z. omega (arith, z, c.loop-k.auto.k)) c.record_count-count.ensures.0 in_file c.record_start-from.ensures).start,
       omega (arith, room p, (edition_bounds c.args.target).least, c.loop-k.invariant.2),
     )
 
@@ -69,7 +70,7 @@ pub loop-k-preserved : goal.loop-k-preserved
 loop-k-preserved c =
     let q = (goal.at.loop-k-preserved c).After-copy in (
       omega arith,
-      omega (arith, c.record_count-count.ensures.0, c.loop-k-test.true),
+      omega (arith, c.record_count-count.ensures.0),
       (simp length-sets at (ap length c.fill.ensures)) ∙ copied_length q ∙ c.loop-k.invariant.2,
       stored (goal.at.loop-k-preserved c).After-fill,
     )
@@ -79,6 +80,6 @@ pub returns-2 : goal.returns-2
 returns-2 c =
     let s = c.args.file.now.bytes.now in
     let target = layout_in c.args.target in
-    let e : c.loop-k.k + 1 ≡ suc (record_count s) = omega (arith, c.record_count-count.ensures.0, c.loop-k-test.true) in
+    let e : c.loop-k.k + 1 ≡ suc (record_count s) = omega (arith, c.record_count-count.ensures.0) in
     stored (goal.at.returns-2 c).After-fill
     ∙ ap (λ (k : ℕ). sets c.args.out.now (target.header + header_size) (over 1 k (λ k. record_bytes s k ++ ending_in target))) e
