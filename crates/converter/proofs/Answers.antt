@@ -21,8 +21,7 @@ use Rattle.rim_file.specs.File.{edition_of}
 use Rattle.rim_file.specs.declared.edition.Edition.{Edition}
 use Rattle.conversion.specs.Converted.{converted}
 use Rattle.conversion.specs.Steps.{target_of}
-use Rattle.conversion.proofs.Targets.{carried}
-use Rattle.converter.specs.Call.{Conversion, values, values_of, conversion_code, conversion_number, number_due, due_values, Converting, converting, convert_by, convert_call}
+use Rattle.converter.specs.Call.{conversion_code, conversion_number, converting, convert_by, convert_call}
 
 -- 13 is not due where no number is
 pub not_short : (short lost : Bool) → conversion_code short lost ≡ 0 → short ≡ false
@@ -49,15 +48,6 @@ module _ (file out : List ℕ) where
   taken_by z a b c =
       (λ i. converting (Ok (record { edition = a i; length = b i })) (c i)) ∙ sym (ap (λ (i : ℕ). convert_by i file out) z)
 
-  -- the values of the answer
-  by_values : (n : ℕ) → values_of (convert_by n file out).answer ≡ due_values n file
-  by_values zero = λ i. values 0 ((carried file refl).edition i) (length (converted file))
-  by_values (suc k) = refl
-
-  pub call_values : {r : Conversion} {left : List ℕ} → converting r left ≡ convert_call file out → values_of r ≡ due_values (number_due file out) file
-  unfolding convert_call
-  call_values e = ap (λ (x : Converting). values_of x.answer) e ∙ by_values (number_due file out)
-
   -- the call, by the reader's answer
   pub call_refused : {r : Refusal} → Err r ≡ reading_of max_vertices file → converting (Err r) out ≡ convert_call file out
   unfolding convert_call
@@ -70,11 +60,6 @@ module _ (file out : List ℕ) where
   pub call_read : reader.number_due max_vertices file ≡ 0 → convert_by (conversion_number file out) file out ≡ convert_call file out
   unfolding convert_call
   call_read e = sym (ap (λ (i : ℕ). convert_by (first_due i (conversion_number file out)) file out) e)
-
-  -- both promises from the call's answer
-  pub promised : {r : Conversion} {left : List ℕ} → converting r left ≡ convert_call file out →
-      (converting r left ≡ convert_call file out) × (values_of r ≡ due_values (number_due file out) file)
-  promised e = (e, call_values e)
 
 -- a file that is read
 pub read_zero : (limit : ℕ) (file : List ℕ) {p : Polygon} → Ok p ≡ reading_of limit file → reader.number_due limit file ≡ 0
