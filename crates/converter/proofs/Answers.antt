@@ -17,8 +17,12 @@ use Rattle.reader.specs.Reading.{polygon_of, reading_of}
 use Rattle.polygon.specs.declared.Polygon.{Polygon}
 use Rattle.reader.specs.Reading as reader
 use Rattle.reader.proofs.FirstNumber.{no_number_read}
-use Rattle.conversion.specs.Converted.{converted, other_edition}
-use Rattle.converter.specs.Call.{Conversion, values_of, conversion_code, conversion_number, number_due, due_values, Converting, converting, convert_by, convert_call}
+use Rattle.rim_file.specs.File.{edition_of}
+use Rattle.rim_file.specs.declared.edition.Edition.{Edition}
+use Rattle.conversion.specs.Converted.{converted}
+use Rattle.conversion.specs.Steps.{target_of}
+use Rattle.conversion.proofs.Targets.{carried}
+use Rattle.converter.specs.Call.{Conversion, values, values_of, conversion_code, conversion_number, number_due, due_values, Converting, converting, convert_by, convert_call}
 
 -- 13 is not due where no number is
 pub not_short : (short lost : Bool) → conversion_code short lost ≡ 0 → short ≡ false
@@ -39,7 +43,7 @@ module _ (file out : List ℕ) where
       by zero p = absurd (omega arith)
       by (suc k) p = ap (λ (x : Refusal). converting (Err x) out) p.1
 
-  pub taken_by : {edition size n : ℕ} {left : List ℕ} → n ≡ 0 → edition ≡ other_edition file →
+  pub taken_by : {edition : Edition} {size n : ℕ} {left : List ℕ} → n ≡ 0 → edition ≡ target_of (edition_of file) →
       size ≡ length (converted file) → left ≡ filled (converted file) out →
       converting (Ok (record { edition = edition; length = size })) left ≡ convert_by n file out
   taken_by z a b c =
@@ -47,7 +51,7 @@ module _ (file out : List ℕ) where
 
   -- the values of the answer
   by_values : (n : ℕ) → values_of (convert_by n file out).answer ≡ due_values n file
-  by_values zero = refl
+  by_values zero = λ i. values 0 ((carried file refl).edition i) (length (converted file))
   by_values (suc k) = refl
 
   pub call_values : {r : Conversion} {left : List ℕ} → converting r left ≡ convert_call file out → values_of r ≡ due_values (number_due file out) file

@@ -14,6 +14,8 @@ use Rattle.lists.proofs.Comparing.{same_list, same_list_lem, any_of, any_of_lem}
 use Rattle.grid.specs.Number.{finite, numerator, denominator, negative, in_range, round_eighths}
 use Rattle.polygon.specs.Polygon.{repeated_vertex}
 use Rattle.rim_file.specs.File.{layout_of, length_wrong}
+use Rattle.rim_file.specs.declared.edition.Edition.{Edition}
+use Rattle.rim_file.specs.declared.edition.Edition.TheVariants.{One, Two}
 use Rattle.rim_file.specs.Record.{record_at, numbers_code, vertex_of, normal_in}
 use Rattle.reader.specs.Chain.{link, met_before, height_before, link_code, position_code, code_from, end_from}
 use Rattle.reader.specs.Reading as reader
@@ -59,23 +61,23 @@ pub record Try : Type 0 where
 abbrev try : List ℕ → List ℕ → Converting → Converting → Try
 try file out right wrong = record { file = file; out = out; right = right; wrong = wrong }
 
-abbrev made : ℕ → ℕ → Conversion
+abbrev made : Edition → ℕ → Conversion
 made edition size = Ok (record { edition = edition; length = size })
 
 abbrev pub tries : List Try
 tries =
     -- spare records dropped
-    try (second 2 no_surface) (places 73) (converting (made 1 72) (first 128 ++ places 1))
-    (converting (made 1 56) (header ++ point_then 2 zero_mm zero_mm ++ point_then 3 one_mm zero_mm ++ point_then 0 zero_mm one_mm ++ places 17))
+    try (second 2 no_surface) (places 73) (converting (made One 72) (first 128 ++ places 1))
+    (converting (made One 56) (header ++ point_then 2 zero_mm zero_mm ++ point_then 3 one_mm zero_mm ++ point_then 0 zero_mm one_mm ++ places 17))
     -- a NaN of a spare record made quiet
-    ∷ try (second 2 no_surface) (places 72) (converting (made 1 72) (first 128)) (converting (made 1 72) (first 192))
+    ∷ try (second 2 no_surface) (places 72) (converting (made One 72) (first 128)) (converting (made One 72) (first 192))
     -- 19 for the normals of the chain only
-    ∷ try (second 2 up) (places 73) (converting (Err (refusal 19)) (places 73)) (converting (made 1 72) (first 128 ++ places 1))
+    ∷ try (second 2 up) (places 73) (converting (Err (refusal 19)) (places 73)) (converting (made One 72) (first 128 ++ places 1))
     -- 19 before 13
     ∷ try (second 2 up) (places 71) (converting (Err (refusal 13)) (places 71)) (converting (Err (refusal 19)) (places 71))
     -- the marker left out
-    ∷ try (first 128) (places 99) (converting (made 2 98) (second 2 no_surface ++ places 1))
-    (converting (made 2 96) (second 0 no_surface ++ places 3))
+    ∷ try (first 128) (places 99) (converting (made Two 98) (second 2 no_surface ++ places 1))
+    (converting (made Two 96) (second 0 no_surface ++ places 3))
     ∷ []
 
 pub right_calls : map (λ (t : Try). convert_call t.file t.out) tries ≡ map (λ (t : Try). t.right) tries

@@ -6,6 +6,9 @@ use Rattle.lists.specs.Lists.{filled, first_places}
 use Rattle.terms.specs.Limits.{max_vertices}
 use Rattle.terms.specs.Numbers.{first_due}
 use Rattle.reader.specs.Reading as reader
+use Rattle.rim_file.specs.File.{edition_number}
+use Rattle.rim_file.specs.File as rim
+use Rattle.conversion.specs.Steps.{target_of}
 use Rattle.conversion.specs.Converted.{converted, other_edition, normal_lost}
 use Rattle.converter.specs.declared.Converted.{Converted}
 
@@ -15,7 +18,7 @@ Conversion = Result Converted Refusal
 
 -- the edition of the converted file and its length, in each case of an answer (rule 5.2)
 abbrev pub edition_of : Conversion → ℕ
-edition_of (Ok c) = c.edition
+edition_of (Ok c) = edition_number c.edition
 edition_of (Err r) = 0
 
 abbrev pub converted_length : Conversion → ℕ
@@ -58,9 +61,9 @@ pub record Converting : Type 0 where
 abbrev pub converting : Conversion → List ℕ → Converting
 converting r left = record { answer = r; left = left }
 
--- what a file is converted to (rules 1.15, 5.2)
+-- what a file is converted to (rules 1.15, 5.2): the edition that is not its own, and its length there
 abbrev pub converted_to : List ℕ → Converted
-converted_to file = record { edition = other_edition file; length = length (converted file) }
+converted_to file = record { edition = target_of (rim.edition_of file); length = length (converted file) }
 
 -- the converted file in the first places, every further place as it was (rule 3.9); a number changes no place (rule 4.30)
 abbrev pub convert_by : ℕ → List ℕ → List ℕ → Converting

@@ -9,13 +9,13 @@ ghost use Rattle.converter.specs.Call.{converting, convert_by, convert_call, par
 
 use codes::Refusal;
 use conversion::{normals, writing};
-use rim_file::edition;
+use rim_file::edition::Edition;
+use rim_file::file::RimFile;
 
 // What a file was converted to.
 #[derive(Clone, Copy, Debug, PartialEq, Eq)]
 pub struct Converted {
-    // 1 or 2: a number, since ConvertAnswer of the C interface and `other_edition` have it as one.
-    pub edition: u32,
+    pub edition: Edition,
     // How many bytes were written.
     pub length: usize,
 }
@@ -34,23 +34,17 @@ fn check(short: bool, lost: bool) -> Result<(), Refusal>
 }
 
 // Carries a file on which the reader found no number.
-fn carry(file: &[u8], out: &mut [u8]) -> Result<Converted, Refusal>
-    requires { length_wrong file.now ≡ false }
+fn carry(file: &RimFile<'_>, out: &mut [u8]) -> Result<Converted, Refusal>
+    requires { length_wrong file.now.bytes.now ≡ false }
     ensures { converting result out.new
-        ≡ convert_by (conversion_number file.now out.old) file.now out.old }
+        ≡ convert_by (conversion_number file.now.bytes.now out.old) file.now.bytes.now out.old }
 {
-    let source = edition::layout(file);
-    let target = conversion::target_of(source);
-    let layout = target.layout;
-    let count = edition::record_count(file, source);
-    let length = edition::record_start(layout, count + 1);
-    let lost = normals::has_normal(file, source, count);
+    let edition = conversion::target_of(file.edition);
+    let length = edition.record_start(file.record_count() + 1);
+    let lost = normals::has_normal(file);
     check(out.len() < length, lost)?;
-    writing::write_file(file, source, layout, count, out);
-    Ok(Converted {
-        edition: target.edition,
-        length,
-    })
+    writing::write_file(file, edition, out);
+    Ok(Converted { edition, length })
 }
 
 // The file in the other edition, in the first places of the output table. Numbers 1 to 11 and 18, then 13, then 19.
@@ -59,7 +53,7 @@ pub fn convert(file: &[u8], out: &mut [u8]) -> Result<Converted, Refusal>
     ensures values { values_of result ≡ due_values (number_due file.now out.old) file.now }
 {
     let _polygon = reader::read_polygon(terms::MAX_VERTICES, file)?;
-    carry(file, out)
+    carry(&RimFile::new(file), out)
 }
 
 // The converted file after a call with this answer: the filled part of the output table.

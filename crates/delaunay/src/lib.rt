@@ -18,7 +18,8 @@ fn is_flat(p: Polygon) -> bool
     ensures { result ≡ is_flat p }
 {
     let n = p.n;
-    let lifted = lift_vertices(p, 0);
+    let table = lift_vertices(p, 0);
+    let lifted = &table[..];
     for c in 2..n {
         let pencil = sphere::pencil_through(lifted[1], lifted[c]);
         for seen in &lifted[c + 1..n] {

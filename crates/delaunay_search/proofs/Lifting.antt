@@ -1,11 +1,11 @@
 -- The vertices as seen from one of them, up to the one that comes next. Assumes nothing.
-use mathlib.Core.Path.{◌≡◌, refl, sym, ◌∙◌, subst}
+use mathlib.Core.Path.{◌≡◌, refl, sym, ◌∙◌, ap, subst}
 use mathlib.Core.List.{List}
 use Prim.Native.Nat.{ℕ, zero, suc, ◌+◌, ◌-◌, ◌<◌}
 use native.Mathlib.Omega.{arith}
 use lib.ListN.{length, get_or, set, take, length-set}
 use lib.Seq.{get_or-set_same, get_or-set_other}
-use Rattle.std.proofs.lemmas.List.{length-take-le, get_or-take}
+use Rattle.std.proofs.lemmas.List.{length-take-le, get_or-take, get_or_default}
 use Rattle.terms.specs.Limits.{max_vertices}
 use Rattle.grid.specs.declared.GridPoint.{GridPoint}
 use Rattle.polygon.specs.declared.Polygon.{Polygon}
@@ -35,3 +35,13 @@ seen_long {p} {lifted = lifted} valid l = length-take-le p.n lifted (omega (arit
 
 pub seen_at : (p : Polygon) (lifted : List Lifted) (v : ℕ) → v < p.n → get_or (take p.n lifted) v unlifted ≡ get_or lifted v unlifted
 seen_at p lifted v h = get_or-take p.n lifted v unlifted h
+
+-- an element as indexing reads it, with any default, in what a call promises of it
+pub read : {B : Type 0} {p : Polygon} {a : ℕ} {lifted : List Lifted} (f : Lifted → B) {b : B} → ValidPolygon p → Lifts p a lifted →
+    (v : ℕ) → v < p.n → (x : Lifted) → b ≡ f (get_or lifted v x) → b ≡ f (get_or lifted v unlifted)
+read {lifted = lifted} f valid l v h x e = e ∙ ap f (get_or_default lifted v x unlifted (omega (arith, valid.most, l.long, h)))
+
+-- an element of the first places, as a loop over them reads it
+pub seen_read : {p : Polygon} {a : ℕ} {lifted : List Lifted} → ValidPolygon p → Lifts p a lifted →
+    (v : ℕ) → v < p.n → (x : Lifted) → x ≡ get_or (take p.n lifted) v x → x ≡ get_or lifted v unlifted
+seen_read {p} {lifted = lifted} valid l v h x e = read (λ (w : Lifted). w) valid l v h x (e ∙ get_or-take p.n lifted v x h)

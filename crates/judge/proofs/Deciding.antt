@@ -3,14 +3,14 @@ use Prim.Native.Nat.{ℕ, ◌-◌, ◌≤◌}
 use mathlib.Core.Path.{◌≡◌, ◌∙◌}
 use mathlib.Core.List.{List}
 use lib.ListN.{length}
-use Rattle.std.proofs.Common.{Ok}
+use Rattle.std.proofs.Common.{Ok, Some}
 use Rattle.codes.specs.Refusals.{or_refused}
 use Rattle.codes.proofs.Refusals.{none_answered}
 use Rattle.jobs.specs.Job.{Job, code_without_triangles}
 use Rattle.terms.proofs.Numbers.{due_on}
 use Rattle.triangulation.specs.Triangulations.{best_key, best}
 use Rattle.triangulation.specs.Problems.{problem_of}
-use Rattle.triangulation.specs.Recursion.{cost_of}
+use Rattle.triangulation.specs.Recursion.{cost_of, key_total}
 use Rattle.minimum_weight.specs.Tables.{WellFormed}
 use Rattle.triangulator.proofs.Accepting.{accepted_well_formed}
 use Rattle.validation.specs.Validation.{list_code}
@@ -33,6 +33,7 @@ module _ (job : Job) (workPlaces : ℕ) (accepted : Ok (tt {0}) ≡ or_refused (
     none_due = due_on _ none_on_job ∙ (none_answered _ listed).0
 
     pub over : (cost_of (best_key (problem_of job)) ≤ stated) × (stated - cost_of (best_key (problem_of job)) ≡ excess_over (best (problem_of job)) stated)
+        × (key_total (best_key (problem_of job)) ≡ Some (cost_of (best_key (problem_of job))))
     over =
         let a = zero_acceptable (problem_of job) list stated (none_answered _ listed).0 in
         excess_by_cost (problem_of job) formed.0.valid a.set a.tiling.tiles stated a.total

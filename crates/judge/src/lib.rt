@@ -17,6 +17,7 @@ pub fn judge(job: &Job, list: &[u16], stated: u64, work: &mut [u64]) -> Result<u
 {
     job.check_without_triangles(work.len())?;
     validation::check_list(job, list, stated)?;
-    let least = triangulator::solver::least(job.n, job.candidates, job.weights, job.rows, work);
+    // A list that is not refused is a triangulation, so there is a least total.
+    let least = triangulator::solver::least(job, work).unwrap();
     Ok(stated - least)
 }

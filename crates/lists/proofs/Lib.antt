@@ -4,7 +4,6 @@ pub mod Ranges
 pub mod Parts
 pub mod Fronts
 pub mod Points
-pub mod Made
 pub mod Pieces
 pub mod Members
 pub mod Maps
@@ -12,3 +11,4 @@ pub mod Flattening
 pub mod Writing
 pub mod Counting
 pub mod Comparing
+pub mod Elements

@@ -9,8 +9,6 @@ ghost use Rattle.pricing.specs.Patch.{patched_at_values, patched_at};
 
 use codes::Refusal;
 use jobs::Job;
-use minimum_weight::NONE;
-use triangulator::solver::Figure;
 use triangulator::{Patch, solver};
 
 // 14, 13, 15, 16 and 17 with no triangle table, then the least total with the number of triangles of its patch.
@@ -20,10 +18,10 @@ pub fn price(job: &Job, work: &mut [u64]) -> Result<Option<Patch>, Refusal>
     ensures values { tiler.values_of result ≡ priced_values (job_in job.now) (length work.old) }
 {
     job.check_without_triangles(work.len())?;
-    let total = solver::least(job.n, job.candidates, job.weights, job.rows, work);
-    if NONE <= total {
+    let found = solver::least(job, work);
+    let Some(total) = found else {
         return Ok(None);
-    }
+    };
     let triangles = job.n - 2;
     Ok(Some(Patch { triangles, total }))
 }
@@ -42,19 +40,10 @@ pub fn patch(
         ≡ patched_at_values (job_in job.now) agreed (length triangles.old) (length work.old) }
 {
     job.check(triangles.len(), work.len())?;
-    let figure = Figure::Agreed(agreed);
-    let least = solver::solve(
-        job.n,
-        job.candidates,
-        job.weights,
-        job.rows,
-        figure,
-        triangles,
-        work,
-    );
-    if NONE <= least {
+    let found = solver::solve(job, Some(agreed), triangles, work);
+    let Some(least) = found else {
         return Ok(None);
-    }
+    };
     if least != agreed {
         return Err(Refusal::NOT_LEAST);
     }

@@ -55,13 +55,13 @@ layout2 = record { header = marker_size; record_size = record_size2 }
 unfoldable pub layout_of : List ℕ → Layout
 layout_of s = cond (is_edition2 s) layout2 layout1
 
--- the two editions by name (rule 1.12): that of a file, the other one, and the layout of each
+-- the two editions by name (rule 1.12): that of a file, and the number and the layout of each
 abbrev pub edition_of : List ℕ → Edition
 edition_of s = cond (is_edition2 s) Two One
 
-abbrev pub other_of : Edition → Edition
-other_of One = Two
-other_of Two = One
+abbrev pub edition_number : Edition → ℕ
+edition_number One = 1
+edition_number Two = 2
 
 abbrev pub layout_in : Edition → Layout
 layout_in One = layout1

@@ -1,6 +1,6 @@
 // The editions of the rim file: which one a file is of, and where each has its numbers.
 ghost use Rattle.std.specs.Prelude.{◌≡◌, ◌+◌, ◌-◌, ◌*◌, ◌^◌, ◌≤◌, ◌<◌};
-ghost use Rattle.rim_file.specs.File.{is_edition2, header_size, edition_of, other_of, layout_in};
+ghost use Rattle.rim_file.specs.File.{is_edition2, header_size, edition_of, edition_number, layout_in};
 
 use crate::{Layout, bytes};
 
@@ -40,13 +40,11 @@ impl Edition {
         }
     }
 
-    pub fn other(self) -> Edition
-        ensures { result ≡ other_of self }
+    // 1 or 2.
+    pub fn number(self) -> u32
+        ensures { result ≡ edition_number self }
     {
-        match self {
-            Edition::One => Edition::Two,
-            Edition::Two => Edition::One,
-        }
+        self as u32
     }
 
     pub fn layout(self) -> Layout

@@ -5,18 +5,17 @@ use mathlib.Core.Bool.{true, false, cond}
 use mathlib.Core.Logic.{inl, ⊎_elim}
 use mathlib.Core.List.{List, [], ◌∷◌}
 use native.Mathlib.Omega.{arith}
-use native.Mathlib.Nat.{eq-or-lt_of_le}
 use lib.ListN.{length, take, drop, get_or, length-drop}
 use lib.Seq.{get_or-take, get_or-drop, length-take-le}
 use lib.Dec.{eqb}
 use Rattle.std.specs.List.{prefix_len}
-use Rattle.std.proofs.lemmas.List.Sums.{prefix_len-le-length, prefix_len_passes, prefix_len_stops}
 use Rattle.lists.specs.Lists.{both}
 use Rattle.lists.proofs.Choice.{true_not_false}
+use Rattle.lists.proofs.Points.{prefix_count}
 use Rattle.terms.specs.Entries.{entry_at, outer, inner, row_weight}
 use Rattle.triangulation.specs.Problems.{pair_weight}
 use Rattle.rows.specs.Search.{RowsAscend, Run, row_is_before, rows_before}
-use Rattle.rows.proofs.Bisection.{Cut, cut_of, cut_down, cut_count, before_true, before_false, is_before, names_false, skip, none}
+use Rattle.rows.proofs.Bisection.{Cut, cut_of, before_trans, before_true, before_false, is_before, names_false, skip, none}
 
 -- the rows of later outers do not matter
 front : (o i m : ℕ) (rows : List (List ℕ))
@@ -45,43 +44,12 @@ run_start {rows} {t} c = record {
 }
 
 -- so a run ends after as many rows as are before (t + 1, 0) from its start on
-module _ (rows : List (List ℕ)) (t start : ℕ) (sorted : RowsAscend rows) (e : start ≡ rows_before rows t 0) where
-  -- how many rows from the start on are before (t + 1, 0)
-  abbrev more : ℕ
-  more = prefix_len (λ r. row_is_before r (t + 1) 0) (drop start rows)
-
-  from : Cut rows (t + 1) 0 start (length rows)
-  from = run_start (cut_of t 0 rows sorted e)
-
-  passes : (k : ℕ) → k < start + more → row_is_before (entry_at rows k) (t + 1) 0 ≡ true
-  passes k h = go (start - k) refl
-    where
-      go : (d : ℕ) → start - k ≡ d → row_is_before (entry_at rows k) (t + 1) 0 ≡ true
-      go zero z =
-          let at : start + (k - start) ≡ k = omega arith in
-          ap (λ r. row_is_before r (t + 1) 0) (ap (λ m. get_or rows m []) (sym at) ∙ sym (get_or-drop start rows (k - start) []))
-          ∙ prefix_len_passes (λ r. row_is_before r (t + 1) 0) (drop start rows) (k - start) [] (omega arith)
-      go (suc d) z = from.left k (omega arith)
-
-  stops : start + more < length rows → row_is_before (entry_at rows (start + more)) (t + 1) 0 ≡ false
-  stops h =
-      ap (λ r. row_is_before r (t + 1) 0) (sym (get_or-drop start rows more []))
-      ∙ prefix_len_stops (λ r. row_is_before r (t + 1) 0) (drop start rows) [] (omega (arith, length-drop start rows))
-
-  passed : Cut rows (t + 1) 0 (start + more) (length rows)
-  passed = record {
-    order = omega (arith, from.order, length-drop start rows, prefix_len-le-length (λ r. row_is_before r (t + 1) 0) (drop start rows));
-    within = omega arith;
-    left = passes;
-    right = λ k h l. absurd (omega arith);
-  }
-
-  pub run_count : start + more ≡ rows_before rows (t + 1) 0
-  run_count =
-      ⊎_elim (λ (z : start + more ≡ length rows). cut_count (t + 1) 0 rows sorted passed (omega arith))
-      (λ (m : start + more < length rows). cut_count (t + 1) 0 rows sorted
-      (cut_down (t + 1) 0 rows sorted (start + more) passed (omega arith) m (stops m)) (omega arith))
-      (eq-or-lt_of_le passed.order)
+-- so the run of t ends after as many rows as are before (t + 1, 0) from its start on
+pub run_count : (rows : List (List ℕ)) (t start : ℕ) → RowsAscend rows → start ≡ rows_before rows t 0
+    → start + prefix_len (λ r. row_is_before r (t + 1) 0) (drop start rows) ≡ rows_before rows (t + 1) 0
+run_count rows t start sorted e =
+    let c = cut_of t 0 rows sorted e in
+    prefix_count (λ r. row_is_before r (t + 1) 0) rows [] start (run_start c).left (before_trans (t + 1) 0 rows sorted) c.within
 
 module _ {rows : List (List ℕ)} (t : ℕ) {first last : ℕ} (sorted : RowsAscend rows) (start : first ≡ rows_before rows t 0)
     (end : last ≡ rows_before rows (t + 1) 0) where

@@ -10,7 +10,7 @@ ghost use Rattle.minimum_weight.specs.Tables.{WellFormed};
 ghost use Rattle.triangulator.specs.Call.{triangles_of, total_of, values_of, answer_values, part_of, result_of, settled};
 
 use codes::Refusal;
-use solver::Figure;
+use jobs::Job;
 
 // The number of triangles of a patch, and its total. A call that patches or prices answers one, none where no triangulation is there, or a refusal.
 #[derive(Clone, Copy, Debug, PartialEq, Eq)]
@@ -55,10 +55,16 @@ pub fn best_triangulation(
         (length candidates.now) triangles.old work.old }
     ensures values { values_of result ≡ answer_values n (best (problem_from n candidates.now weights.now rows.now)) }
 {
-    let least = solver::solve(n, candidates, weights, rows, Figure::Any, triangles, work);
-    if minimum_weight::NONE <= least {
+    let job = Job {
+        n,
+        candidates,
+        weights,
+        rows,
+    };
+    let found = solver::solve(&job, None, triangles, work);
+    let Some(least) = found else {
         return Ok(None);
-    }
+    };
     Ok(Some(Patch {
         triangles: n - 2,
         total: least,

@@ -6,7 +6,7 @@ use Prim.Native.Nat.{ℕ, ◌+◌, ◌<◌}
 use native.Mathlib.Omega.{arith}
 use Rattle.lists.specs.Lists.{when}
 use Rattle.lists.proofs.Ranges.{over_step, over_end}
-use Rattle.lists.proofs.Counting.{count_start, count_turn, count_push, count_moved, count_all}
+use Rattle.lists.proofs.Counting.{count_turn, count_push, count_moved, count_all}
 use Rattle.faces.specs.Masks.{has}
 use Rattle.hinges.proofs.count_beneath.Invariants.{from}
 use Rattle.hinges.proofs.count_beneath.Goals.{then-contains, else-contains}
@@ -14,9 +14,6 @@ use Rattle.hinges.proofs.count_beneath.Goals as goal
 
 one : (P : ℕ → ℕ → ℕ → Bool) (i j x : ℕ) {t : Bool} → x < j → t ≡ P i x j → from P i j x ≡ when t x ++ from P i j (x + 1)
 one P i j x h e = over_step x j _ h ∙ ap (λ (t : Bool). when t x ++ from P i j (x + 1)) (sym e)
-
-pub loop-x-init : goal.loop-x-init
-loop-x-init c = (omega arith, count_start _)
 
 pub loop-x-preserved : goal.loop-x-preserved
 loop-x-preserved c =

@@ -5,7 +5,7 @@ use mathlib.Core.List.{◌++◌}
 use Prim.Native.Nat.{ℕ, ◌+◌, ◌≤◌}
 use native.Mathlib.Omega.{arith}
 use lib.ListN.{length, length-append}
-use Rattle.lists.proofs.Counting.{Counting, count_start, count_turn, count_part, count_moved, count_all}
+use Rattle.lists.proofs.Counting.{Counting, count_turn, count_part, count_moved, count_all}
 use Rattle.faces.specs.Masks.{has}
 use Rattle.faces.proofs.Triples.{left1, left3, into2, into3, out1, out2, out3}
 use Rattle.hinges.specs.Hinges.{beneath, max_pairs}
@@ -37,9 +37,6 @@ few :
     y ≡ length (beneath (has s.args.set.now) s.loop-b.b s.loop-c.c) →
     s.loop-c.count + (x + y) ≤ max_pairs
 few s t on-x beside-y = omega (arith, (counted s t on-x beside-y).sum, pairs_bound s.args.n (has s.args.set.now) s.requires)
-
-pub loop-a-init : goal.loop-a-init
-loop-a-init c = count_start _
 
 pub loop-b-init : goal.loop-b-init
 loop-b-init c = count_turn (into2 _ _ _ (omega arith)) c.loop-a.invariant

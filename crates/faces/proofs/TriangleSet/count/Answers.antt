@@ -2,15 +2,12 @@
 use mathlib.Core.Path.{sym, ◌∙◌}
 use mathlib.Core.Bool.{true, false}
 use native.Mathlib.Omega.{arith}
-use Rattle.lists.proofs.Counting.{count_start, count_turn, count_push, count_moved, count_all}
+use Rattle.lists.proofs.Counting.{count_turn, count_push, count_moved, count_all}
 use Rattle.faces.specs.Masks.{has}
 use Rattle.faces.proofs.Sets.{triples_bound}
 use Rattle.faces.proofs.Triples.{into2, into3, out1, out2, out3, listed, next_listed}
 use Rattle.faces.proofs.TriangleSet.count.Goals.{then-contains, else-contains}
 use Rattle.faces.proofs.TriangleSet.count.Goals as goal
-
-pub loop-i-init : goal.loop-i-init
-loop-i-init c = count_start _
 
 pub loop-j-init : goal.loop-j-init
 loop-j-init c = count_turn (into2 _ _ _ (omega arith)) c.loop-i.invariant

@@ -5,7 +5,7 @@ use mathlib.Core.List.{◌∷◌}
 use Prim.Native.Nat.{◌+◌}
 use native.Mathlib.Omega.{arith}
 use Rattle.lists.proofs.Ranges.{over_step, over_more, over_end, over_none}
-use Rattle.lists.proofs.Writing.{Writing, start, turn, enter, leave, place, push, moved, all}
+use Rattle.lists.proofs.Writing.{Writing, turn, enter, leave, place, push, moved, all}
 use Rattle.terms.specs.Entries.{triple}
 use Rattle.faces.specs.Faces.{triples_of}
 use Rattle.faces.specs.Masks.{has}
@@ -23,9 +23,6 @@ written c t =
     turn (next_listed c.args.n (has c.args.self.now) c.loop-a.a c.loop-b.b c.loop-c.c
     {t = true} (omega arith) (sym t ∙ c.contains.ensures)) c.loop-c.invariant
 
-pub loop-a-init : goal.loop-a-init
-loop-a-init c = start _ _ c.requires.1
-
 pub loop-b-init : goal.loop-b-init
 loop-b-init c = enter (over_step _ _ _ (omega arith)) c.loop-a.invariant
 
@@ -34,9 +31,6 @@ loop-c-init c = enter (over_more _ _ _ _ (omega arith)) c.loop-b.invariant
 
 pub bounds-out-count : goal.bounds-out-count
 bounds-out-count c = place (written (goal.at.bounds-out-count c).After-contains c.if-contains.true)
-
-pub overflow_add-count : goal.overflow_add-count
-overflow_add-count c = let h = place (written (goal.at.overflow_add-count c).After-contains c.if-contains.true) in omega arith
 
 pub loop-c-preserved : goal.loop-c-preserved
 loop-c-preserved c =
@@ -54,9 +48,6 @@ loop-b-preserved c = leave (over_none _ _ _ _ (omega arith)) c.loop-b.invariant 
 
 pub loop-a-preserved : goal.loop-a-preserved
 loop-a-preserved c = leave (over_none _ _ _ _ (omega arith)) c.loop-a.invariant c.loop-b.invariant
-
-pub shape_of-out : goal.shape_of-out
-shape_of-out c = c.loop-a.invariant.long
 
 pub returns : goal.returns
 returns c = all (turn (over_end _ _ _ (omega arith)) c.loop-a.invariant)
