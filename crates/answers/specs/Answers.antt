@@ -1,16 +1,13 @@
 -- The numbers that hosts are given of each call's answer (rule 5.6). Definitions only.
 use Rattle.codes.specs.Refusals.{number_of}
-use Rattle.reader.specs.declared.Reading.{Reading}
-use Rattle.reader.specs.Reading.{status_number}
+use Rattle.reader.specs.Reading.{Reading, polygon_in}
 use Rattle.finder.specs.Finding.{Found, candidate_count_of, row_count_of}
 use Rattle.finder.specs.Sizes.{Sizes, places_in}
 use Rattle.triangulator.specs.Call.{triangles_of, total_of, Outcome}
 use Rattle.judge.specs.declared.Judgement.{Judgement}
 use Rattle.judge.specs.Call.{excess_of}
 use Rattle.judge.specs.Call as judge
-use Rattle.converter.specs.declared.Conversion.{Conversion}
-use Rattle.converter.specs.Call.{edition_of, converted_length}
-use Rattle.converter.specs.Call as converter
+use Rattle.converter.specs.Call.{Conversion, edition_of, converted_length}
 use Rattle.answers.specs.declared.PatchAnswer.{PatchAnswer}
 use Rattle.answers.specs.declared.PriceAnswer.{PriceAnswer}
 use Rattle.answers.specs.declared.JudgeAnswer.{JudgeAnswer}
@@ -33,7 +30,7 @@ judge_answer_of j = record { number = judge.number_of j; excess = excess_of j }
 
 -- the reader's number, and how many vertices: 0 in a refusal, whose polygon is the empty one (rule 5.6)
 abbrev pub read_answer_of : Reading → ReadAnswer
-read_answer_of r = record { number = status_number r.status; vertices = r.polygon.n }
+read_answer_of r = record { number = number_of r; vertices = (polygon_in r).n }
 
 -- the finder's number and its two counts (rule 5.6)
 abbrev pub find_answer_of : Found → FindAnswer
@@ -47,4 +44,4 @@ sizes_answer_of s =
 
 -- the number, the edition and the length of a conversion (rule 5.2)
 abbrev pub convert_answer_of : Conversion → ConvertAnswer
-convert_answer_of c = record { number = converter.number_of c; edition = edition_of c; length = converted_length c }
+convert_answer_of c = record { number = number_of c; edition = edition_of c; length = converted_length c }

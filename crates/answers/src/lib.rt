@@ -6,10 +6,10 @@ ghost use Rattle.std.specs.Prelude.{◌≡◌};
 ghost use Rattle.answers.specs.Answers.{patch_answer_of, price_answer_of, judge_answer_of, read_answer_of, find_answer_of, sizes_answer_of, convert_answer_of};
 
 use codes::Refusal;
-use converter::Conversion;
+use converter::Converted;
 use finder::{Counts, Places};
 use judge::Judgement;
-use reader::Reading;
+use polygon::Polygon;
 use triangulator::Patch;
 
 // A patch where the number is 0 and there are triangles, 'none' where both are 0.
@@ -102,14 +102,19 @@ pub fn judge_answer(judgement: Judgement) -> JudgeAnswer
     JudgeAnswer { number, excess }
 }
 
-pub fn read_answer(reading: Reading) -> ReadAnswer
+pub fn read_answer(reading: Result<Polygon, Refusal>) -> ReadAnswer
     ensures { result ≡ read_answer_of reading }
 {
-    let status = reading.status;
-    let polygon = reading.polygon;
-    let number = status.number();
-    let vertices = polygon.n;
-    ReadAnswer { number, vertices }
+    match reading {
+        Ok(polygon) => ReadAnswer {
+            number: 0,
+            vertices: polygon.n,
+        },
+        Err(refusal) => ReadAnswer {
+            number: refusal.number,
+            vertices: 0,
+        },
+    }
 }
 
 pub fn find_answer(found: Result<Counts, Refusal>) -> FindAnswer
@@ -155,15 +160,19 @@ pub fn sizes_answer(sizes: Result<Places, Refusal>) -> SizesAnswer
     }
 }
 
-pub fn convert_answer(conversion: Conversion) -> ConvertAnswer
+pub fn convert_answer(conversion: Result<Converted, Refusal>) -> ConvertAnswer
     ensures { result ≡ convert_answer_of conversion }
 {
-    let number = conversion.number();
-    let edition = conversion.edition();
-    let length = conversion.length();
-    ConvertAnswer {
-        number,
-        edition,
-        length,
+    match conversion {
+        Ok(converted) => ConvertAnswer {
+            number: 0,
+            edition: converted.edition.number(),
+            length: converted.length,
+        },
+        Err(refusal) => ConvertAnswer {
+            number: refusal.number,
+            edition: 0,
+            length: 0,
+        },
     }
 }

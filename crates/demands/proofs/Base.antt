@@ -5,6 +5,8 @@ use mathlib.Core.Bool.{false}
 use mathlib.Core.List.{List, map}
 use Prim.Native.Nat.{ℕ, zero, suc}
 use native.Mathlib.Omega.{arith}
+use Rattle.std.specs.Prelude.{IsOk, is_ok}
+use Rattle.codes.specs.Refusals.{or_refused}
 use Rattle.polygon.specs.declared.Polygon.{Polygon}
 use Rattle.polygon.specs.declared.normal.Normal.{Normal}
 use Rattle.terms.proofs.Numbers.{due_neither}
@@ -12,12 +14,11 @@ use Rattle.polygon.specs.Normal.{no_normal, is_none}
 use Rattle.rim_file.specs.File.{is_edition2, offset}
 use Rattle.rim_file.specs.Editions.{SameRim}
 use Rattle.rim_file.proofs.Normals.{normal_1, normal_2}
-use Rattle.reader.specs.declared.Status.TheVariants.{Complete}
 use Rattle.reader.specs.Due.{InFile, HasNormal, held, none}
 use Rattle.reader.specs.Chain.{link}
-use Rattle.reader.specs.Reading.{answer, polygon_of, reading_of}
+use Rattle.reader.specs.Reading.{polygon_of, reading_of}
 use Rattle.reader.specs.Reading as reader
-use Rattle.reader.proofs.Accepted.{read_normals, read_records}
+use Rattle.reader.proofs.Accepted.{complete_polygon, read_normals, read_records}
 use Rattle.delaunay.specs.Candidates.{candidates_of}
 use Rattle.weights.specs.Weights.{area_weight, own_weight}
 use Rattle.weights.proofs.RimEdges.{no_bends}
@@ -39,9 +40,8 @@ module _ (limit : ℕ) (file : List ℕ) where
   module _ (zeros : ZeroNormals file) where
     bare_read : reader.number_due limit file ≡ 0 → NoSurface (polygon_of file)
     bare_read e =
-        let complete : (reading_of limit file).status ≡ Complete = ap (λ (k : ℕ). (answer k (polygon_of file)).status) e in
-        let same : (reading_of limit file).polygon ≡ polygon_of file = ap (λ (k : ℕ). (answer k (polygon_of file)).polygon) e in
-        subst (λ (p : Polygon). NoSurface p) same
+        let complete : IsOk (reading_of limit file) = ap (λ (k : ℕ). is_ok (or_refused k (polygon_of file))) e in
+        subst (λ (p : Polygon). NoSurface p) (complete_polygon limit file complete)
         (record { none = λ i h. zero_normal_lem i ((read_records limit file complete).in_file i h) (read_normals limit file complete i h) })
       where
         zero_normal_lem : (i : ℕ) {q : Normal} → InFile file (link file i) → HasNormal file i q → q ≡ no_normal

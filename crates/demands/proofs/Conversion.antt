@@ -6,7 +6,8 @@ use mathlib.Core.List.{List}
 use Prim.Native.Nat.{ℕ}
 use Rattle.terms.specs.Numbers.{first_due}
 use Rattle.rim_file.specs.Editions.{SameRim}
-use Rattle.reader.specs.declared.Reading.{Reading}
+use Rattle.codes.specs.Refusals.{number_of}
+use Rattle.reader.specs.Reading.{polygon_in}
 use Rattle.reader.proofs.Editions.{number_same, polygon_same, reading_same}
 use Rattle.delaunay.specs.Candidates.{candidates_of}
 use Rattle.finder.specs.Finding.{number_due}
@@ -14,7 +15,7 @@ use Rattle.finder.specs.Sizes.{sizes_by}
 use Rattle.pipeline.specs.Patching.{weights_in, rows_in, polygon_number, patch_by, patch_file}
 use Rattle.pipeline.specs.Sizes.{sizes_file}
 use Rattle.pipeline.proofs.Files.{lists_alike}
-use Rattle.converter.specs.Call.{number_of, convert_call, handed_over}
+use Rattle.converter.specs.Call.{convert_call, handed_over}
 use Rattle.converter.proofs.Demands.{same_rim}
 use Rattle.demands.specs.Conversion.{SameAnswers}
 
@@ -26,9 +27,9 @@ same_answers {s} {t} r limit =
     let g = reading_same r limit in
     record {
       reading = g;
-      candidates = ap (λ (x : Reading). candidates_of x.polygon) g;
-      weights = ap (λ (x : Reading). weights_in x.polygon) g;
-      rows = ap (λ (x : Reading). rows_in x.polygon) g;
+      candidates = λ i. candidates_of (polygon_in (g i));
+      weights = λ i. weights_in (polygon_in (g i));
+      rows = λ i. rows_in (polygon_in (g i));
       sizes = λ i. sizes_by (first_due (n i) (number_due false (p i))) (p i);
       lists = lists_alike limit limit s t g;
       patch = λ lent i. patch_by (first_due (n i) (polygon_number (p i) lent)) (p i) lent;

@@ -7,21 +7,22 @@ use Prim.Native.Nat.{ℕ, zero, suc}
 use native.Mathlib.Omega.{arith}
 use borrow.Author.Tests.{eq-eqb}
 use lib.Dec.{eqb}
+use Rattle.std.specs.Prelude.{IsOk, is_ok}
+use Rattle.codes.specs.Refusals.{or_refused}
 use Rattle.lists.proofs.Choice.{Truth, holds, fails, truth, yes, no, true_not_false}
 use Rattle.polygon.specs.declared.Polygon.{Polygon}
 use Rattle.polygon.specs.Polygon.{code_of, ValidPolygon, empty_polygon}
 use Rattle.polygon.proofs.Validity.{valid_code}
 use Rattle.terms.specs.Numbers.{first_due}
 use Rattle.rim_file.specs.File.{Bytes}
-use Rattle.reader.specs.declared.Status.TheVariants.{Complete}
 use Rattle.reader.specs.Order.{FilePlace, rim, Precedes, by_number, by_place, First, NoneDue}
 use Rattle.reader.specs.Due.{FileDue}
-use Rattle.reader.specs.Reading.{polygon_of, answer, reading_of}
+use Rattle.reader.specs.Reading.{polygon_of, reading_of}
 use Rattle.reader.specs.Reading as reader
 use Rattle.reader.proofs.Order.{none_first, Verdict, first_due_lem, none_due}
 use Rattle.reader.proofs.FirstNumber.{number_first}
 use Rattle.reader.proofs.Demand1.{read_only_when, refused_empty}
-use Rattle.reader.proofs.Accepted.{read_valid}
+use Rattle.reader.proofs.Accepted.{complete_polygon, read_valid}
 use Rattle.delaunay.specs.Candidates.{degenerate}
 use Rattle.finder.specs.Finding.{number_due}
 use Rattle.demands.specs.Candidates.{Degenerate, by_sphere, by_circle}
@@ -47,11 +48,11 @@ twelve_first limit file Short none d = record { place = rim; is_due = twelve d; 
 
 -- what a file that is read has
 module _ (limit : ℕ) (file : List ℕ) (e : reader.number_due limit file ≡ 0) where
-  complete : (reading_of limit file).status ≡ Complete
-  complete = ap (λ (k : ℕ). (answer k (polygon_of file)).status) e
+  complete : IsOk (reading_of limit file)
+  complete = ap (λ (k : ℕ). is_ok (or_refused k (polygon_of file))) e
 
   pub polygon_is : polygon_in limit file ≡ polygon_of file
-  polygon_is = ap (λ (k : ℕ). (answer k (polygon_of file)).polygon) e
+  polygon_is = complete_polygon limit file complete
 
   pub polygon_valid : Bytes file → ValidPolygon (polygon_in limit file)
   polygon_valid bytes = read_valid limit file complete bytes

@@ -12,12 +12,11 @@ use Rattle.terms.specs.Numbers.{first_due}
 use Rattle.rim_file.specs.File.{Bytes}
 use Rattle.reader.specs.Order.{FilePlace, request, Precedes, by_number, by_place}
 use Rattle.reader.specs.Due.{HasRecords, ChainAtMost, limit_wrong}
-use Rattle.reader.specs.Reading.{polygon_of, reading_of}
-use Rattle.reader.specs.declared.Status.TheVariants.{Complete}
+use Rattle.reader.specs.Reading.{polygon_of, reading_of, polygon_in}
 use Rattle.reader.proofs.Limits.{number_alike, reading_alike, number_over, read_at_most, due_5, due_20}
 use Rattle.reader.proofs.Accepted.{within_limit}
 use Rattle.finder.specs.Finding.{number_due}
-use Rattle.std.specs.Prelude.{Err}
+use Rattle.std.specs.Prelude.{Err, IsOk}
 use Rattle.finder.specs.Sizes.{sizes_by}
 use Rattle.pipeline.specs.Patching.{Tables, refused, patch_by, polygon_number, patch_file}
 use Rattle.pipeline.specs.Sizes.{sizes_file}
@@ -42,15 +41,15 @@ module _ {small large : ℕ} (least : min_vertices ≤ small) (below : small ≤
       }
 
   -- a rim that is read with the smaller limit
-  pub smaller_read : (reading_of small file).status ≡ Complete → OneAnswer small large file
+  pub smaller_read : IsOk (reading_of small file) → OneAnswer small large file
   smaller_read complete = one_answer (read_at_most small file complete (within_limit small file complete))
 
   -- a rim that is read with the larger limit: one answer where it has no more vertices than the smaller, else 20
-  module _ (complete : (reading_of large file).status ≡ Complete) where
-    pub fewer_vertices : (reading_of large file).polygon.n ≤ small → OneAnswer small large file
+  module _ (complete : IsOk (reading_of large file)) where
+    pub fewer_vertices : (polygon_in (reading_of large file)).n ≤ small → OneAnswer small large file
     fewer_vertices few = one_answer (read_at_most large file complete few)
 
-    module _ (more : small < (reading_of large file).polygon.n) where
+    module _ (more : small < (polygon_in (reading_of large file)).n) where
       pub more_vertices : (lent : Tables) → patch_file small file lent ≡ refused 20 lent
       unfolding patch_file
       more_vertices lent =

@@ -4,6 +4,7 @@ use Rattle.polygon.specs.declared.Polygon.{Polygon}
 use Rattle.reader.specs.Order.{FilePlace, rim}
 use Rattle.reader.specs.Due.{FileDue}
 use Rattle.reader.specs.Reading.{reading_of}
+use Rattle.reader.specs.Reading as reader
 use Rattle.finder.specs.declared.Places.{Places}
 use Rattle.finder.specs.Sizes.{places_of}
 use Rattle.pipeline.specs.Patching.{Tables}
@@ -12,7 +13,7 @@ use Rattle.demands.specs.Candidates.{Degenerate}
 -- the polygon of a file read with a limit: its vertices are what the records give (`read_vertices` of reader/proofs/Accepted.antt), and none where the
 -- reader refuses the file, so that 12 and 13 are asked only of what there is (rule 4.31)
 abbrev pub polygon_in : ℕ → List ℕ → Polygon
-polygon_in limit file = (reading_of limit file).polygon
+polygon_in limit file = reader.polygon_in (reading_of limit file)
 
 -- one of the tables has fewer places than these (rule 4.13)
 pub data TooShort (needed : Places) (t : Tables) : Type 0 where

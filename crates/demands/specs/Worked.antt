@@ -7,9 +7,7 @@ use Rattle.terms.specs.Limits.{max_vertices}
 use Rattle.terms.specs.Entries.{triple}
 use Rattle.grid.specs.declared.GridPoint.{GridPoint}
 use Rattle.grid.specs.Point.{point}
-use Rattle.grid.specs.declared.GridNumber.{GridNumber}
-use Rattle.grid.specs.declared.GridNumber.TheVariants as grid-number
-use Rattle.grid.specs.Number.{grid_number_of}
+use Rattle.grid.specs.Number.{GridNumber, grid_number_of}
 use Rattle.geometry.specs.declared.Vector.{Vector}
 use Rattle.geometry.specs.Faces.{bend_of, bend_between}
 use Rattle.polygon.specs.declared.Polygon.{Polygon}
@@ -112,7 +110,7 @@ lent t c r = tables (replicate t 9) (replicate c (triple 9 9 9)) (replicate c 9)
 
 -- the float of these bits has this grid number
 abbrev pub rounds : ℕ → ℤ → Case
-rounds bits number = case (of_float (grid_number_of (of_bits binary32 bits))) (of_float (grid-number.Value number))
+rounds bits number = case (of_float (grid_number_of (of_bits binary32 bits))) (of_float (Ok number))
 
 -- the judge's answer to a list and a total
 abbrev pub judges : Job → List ℕ → ℕ → judge.Result → Case

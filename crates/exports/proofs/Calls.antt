@@ -8,8 +8,7 @@ use Rattle.pricing.specs.Quote as price
 use Rattle.judge.specs.declared.Judgement.{Judgement}
 use Rattle.judge.specs.Call as judge
 use Rattle.pipeline.specs.Patching.{Tables, Patching, patching}
-use Rattle.converter.specs.declared.Conversion.{Conversion}
-use Rattle.converter.specs.Call.{Converting, converting}
+use Rattle.converter.specs.Call.{Conversion, Converting, converting}
 use Rattle.answers.specs.declared.ConvertAnswer.{ConvertAnswer}
 use Rattle.answers.specs.declared.FindAnswer.{FindAnswer}
 use Rattle.answers.specs.declared.JudgeAnswer.{JudgeAnswer}
