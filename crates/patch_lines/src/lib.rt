@@ -48,67 +48,68 @@ pub fn vertices_of(outcome: &Result<Option<Patch>, Refusal>) -> usize
     }
 }
 
-// Candidate t, three zeros where there is none.
-fn candidate_at(candidates: &[[u8; 3]], t: usize) -> [u8; 3]
-    ensures { result ≡ get_or candidates.now t (triple 0 0 0) }
-{
-    candidates.get(t).copied().unwrap_or([0, 0, 0])
+// A patch, and the lists of the job that it is of.
+#[derive(Clone, Copy)]
+pub struct Listing<'a> {
+    pub candidates: &'a [[u8; 3]],
+    pub weights: &'a [u32],
+    pub rows: &'a [[u32; 3]],
+    pub patch: &'a [u16],
+    // So a row is found by its pair.
+    pub ghost rows_ascend: { RowsAscend rows.now },
 }
 
-// The row weight of t and the triangle of the patch that it hangs on, 0 where it hangs on none.
-fn row_under(candidates: &[[u8; 3]], rows: &[[u32; 3]], patch: &[u16], t: usize) -> u32
-    requires { RowsAscend rows.now }
-    ensures { result ≡ row_under candidates.now rows.now patch.now t }
-{
-    let inner = candidate_at(candidates, t);
-    for triangle in patch {
-        let o = usize::from(*triangle);
-        let outer = candidate_at(candidates, o);
-        if hangs_on(inner, outer) {
-            return rows::row_weight(rows, o, t);
+impl Listing<'_> {
+    // Candidate t, three zeros where there is none.
+    fn candidate(&self, t: usize) -> [u8; 3]
+        ensures { result ≡ get_or self.now.candidates.now t (triple 0 0 0) }
+    {
+        self.candidates.get(t).copied().unwrap_or([0, 0, 0])
+    }
+
+    // The row weight of t and the triangle of the patch that it hangs on, 0 where it hangs on none.
+    fn row_under(&self, t: usize) -> u32
+        ensures { result ≡ row_under self.now.candidates.now self.now.rows.now self.now.patch.now t }
+    {
+        let inner = self.candidate(t);
+        for triangle in self.patch {
+            let o = usize::from(*triangle);
+            let outer = self.candidate(o);
+            if hangs_on(inner, outer) {
+                return rows::row_weight(self.rows, o, t);
+            }
+        }
+        0
+    }
+
+    // The line of candidate t of the patch.
+    fn line(&self, t: usize) -> Line
+        ensures { result ≡ line_of self.now.candidates.now self.now.weights.now self.now.rows.now self.now.patch.now t }
+    {
+        let triangle = self.candidate(t);
+        let weight = self.weights.get(t).copied().unwrap_or(0);
+        let row = self.row_under(t);
+        Line {
+            a: triangle[0],
+            b: triangle[1],
+            c: triangle[2],
+            weight,
+            row,
         }
     }
-    0
-}
 
-// The line of candidate t of the patch.
-fn line_of(
-    candidates: &[[u8; 3]],
-    weights: &[u32],
-    rows: &[[u32; 3]],
-    patch: &[u16],
-    t: usize,
-) -> Line
-    requires { RowsAscend rows.now }
-    ensures { result ≡ line_of candidates.now weights.now rows.now patch.now t }
-{
-    let triangle = candidate_at(candidates, t);
-    let weight = weights.get(t).copied().unwrap_or(0);
-    let row = row_under(candidates, rows, patch, t);
-    Line {
-        a: triangle[0],
-        b: triangle[1],
-        c: triangle[2],
-        weight,
-        row,
+    // The lines of the patch in walk order; the places after them hold zeros.
+    pub fn lines(&self) -> [Line; TRIANGLES]
+        requires { length self.now.patch.now ≤ line_places }
+        ensures { result
+            ≡ in_places (lines_of self.now.candidates.now self.now.weights.now self.now.rows.now self.now.patch.now) }
+    {
+        let mut lines = [Line::default(); TRIANGLES];
+        for (k, t) in self.patch.iter().enumerate() {
+            lines[k] = self.line(usize::from(*t));
+        }
+        lines
     }
-}
-
-// The lines of a patch in walk order; the places after them hold zeros.
-pub fn lines_of(
-    candidates: &[[u8; 3]],
-    weights: &[u32],
-    rows: &[[u32; 3]],
-    patch: &[u16],
-) -> [Line; TRIANGLES]
-    requires { RowsAscend rows.now × (length patch.now ≤ line_places) }
-    ensures { result ≡ in_places (lines_of candidates.now weights.now rows.now patch.now) }
-{
-    let mut lines = [Line::default(); TRIANGLES];
-    for (k, t) in patch.iter().enumerate() {
-        lines[k] = line_of(candidates, weights, rows, patch, usize::from(*t));
-    }
-    lines
 }
 
 // How many rows a table begins with. The places after them name candidate 0 twice, as the program made them; no candidate hangs on itself, so no row does.

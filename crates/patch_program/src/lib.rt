@@ -8,7 +8,7 @@ ghost use Rattle.patch_program.specs.Run.{empty_tables};
 ghost use Rattle.patch_program.specs.Printing.{printout_of};
 
 use codes::Refusal;
-use patch_lines::{Line, TRIANGLES};
+use patch_lines::{Line, Listing, TRIANGLES};
 use programs::input;
 use std::io::Read;
 use std::{fmt, io};
@@ -65,7 +65,13 @@ pub fn printout_of(limit: usize, file: &[u8]) -> Printout
     let vertices = patch_lines::vertices_of(&outcome);
     let row_count = patch_lines::row_count(&rows);
     let patch = triangulator::part(&triangles, outcome);
-    let lines = patch_lines::lines_of(&candidates, &weights, &rows[..row_count], patch);
+    let listing = Listing {
+        candidates: &candidates,
+        weights: &weights,
+        rows: &rows[..row_count],
+        patch,
+    };
+    let lines = listing.lines();
     Printout {
         outcome,
         vertices,
