@@ -47,7 +47,8 @@ loop-c-init c = (omega arith, record { pairs = λ k l h i. absurd (omega arith) 
 pub returns-then-ball-ne0 : goal.returns-then-ball-ne0
 returns-then-ball-ne0 c =
     let s = (goal.at.returns-then-ball-ne0 c).In-loop-seen in
-    let e = pair_after c.args.p.n c.loop-c.c c.lift_vertices-table.result (pencil_read (goal.at.returns-then-ball-ne0 c).After-pencil_through-pencil) c.loop-seen.seen-index (seen<n s) in
+    let k = pencil_read (goal.at.returns-then-ball-ne0 c).After-pencil_through-pencil in
+    let e = pair_after c.args.p.n c.loop-c.c c.lift_vertices-table.result k c.loop-seen.seen-index (seen<n s) in
     sym (found_solid c.requires c.lift_vertices-table.ensures c.loop-c.c (c.loop-c.c + 1 + c.loop-seen.seen-index) c.loop-c.invariant.0
     (omega arith) (seen<n s) (sym e ∙ ap (λ (b : Sphere). equal b.orient (pos 0)) (sym (sphere_read (goal.at.returns-then-ball-ne0 c).After-circumsphere-ball))
     ∙ sym (λ i. equal (c.ball.view_is i).orient (pos 0)) ∙ other_bits c.ball.inside.orient c.if-ball-ne0.true))
@@ -55,13 +56,15 @@ returns-then-ball-ne0 c =
 pub loop-seen-preserved : goal.loop-seen-preserved
 loop-seen-preserved c =
     coplanar_with_on (ap (λ (b : Sphere). equal b.orient (pos 0)) (sym (sphere_read (goal.at.loop-seen-preserved c).After-circumsphere-ball))
-    ∙ sym (λ i. equal (c.ball.view_is i).orient (pos 0)) ∙ zero_bits c.ball.inside.orient (signed_fits tt c.ball.invariant.orient_in) c.if-ball-ne0.false) c.loop-seen.invariant
+    ∙ sym (λ i. equal (c.ball.view_is i).orient (pos 0)) ∙ zero_bits c.ball.inside.orient (signed_fits tt c.ball.invariant.orient_in) c.if-ball-ne0.false)
+    c.loop-seen.invariant
 
 pub loop-c-preserved : goal.loop-c-preserved
 loop-c-preserved c =
     let long = after_long c.args.p.n c.loop-c.c c.lift_vertices-table.result (omega (arith, c.requires.most, c.lift_vertices-table.ensures.long)) in (
       omega (arith, c.loop-c.invariant.0),
-      coplanar_on (pair_after c.args.p.n c.loop-c.c c.lift_vertices-table.result (pencil_read (goal.at.loop-c-preserved c).After-pencil_through-pencil)) (omega (arith, long, c.loop-seen-test.false)) c.loop-seen.invariant
+      coplanar_on (pair_after c.args.p.n c.loop-c.c c.lift_vertices-table.result (pencil_read (goal.at.loop-c-preserved c).After-pencil_through-pencil))
+          (omega (arith, long, c.loop-seen-test.false)) c.loop-seen.invariant
           c.loop-c.invariant.1,
     )
 

@@ -31,7 +31,8 @@ use Rattle.delaunay_search.proofs.Placing.{is_inside_lem, not_inside_lem}
 use Rattle.delaunay_tetrahedra.proofs.Corners.{Three, none_counts, flat_is}
 use Rattle.delaunay_tetrahedra.proofs.Tetrahedra.{Hints, has_fifth, Kept, kept_skip, kept_leave, Four, four_dropped, three_left, vertex_passed}
 use Rattle.delaunay_tetrahedra.proofs.Tetrahedra.{four_counts, fifth_passed, four_cospherical, four_marked, twelve_due, all_marked}
-use Rattle.delaunay_tetrahedra.proofs.mark_tetrahedra.Goals.{After-pencil_through-pencil, After-scanned-v, After-locate, After-locate-in-loop-v, At-loop-i, In-loop-v, In-four, In-three}
+use Rattle.delaunay_tetrahedra.proofs.mark_tetrahedra.Goals.{After-pencil_through-pencil, After-scanned-v, After-locate, After-locate-in-loop-v}
+use Rattle.delaunay_tetrahedra.proofs.mark_tetrahedra.Goals.{At-loop-i, In-loop-v, In-four, In-three}
 use Rattle.delaunay_tetrahedra.proofs.mark_tetrahedra.Goals as goal
 
 three_of : {p : Polygon} {a b c : ℕ} {lifted : List Lifted} {k : Pencil} (x y : Lifted) → ValidPolygon p → a < p.n - 3 → b < p.n - 2 → c < p.n - 1 →
@@ -82,7 +83,8 @@ module _ (g : goal.In-three) where
 -- with their pencil
 module _ (k : goal.After-pencil_through-pencil) where
   three : Three k.args.p k.loop-a.a k.loop-b.b k.three.c k.lift_vertices-lifted.result k.pencil_through-pencil.result
-  three = three_of k.index-lifted-b.result k.index-lifted-c.result k.requires k.loop-a-test.true k.loop-b-test.true k.three-test.true k.lift_vertices-lifted.ensures k.pencil_through-pencil.ensures
+  three = three_of k.index-lifted-b.result k.index-lifted-c.result k.requires k.loop-a-test.true k.loop-b-test.true k.three-test.true
+          k.lift_vertices-lifted.ensures k.pencil_through-pencil.ensures
 
 -- at four corners
 module _ (s : goal.In-four) where
@@ -96,7 +98,8 @@ module _ (s : goal.In-four) where
   known = s.four.invariant.1
 
   triangle : Three s.args.p s.loop-a.a s.loop-b.b s.three.c s.lift_vertices-lifted.result s.pencil_through-pencil.result
-  triangle = three_of s.index-lifted-b.result s.index-lifted-c.result s.requires s.loop-a-test.true s.loop-b-test.true s.three-test.true s.lift_vertices-lifted.ensures s.pencil_through-pencil.ensures
+  triangle = three_of s.index-lifted-b.result s.index-lifted-c.result s.requires s.loop-a-test.true s.loop-b-test.true s.three-test.true
+          s.lift_vertices-lifted.ensures s.pencil_through-pencil.ensures
 
 -- the orientation of a sphere, read from its fields
 seen_orient : {s t : SphereValue} → s ≡ t → equal t.orient (pos 0) ≡ equal s.orient (pos 0)
@@ -114,7 +117,8 @@ module _ (l : goal.At-loop-i) where
 
   triangle_of : Three l.args.p l.loop-a.a l.loop-b.b l.three.c l.lift_vertices-lifted.result l.pencil_through-pencil.result
   triangle_of =
-      three_of l.index-lifted-b.result l.index-lifted-c.result l.requires l.loop-a-test.true l.loop-b-test.true l.three-test.true l.lift_vertices-lifted.ensures l.pencil_through-pencil.ensures
+      three_of l.index-lifted-b.result l.index-lifted-c.result l.requires l.loop-a-test.true l.loop-b-test.true l.three-test.true
+          l.lift_vertices-lifted.ensures l.pencil_through-pencil.ensures
 
   through : ball ≡ sphere_of l.pencil_through-pencil.result (get_or l.lift_vertices-lifted.result l.four.d unlifted)
   through = read (sphere_of l.pencil_through-pencil.result) l.requires l.lift_vertices-lifted.ensures l.four.d l.four-test.true l.index-lifted-d.result
@@ -248,7 +252,8 @@ four-smaller-then-ball-eq0 c = let s = (goal.at.four-smaller-then-ball-eq0 c).In
 pub four-preserved-then-ball-eq0 : goal.four-preserved-then-ball-eq0
 four-preserved-then-ball-eq0 c =
     let s = (goal.at.four-preserved-then-ball-eq0 c).In-four in
-    let e = read (sphere_of c.pencil_through-pencil.result) c.requires c.lift_vertices-lifted.ensures (D s) (d<n s) c.index-lifted-d.result c.circumsphere-ball.ensures in
+    let e = read (sphere_of c.pencil_through-pencil.result) c.requires c.lift_vertices-lifted.ensures (D s) (d<n s) c.index-lifted-d.result
+        c.circumsphere-ball.ensures in
     let flat = seen_orient c.ball.view_is ∙ zero_bits c.ball.inside.orient (signed_fits tt c.ball.invariant.orient_in) c.if-ball-eq0.true in
     (refl, known s, kept_skip _ _ _ _ (D s) s.four.invariant.2 (d<n s) (not_counts_flat _ _ _ _ _ (sym (flat_is (triangle s) (D s) (d<n s) e) ∙ flat)))
 
@@ -301,7 +306,8 @@ three-preserved-then-separates c =
     c.index-lifted-d-then-eq.result c.separates.ensures) in (
       record { last<n = v<n w; apex<n = f.d<n },
       kept_then (entered (goal.at.three-preserved-then-separates c).In-three)
-          (three_left f _ (v<n w) (place_at (goal.at.three-preserved-then-separates c).After-locate) (is_inside_lem _ (sym c.eq.ensures ∙ c.if-eq.true)) (sym parted ∙ c.if-separates.true)),
+          (three_left f _ (v<n w) (place_at (goal.at.three-preserved-then-separates c).After-locate) (is_inside_lem _ (sym c.eq.ensures ∙ c.if-eq.true))
+          (sym parted ∙ c.if-separates.true)),
     )
 
 pub overflow_step-d-then-eq : goal.overflow_step-d-then-eq
@@ -315,7 +321,8 @@ four-preserved-then-eq c =
     let t = c in
     let w = (goal.at.four-preserved-then-eq c).After-scanned-v in
     let l = (goal.at.four-preserved-then-eq c).At-loop-i in
-    (refl, record { last<n = v<n w; apex<n = l.loop-i.invariant.known.apex<n }, four_dropped (four l) _ (v<n w) (place_at (goal.at.four-preserved-then-eq c).After-locate) (is_inside_lem _ (sym c.eq.ensures ∙ c.if-eq.true)))
+    (refl, record { last<n = v<n w; apex<n = l.loop-i.invariant.known.apex<n },
+    four_dropped (four l) _ (v<n w) (place_at (goal.at.four-preserved-then-eq c).After-locate) (is_inside_lem _ (sym c.eq.ensures ∙ c.if-eq.true)))
 
 pub overflow_step-i : goal.overflow_step-i
 overflow_step-i c = let w = (goal.at.overflow_step-i c).After-scanned-v in omega (arith, c.requires.most, w.loop-i-test.true)
@@ -332,7 +339,8 @@ loop-i-preserved c =
       same_d = refl;
       ahead = omega (arith, w.loop-i-test.true);
       known = l.loop-i.invariant.known;
-      scanned = vertex_passed (four l) _ (v<n w) (place_at (goal.at.loop-i-preserved c).After-locate) (not_inside_lem _ (sym c.eq.ensures ∙ c.if-eq.false)) l.loop-i.last l.loop-i.i w.scanned-v.ensures
+      scanned = vertex_passed (four l) _ (v<n w) (place_at (goal.at.loop-i-preserved c).After-locate) (not_inside_lem _ (sym c.eq.ensures ∙ c.if-eq.false))
+          l.loop-i.last l.loop-i.i w.scanned-v.ensures
           l.loop-i.invariant.scanned;
     }
 

@@ -27,7 +27,8 @@ use Rattle.faces.specs.Masks.{Joined}
 use Rattle.delaunay_triangles.proofs.Triangles.{has_fourth, Triangle, line_is}
 use Rattle.delaunay_triangles.proofs.Triangles.{on_line, three_dropped, vertex_passed, three_counts, fourth_passed}
 use Rattle.delaunay_triangles.proofs.Triangles.{three_cocircular, three_marked, twelve_due, all_marked}
-use Rattle.delaunay_triangles.proofs.mark_triangles.Goals.{After-circle_through-circle, After-scanned-v, After-locate, At-loop-i, In-loop-w, After-locate-in-loop-w, In-three}
+use Rattle.delaunay_triangles.proofs.mark_triangles.Goals.{After-circle_through-circle, After-scanned-v, After-locate, At-loop-i}
+use Rattle.delaunay_triangles.proofs.mark_triangles.Goals.{In-loop-w, After-locate-in-loop-w, In-three}
 use Rattle.delaunay_triangles.proofs.mark_triangles.Goals as goal
 
 -- at three corners
@@ -101,7 +102,8 @@ seen_place k =
     (seen_read k.requires.0 k.lift_vertices-lifted.ensures k.loop-w.w h k.seen-item.result k.seen-item.is)
 
 -- where the vertex of a turn lies
-place_at : (w : goal.After-locate) → w.locate.result ≡ position_by w.circle_through-circle.result (get_or w.lift_vertices-lifted.result w.scanned-v.result unlifted)
+place_at : (w : goal.After-locate) →
+    w.locate.result ≡ position_by w.circle_through-circle.result (get_or w.lift_vertices-lifted.result w.scanned-v.result unlifted)
 place_at w =
     let h = scanned_in _ w.loop-i.last w.loop-i.i w.scanned-v.result w.loop-i.invariant.last<n w.loop-i-test.true w.scanned-v.ensures in
     read (position_by w.circle_through-circle.result) w.requires.0 w.lift_vertices-lifted.ensures w.scanned-v.result h w.index-lifted-v.result w.locate.ensures
@@ -153,7 +155,8 @@ three-preserved-then-circle-eq0 c =
     let k = (goal.at.three-preserved-then-circle-eq0 c).After-circle_through-circle in
     let t = triangle k in (
       c.three.invariant.0,
-      on_line t (sym (line_is t) ∙ seen_orient c.circle.view_is ∙ zero_bits c.circle.inside.orient (signed_fits tt c.circle.invariant.orient_in) c.if-circle-eq0.true),
+      on_line t (sym (line_is t) ∙ seen_orient c.circle.view_is 
+          ∙ zero_bits c.circle.inside.orient (signed_fits tt c.circle.invariant.orient_in) c.if-circle-eq0.true),
     )
 
 pub overflow_add-i-end : goal.overflow_add-i-end
@@ -172,7 +175,8 @@ pub three-preserved-then-eq : goal.three-preserved-then-eq
 three-preserved-then-eq c =
     let w = (goal.at.three-preserved-then-eq c).After-scanned-v in
     let l = (goal.at.three-preserved-then-eq c).At-loop-i in
-    (v<n w, three_dropped (three l) (proper l) _ (v<n w) (place_at (goal.at.three-preserved-then-eq c).After-locate) (is_inside_lem _ (sym c.eq.ensures ∙ c.if-eq.true)))
+    (v<n w, three_dropped (three l) (proper l) _ (v<n w) (place_at (goal.at.three-preserved-then-eq c).After-locate)
+    (is_inside_lem _ (sym c.eq.ensures ∙ c.if-eq.true)))
 
 pub overflow_step-i : goal.overflow_step-i
 overflow_step-i c = let w = (goal.at.overflow_step-i c).After-scanned-v in omega (arith, c.requires.0.most, c.three-test.true, w.loop-i-test.true)
@@ -188,7 +192,8 @@ loop-i-preserved c =
       same_c = refl;
       ahead = omega (arith, w.loop-i-test.true, c.three-test.true);
       last<n = l.loop-i.invariant.last<n;
-      scanned = vertex_passed (three l) (proper l) _ (v<n w) (place_at (goal.at.loop-i-preserved c).After-locate) (not_inside_lem _ (sym c.eq.ensures ∙ c.if-eq.false))
+      scanned = vertex_passed (three l) (proper l) _ (v<n w) (place_at (goal.at.loop-i-preserved c).After-locate)
+          (not_inside_lem _ (sym c.eq.ensures ∙ c.if-eq.false))
           l.loop-i.last l.loop-i.i w.scanned-v.ensures l.loop-i.invariant.scanned;
     }
 
