@@ -1,16 +1,10 @@
 -- The numbers that hosts are given of each call's answer (rule 5.6). Definitions only.
+use Rattle.codes.specs.Refusals.{number_of}
 use Rattle.reader.specs.declared.Reading.{Reading}
 use Rattle.reader.specs.Reading.{status_number}
-use Rattle.finder.specs.declared.Found.{Found}
-use Rattle.finder.specs.Finding.{candidate_count_of, row_count_of}
-use Rattle.finder.specs.Finding as finder
-use Rattle.finder.specs.declared.Sizes.{Sizes}
-use Rattle.finder.specs.Sizes.{places_in}
-use Rattle.finder.specs.Sizes as sizes
-use Rattle.triangulator.specs.declared.Outcome.{Outcome}
-use Rattle.triangulator.specs.Call.{number_of, triangles_of, total_of}
-use Rattle.pricing.specs.declared.Quote.{Quote}
-use Rattle.pricing.specs.Quote as price
+use Rattle.finder.specs.Finding.{Found, candidate_count_of, row_count_of}
+use Rattle.finder.specs.Sizes.{Sizes, places_in}
+use Rattle.triangulator.specs.Call.{triangles_of, total_of, Outcome}
 use Rattle.judge.specs.declared.Judgement.{Judgement}
 use Rattle.judge.specs.Call.{excess_of}
 use Rattle.judge.specs.Call as judge
@@ -30,8 +24,8 @@ abbrev pub patch_answer_of : Outcome → PatchAnswer
 patch_answer_of o = record { number = number_of o; triangles = triangles_of o; total = total_of o }
 
 -- the number, the triangle count and the total of a quote (rule 5.11)
-abbrev pub price_answer_of : Quote → PriceAnswer
-price_answer_of q = record { number = price.number_of q; triangles = price.triangles_of q; total = price.total_of q }
+abbrev pub price_answer_of : Outcome → PriceAnswer
+price_answer_of q = record { number = number_of q; triangles = triangles_of q; total = total_of q }
 
 -- the number and the excess of a judgement (rule 5.10)
 abbrev pub judge_answer_of : Judgement → JudgeAnswer
@@ -43,13 +37,13 @@ read_answer_of r = record { number = status_number r.status; vertices = r.polygo
 
 -- the finder's number and its two counts (rule 5.6)
 abbrev pub find_answer_of : Found → FindAnswer
-find_answer_of f = record { number = finder.number_of f; candidates = candidate_count_of f; rows = row_count_of f }
+find_answer_of f = record { number = number_of f; candidates = candidate_count_of f; rows = row_count_of f }
 
 -- the number and the places of each table: those for candidates in three of them (rule 5.5)
 abbrev pub sizes_answer_of : Sizes → SizesAnswer
 sizes_answer_of s =
     let p = places_in s in
-    record { number = sizes.number_of s; triangles = p.triangles; candidates = p.candidates; weights = p.candidates; rows = p.rows; work = p.candidates }
+    record { number = number_of s; triangles = p.triangles; candidates = p.candidates; weights = p.candidates; rows = p.rows; work = p.candidates }
 
 -- the number, the edition and the length of a conversion (rule 5.2)
 abbrev pub convert_answer_of : Conversion → ConvertAnswer

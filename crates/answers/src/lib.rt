@@ -5,12 +5,12 @@
 ghost use Rattle.std.specs.Prelude.{◌≡◌};
 ghost use Rattle.answers.specs.Answers.{patch_answer_of, price_answer_of, judge_answer_of, read_answer_of, find_answer_of, sizes_answer_of, convert_answer_of};
 
+use codes::Refusal;
 use converter::Conversion;
-use finder::{Found, Sizes};
+use finder::{Counts, Places};
 use judge::Judgement;
-use pricing::Quote;
 use reader::Reading;
-use triangulator::Outcome;
+use triangulator::Patch;
 
 // A patch where the number is 0 and there are triangles, 'none' where both are 0.
 #[repr(C)]
@@ -74,29 +74,23 @@ pub struct ConvertAnswer {
     pub length: usize,
 }
 
-pub fn patch_answer(outcome: Outcome) -> PatchAnswer
+pub fn patch_answer(outcome: Result<Option<Patch>, Refusal>) -> PatchAnswer
     ensures { result ≡ patch_answer_of outcome }
 {
-    let number = outcome.number();
-    let triangles = outcome.triangles();
-    let total = outcome.total();
     PatchAnswer {
-        number,
-        triangles,
-        total,
+        number: codes::number_of(&outcome),
+        triangles: triangulator::triangles_of(&outcome),
+        total: triangulator::total_of(&outcome),
     }
 }
 
-pub fn price_answer(quote: Quote) -> PriceAnswer
+pub fn price_answer(quote: Result<Option<Patch>, Refusal>) -> PriceAnswer
     ensures { result ≡ price_answer_of quote }
 {
-    let number = quote.number();
-    let triangles = quote.triangles();
-    let least = quote.total();
     PriceAnswer {
-        number,
-        triangles,
-        total: least,
+        number: codes::number_of(&quote),
+        triangles: triangulator::triangles_of(&quote),
+        total: triangulator::total_of(&quote),
     }
 }
 
@@ -118,24 +112,28 @@ pub fn read_answer(reading: Reading) -> ReadAnswer
     ReadAnswer { number, vertices }
 }
 
-pub fn find_answer(found: Found) -> FindAnswer
+pub fn find_answer(found: Result<Counts, Refusal>) -> FindAnswer
     ensures { result ≡ find_answer_of found }
 {
-    let number = found.number();
-    let candidates = found.candidate_count();
-    let rows = found.row_count();
-    FindAnswer {
-        number,
-        candidates,
-        rows,
+    match found {
+        Ok(lists) => FindAnswer {
+            number: 0,
+            candidates: lists.candidates,
+            rows: lists.rows,
+        },
+        Err(refusal) => FindAnswer {
+            number: refusal.number,
+            candidates: 0,
+            rows: 0,
+        },
     }
 }
 
-pub fn sizes_answer(sizes: Sizes) -> SizesAnswer
+pub fn sizes_answer(sizes: Result<Places, Refusal>) -> SizesAnswer
     ensures { result ≡ sizes_answer_of sizes }
 {
     match sizes {
-        Sizes::Known(places) => {
+        Ok(places) => {
             let candidates = places.candidates;
             SizesAnswer {
                 number: 0,
@@ -146,7 +144,7 @@ pub fn sizes_answer(sizes: Sizes) -> SizesAnswer
                 work: candidates,
             }
         }
-        Sizes::Refused(refusal) => SizesAnswer {
+        Err(refusal) => SizesAnswer {
             number: refusal.number,
             triangles: 0,
             candidates: 0,

@@ -6,20 +6,17 @@ ghost use Rattle.terms.specs.Limits.{max_vertices};
 ghost use Rattle.pipeline.specs.Patching.{patch_file};
 ghost use Rattle.patch_program.specs.Run.{empty_tables};
 
-use programs::input;
+use codes::Refusal;
 use std::io;
-use triangulator::Outcome;
+use triangulator::Patch;
 
 // Closes the rim of a file and prints its patch.
-fn close(rt: &impl Print, file: &[u8]) -> (Outcome, io::Result<()>)
+fn close(rt: &impl Print, file: &[u8]) -> (Result<Option<Patch>, Refusal>, io::Result<()>)
     ensures { result.0 ≡ (patch_file max_vertices file.now empty_tables).outcome }
 {
     patch_program::run(rt, terms::MAX_VERTICES, file)
 }
 
 fn main(rt: HostRuntime) -> io::Result<()> {
-    let mut file = [0u8; input::BUFFER];
-    let length = input::read(&mut rt.stdin(), &mut file)?;
-    let (_, printed) = close(&rt, &file[..length]);
-    printed
+    patch_program::close_input(&mut rt.stdin(), |file| close(&rt, file))
 }

@@ -2,10 +2,11 @@
 use mathlib.Core.Path.{◌≡◌, sym, ap, ◌∙◌}
 use mathlib.Core.List.{List, [], ◌∷◌, ◌++◌}
 use Prim.Native.Nat.{ℕ, suc, ◌+◌, ◌≤◌, ◌<◌}
-use native.Mathlib.Numerals.{add-one}
 use native.Mathlib.Omega.{arith}
-use lib.ListN.{length, take, drop, set, get_or, replicate, length-drop, length-replicate, replicate-append-replicate}
-use lib.Seq.{sets, sets-eq, length-take-le, take-suc, get_or-take, get_or-drop, ext_get_or}
+use lib.ListN.{length, take, drop, set, get_or, length-drop}
+use borrow.Rule.Slice.PartMut.{put_mid}
+use Rattle.std.proofs.Common.{append_assoc}
+use lib.Seq.{drop-drop, sets, sets-eq, length-take-le, get_or-take, get_or-drop, ext_get_or}
 use Rattle.lists.specs.Lists.{filled}
 use Rattle.conversion.specs.Converted.{bytes_at}
 
@@ -23,12 +24,6 @@ bytes_same s t i j k a b h =
     ext_get_or 0 (bytes_at s i k) (bytes_at t j k) (bytes_length s i k a ∙ sym (bytes_length t j k b))
     (λ n l. let m : n < k = omega (arith, bytes_length s i k a) in bytes_at_lem s i k n m ∙ h n m ∙ sym (bytes_at_lem t j k n m))
 
-bytes_next : (s : List ℕ) (i k : ℕ) → i + k < length s → bytes_at s i (k + 1) ≡ bytes_at s i k ++ (get_or s (i + k) 0 ∷ [])
-bytes_next s i k h =
-    ap (λ (n : ℕ). take n (drop i s)) (add-one k)
-    ∙ take-suc (drop i s) k 0 (omega (arith, length-drop i s))
-    ∙ ap (λ (b : ℕ). bytes_at s i k ++ (b ∷ [])) (get_or-drop i s k 0)
-
 -- ---- stores
 -- a run of two parts is a run after a run
 stores_append : (l m d : List ℕ) (at : ℕ) → sets d at (l ++ m) ≡ sets (sets d at l) (at + length l) m
@@ -40,19 +35,10 @@ stores_append (a ∷ l) m d at =
 pub stores_then : (l m d : List ℕ) (at n : ℕ) → n ≡ at + length l → sets (sets d at l) n m ≡ sets d at (l ++ m)
 stores_then l m d at n e = ap (λ (k : ℕ). sets (sets d at l) k m) e ∙ sym (stores_append l m d at)
 
--- one byte more of a copy, and of a filling
-pub copied_next : (s d : List ℕ) (from to i : ℕ) {o : List ℕ} → o ≡ sets d to (bytes_at s from i) → from + i < length s →
-    set o (to + i) (get_or s (from + i) 0) ≡ sets d to (bytes_at s from (i + 1))
-copied_next s d from to i e h =
-    ap (λ (x : List ℕ). set x (to + i) (get_or s (from + i) 0)) e
-    ∙ stores_then (bytes_at s from i) (get_or s (from + i) 0 ∷ []) d to (to + i) (omega (arith, bytes_length s from i (omega arith)))
-    ∙ ap (λ (l : List ℕ). sets d to l) (sym (bytes_next s from i h))
-
-pub filled_next : (b : ℕ) (d : List ℕ) (to i : ℕ) {o : List ℕ} → o ≡ sets d to (replicate i b) → set o (to + i) b ≡ sets d to (replicate (i + 1) b)
-filled_next b d to i e =
-    ap (λ (x : List ℕ). set x (to + i) b) e
-    ∙ stores_then (replicate i b) (b ∷ []) d to (to + i) (omega (arith, length-replicate i b))
-    ∙ ap (λ (l : List ℕ). sets d to l) (replicate-append-replicate i 1 b)
+-- a part of a slice that is written anew
+pub part_stored : (ys xs : List ℕ) (at : ℕ) {k : ℕ} → k ≡ length ys → at + k ≤ length xs → put_mid at k xs ys ≡ sets xs at ys
+part_stored ys xs at {k} e h =
+    ap (λ (l : List ℕ). take at xs ++ (ys ++ l)) (drop-drop k at xs ∙ ap (λ (n : ℕ). drop (at + n) xs) e) ∙ sym (append_assoc (take at xs) ys (drop (at + length ys) xs)) ∙ sym (sets-eq ys xs at (omega arith))
 
 -- a run from the first place on
 pub stores_fill : (l d : List ℕ) → length l ≤ length d → sets d 0 l ≡ filled l d

@@ -1,21 +1,21 @@
 -- The layout that a file is carried to, and the converted file in it. Assumes nothing.
-use mathlib.Core.Path.{◌≡◌, refl, sym, ap, ◌∙◌}
+use mathlib.Core.Path.{◌≡◌, refl, sym, ap, subst, ◌∙◌}
 use mathlib.Core.Bool.{Bool, true, false, cond}
 use mathlib.Core.List.{List, ◌++◌}
 use Prim.Native.Nat.{ℕ, suc, ◌+◌, ◌-◌, ◌*◌, ◌≤◌}
 use native.Mathlib.Omega.{arith}
-use lib.Dec.{eqb}
 use lib.ListN.{length, replicate, length-append, length-replicate}
 use lib.Seq.{sets}
 use Rattle.lists.specs.Lists.{over}
 use Rattle.lists.proofs.Choice.{yes, no}
 use Rattle.rim_file.specs.declared.Layout.{Layout}
-use Rattle.rim_file.specs.File.{is_edition2, marker_size, header_size, record_size1, record_size2, layout1, layout2, layout_of, header_start, record_count}
-use Rattle.rim_file.proofs.Layouts.{edition1, edition2}
+use Rattle.rim_file.specs.File.{is_edition2, marker_size, header_size, record_size1, record_size2, header_start, record_count}
 use Rattle.rim_file.proofs.Lengths.{Whole}
 use Rattle.conversion.specs.Converted.{bytes_at, header_bytes, record_bytes, laid_out, marker_byte, converted, other_edition}
 use Rattle.conversion.specs.Steps.{target_of, ending_in, in_layout}
-use Rattle.conversion.specs.declared.Target.{Target}
+use Rattle.rim_file.specs.File.{edition_of, edition_number, layout_in}
+use Rattle.rim_file.specs.declared.edition.Edition.{Edition}
+use Rattle.rim_file.specs.declared.edition.Edition.TheVariants.{One, Two}
 use Rattle.conversion.proofs.Storing.{stores_then}
 use Rattle.conversion.proofs.Records.{header_length, pieces}
 
@@ -25,31 +25,24 @@ pub record Bounds (l : Layout) : Type 0 where
   pub least : record_size1 ≤ l.record_size
   pub most : l.record_size ≤ record_size2
 
-pub target_bounds : (l : Layout) → Bounds (target_of l).layout
-target_bounds l = by (eqb l.record_size record_size1)
-  where
-    by : (b : Bool) → Bounds (cond {A = Target} b (record { edition = 2; layout = layout2 }) (record { edition = 1; layout = layout1 })).layout
-    by true = record { header = omega arith; least = omega arith; most = omega arith }
-    by false = record { header = omega arith; least = omega arith; most = omega arith }
+pub edition_bounds : (e : Edition) → Bounds (layout_in e)
+edition_bounds One = record { header = omega arith; least = omega arith; most = omega arith }
+edition_bounds Two = record { header = omega arith; least = omega arith; most = omega arith }
 
 -- ---- the file in them
 module _ (s : List ℕ) where
-  -- the target of the file's own layout, with the converted file in it
-  pub record Carried (t : Target) : Type 0 where
-    pub edition : t.edition ≡ other_edition s
-    pub bytes : in_layout t.layout s ≡ converted s
+  -- the edition that is not the file's own, with the converted file in it
+  pub record Carried (t : Edition) : Type 0 where
+    pub edition : edition_number t ≡ other_edition s
+    pub bytes : in_layout (layout_in t) s ≡ converted s
 
-  pub carried : {t : Target} → t ≡ target_of (layout_of s) → Carried t
+  by_edition : (b : Bool) → is_edition2 s ≡ b → Carried (target_of (cond b Two One))
   unfolding converted
-  carried {t} e = by (is_edition2 s) refl
-    where
-      by : (b : Bool) → is_edition2 s ≡ b → Carried t
-      by true d =
-          let is : t ≡ record { edition = 1; layout = layout1 } = e ∙ ap target_of (edition2 s d) in
-          record { edition = ap (λ (x : Target). x.edition) is ∙ sym (yes 1 2 d); bytes = ap (λ (x : Target). in_layout x.layout s) is ∙ sym (yes _ _ d) }
-      by false d =
-          let is : t ≡ record { edition = 2; layout = layout2 } = e ∙ ap target_of (edition1 s d) in
-          record { edition = ap (λ (x : Target). x.edition) is ∙ sym (no 1 2 d); bytes = ap (λ (x : Target). in_layout x.layout s) is ∙ sym (no _ _ d) }
+  by_edition true d = record { edition = sym (yes 1 2 d); bytes = sym (yes _ _ d) }
+  by_edition false d = record { edition = sym (no 1 2 d); bytes = sym (no _ _ d) }
+
+  pub carried : {t : Edition} → t ≡ target_of (edition_of s) → Carried t
+  carried e = subst Carried (sym e) (by_edition (is_edition2 s) refl)
 
   module _ (w : Whole s) where
     -- its length, with any opening and ending, and in a layout

@@ -1,4 +1,4 @@
-// A rim file's bytes in the other edition: the layout that it goes to, the bytes written there, and the test for a normal that would be lost.
+// A rim file's bytes in the other edition: the edition that it goes to, the bytes written there, and the test for a normal that would be lost.
 // Nothing here is for hosts: the functions serve the converter, which meets what they ask.
 #![tactic(auto)]
 
@@ -8,22 +8,14 @@ pub mod writing;
 ghost use Rattle.std.specs.Prelude.{◌≡◌};
 ghost use Rattle.conversion.specs.Steps.{target_of};
 
-use rim_file::{Layout, edition};
+use rim_file::edition::Edition;
 
-// The edition that a file is carried to, and where that has its numbers.
-#[derive(Clone, Copy)]
-pub struct Target {
-    pub edition: u32,
-    pub layout: Layout,
-}
-
-pub fn target_of(source: Layout) -> Target
+// The edition that a file is carried to.
+pub fn target_of(source: Edition) -> Edition
     ensures { result ≡ target_of source }
 {
-    if source.record_size == edition::RECORD_SIZE_1 {
-        let layout = edition::layout_2();
-        return Target { edition: 2, layout };
+    match source {
+        Edition::One => Edition::Two,
+        Edition::Two => Edition::One,
     }
-    let layout = edition::layout_1();
-    Target { edition: 1, layout }
 }

@@ -4,19 +4,16 @@
 ghost use Rattle.std.specs.Prelude.{◌≡◌};
 ghost use Rattle.converter.specs.Call.{converting, convert_call};
 
-use converter::Conversion;
+use codes::Refusal;
+use converter::Converted;
 use programs::input;
 use std::io;
 
 // The file in the other edition, in the first places of the output table.
-fn convert_file(file: &[u8], out: &mut [u8]) -> Conversion
+fn convert_file(file: &[u8], out: &mut [u8]) -> Result<Converted, Refusal>
     ensures { converting result out.new ≡ convert_call file.now out.old }
 {
     converter::convert(file, out)
-}
-
-fn print_refusal(rt: &impl Print, number: u32) -> io::Result<()> {
-    println!(rt; "refused {number}")
 }
 
 fn main(rt: HostRuntime) -> io::Result<()> {
@@ -25,10 +22,7 @@ fn main(rt: HostRuntime) -> io::Result<()> {
     let mut out = [0u8; input::LONGEST];
     let conversion = convert_file(&file[..length], &mut out);
     match conversion {
-        Conversion::Converted {
-            edition: _,
-            length: _,
-        } => rt.write_all(converter::part(&out, conversion)),
-        Conversion::Refused(refusal) => print_refusal(&rt, refusal.number),
+        Ok(_) => rt.write_all(converter::part(&out, conversion)),
+        Err(refusal) => println!(rt; "{refusal}"),
     }
 }

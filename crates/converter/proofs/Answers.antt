@@ -2,24 +2,27 @@
 use mathlib.Core.Path.{◌≡◌, refl, sym, ap, ◌∙◌}
 use mathlib.Core.Bool.{Bool, true, false}
 use mathlib.Core.List.{List}
-use Prim.Native.Nat.{ℕ, zero, suc}
+use Prim.Native.Nat.{ℕ, zero, suc, ◌<◌}
 use native.Mathlib.Omega.{arith}
 use lib.ListN.{length}
 use Rattle.codes.specs.declared.Refusal.{Refusal}
-use Rattle.codes.specs.Refusals.{refusal}
+use Rattle.std.specs.Prelude.{Result, Ok, Err}
+use Rattle.codes.specs.Refusals.{refusal, or_refused}
+use Rattle.codes.proofs.Refusals.{none_answered, refused_answered}
 use Rattle.lists.specs.Lists.{filled}
 use Rattle.terms.specs.Numbers.{first_due}
 use Rattle.terms.specs.Limits.{max_vertices}
 use Rattle.rim_file.specs.File.{length_wrong}
-use Rattle.reader.specs.Reading.{polygon_of, answer, reading_of, status_number}
+use Rattle.reader.specs.Reading.{polygon_of, reading_of}
+use Rattle.polygon.specs.declared.Polygon.{Polygon}
 use Rattle.reader.specs.Reading as reader
-use Rattle.reader.specs.declared.Status.TheVariants as status
-use Rattle.reader.proofs.Demand1.{number_is}
 use Rattle.reader.proofs.FirstNumber.{no_number_read}
-use Rattle.conversion.specs.Converted.{converted, other_edition}
-use Rattle.converter.specs.Call.{values_of, conversion_code, conversion_number, number_due, due_values, Converting, converting, convert_by, convert_call}
-use Rattle.converter.specs.declared.Conversion.{Conversion}
-use Rattle.converter.specs.declared.Conversion.TheVariants.{Converted, Refused}
+use Rattle.rim_file.specs.File.{edition_of}
+use Rattle.rim_file.specs.declared.edition.Edition.{Edition}
+use Rattle.conversion.specs.Converted.{converted}
+use Rattle.conversion.specs.Steps.{target_of}
+use Rattle.conversion.proofs.Targets.{carried}
+use Rattle.converter.specs.Call.{Conversion, values, values_of, conversion_code, conversion_number, number_due, due_values, Converting, converting, convert_by, convert_call}
 
 -- 13 is not due where no number is
 pub not_short : (short lost : Bool) → conversion_code short lost ≡ 0 → short ≡ false
@@ -33,18 +36,22 @@ not_lost false false e = refl
 
 module _ (file out : List ℕ) where
   -- a number that is due, and none
-  pub refused_by : {r : Refusal} (k : ℕ) {n : ℕ} → r ≡ refusal k → (k ≡ 0 → ⊥) → k ≡ n → converting (Refused r) out ≡ convert_by n file out
-  refused_by zero m h e = absurd (h refl)
-  refused_by (suc k) m h e = ap (λ (r : Refusal). converting (Refused r) out) m ∙ ap (λ (i : ℕ). convert_by i file out) e
+  pub refused_by : (n : ℕ) {r : Refusal} → ◌≡◌ {A = Result (Unit {0}) Refusal} (Err r) (or_refused n tt) → converting (Err r) out ≡ convert_by n file out
+  refused_by n {r} e = by n (refused_answered n tt e)
+    where
+      by : (n : ℕ) → (0 < n) × (r ≡ refusal n) → converting (Err r) out ≡ convert_by n file out
+      by zero p = absurd (omega arith)
+      by (suc k) p = ap (λ (x : Refusal). converting (Err x) out) p.1
 
-  pub taken_by : {edition size n : ℕ} {left : List ℕ} → 0 ≡ n → edition ≡ other_edition file →
+  pub taken_by : {edition : Edition} {size n : ℕ} {left : List ℕ} → n ≡ 0 → edition ≡ target_of (edition_of file) →
       size ≡ length (converted file) → left ≡ filled (converted file) out →
-      converting (Converted edition size) left ≡ convert_by n file out
-  taken_by {n = n} z a b c = (λ i. converting (Converted (a i) (b i)) (c i)) ∙ ap (λ (i : ℕ). convert_by i file out) z
+      converting (Ok (record { edition = edition; length = size })) left ≡ convert_by n file out
+  taken_by z a b c =
+      (λ i. converting (Ok (record { edition = a i; length = b i })) (c i)) ∙ sym (ap (λ (i : ℕ). convert_by i file out) z)
 
   -- the values of the answer
   by_values : (n : ℕ) → values_of (convert_by n file out).answer ≡ due_values n file
-  by_values zero = refl
+  by_values zero = λ i. values 0 ((carried file refl).edition i) (length (converted file))
   by_values (suc k) = refl
 
   pub call_values : {r : Conversion} {left : List ℕ} → converting r left ≡ convert_call file out → values_of r ≡ due_values (number_due file out) file
@@ -52,17 +59,13 @@ module _ (file out : List ℕ) where
   call_values e = ap (λ (x : Converting). values_of x.answer) e ∙ by_values (number_due file out)
 
   -- the call, by the reader's answer
-  pub call_refused : {k : Refusal} → (reading_of max_vertices file).status ≡ status.Refused k → converting (Refused k) out ≡ convert_call file out
+  pub call_refused : {r : Refusal} → Err r ≡ reading_of max_vertices file → converting (Err r) out ≡ convert_call file out
   unfolding convert_call
-  call_refused {k} e = by (reader.number_due max_vertices file) refl e
+  call_refused {r} e = by (reader.number_due max_vertices file) (refused_answered (reader.number_due max_vertices file) (polygon_of file) e)
     where
-      by : (n : ℕ) → reader.number_due max_vertices file ≡ n → (answer n (polygon_of file)).status ≡ status.Refused k →
-          converting (Refused k) out ≡ convert_call file out
-      by zero d f = absurd (let z : ◌≡◌ {A = ℕ} 0 1 = cc in omega arith)
-      by (suc j) d f =
-          let g : k ≡ refusal (suc j) = cc in
-          ap (λ (r : Refusal). converting (Refused r) out) g
-          ∙ sym (ap (λ (i : ℕ). convert_by (first_due i (conversion_number file out)) file out) d)
+      by : (n : ℕ) → (0 < n) × (r ≡ refusal n) → converting (Err r) out ≡ convert_by (first_due n (conversion_number file out)) file out
+      by zero p = absurd (omega arith)
+      by (suc j) p = ap (λ (x : Refusal). converting (Err x) out) p.1
 
   pub call_read : reader.number_due max_vertices file ≡ 0 → convert_by (conversion_number file out) file out ≡ convert_call file out
   unfolding convert_call
@@ -74,8 +77,8 @@ module _ (file out : List ℕ) where
   promised e = (e, call_values e)
 
 -- a file that is read
-pub read_zero : (limit : ℕ) (file : List ℕ) → (reading_of limit file).status ≡ status.Complete → reader.number_due limit file ≡ 0
-read_zero limit file e = sym (number_is limit file) ∙ ap status_number e
+pub read_zero : (limit : ℕ) (file : List ℕ) {p : Polygon} → Ok p ≡ reading_of limit file → reader.number_due limit file ≡ 0
+read_zero limit file e = (none_answered (reader.number_due limit file) e).0
 
 pub right_length : (limit : ℕ) (file : List ℕ) → reader.number_due limit file ≡ 0 → length_wrong file ≡ false
 right_length limit file e = (no_number_read limit file e).right

@@ -8,6 +8,7 @@ use native.Mathlib.Omega.{arith}
 use borrow.Author.Tests.{le-ltb}
 use lib.Dec.{ltb}
 use lib.ListN.{length}
+use Rattle.codes.specs.Refusals.{number_of}
 use Rattle.lists.proofs.Writing.{filled_first}
 use Rattle.terms.specs.Numbers.{first_due}
 use Rattle.terms.proofs.Numbers.{due_neither}
@@ -21,7 +22,7 @@ use Rattle.reader.proofs.FirstNumber.{Read, no_number_read}
 use Rattle.conversion.specs.Converted.{converted, normal_lost}
 use Rattle.conversion.proofs.Rims.{none_lost, nothing_lost, converted_edition, converted_rim}
 use Rattle.conversion.proofs.RoundTrip.{there_and_back}
-use Rattle.converter.specs.Call.{number_of, conversion_code, conversion_number, number_due, convert_call, handed_over}
+use Rattle.converter.specs.Call.{conversion_code, conversion_number, number_due, convert_call, handed_over}
 use Rattle.converter.proofs.Answers.{not_lost}
 use Rattle.converter.proofs.Numbers.{call_by, number_given}
 

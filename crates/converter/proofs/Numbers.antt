@@ -10,6 +10,8 @@ use borrow.Author.Tests.{ltb-true, ltb-false}
 use lib.Dec.{ltb}
 use lib.ListN.{length}
 use Rattle.codes.specs.Refusals.{refusal}
+use Rattle.std.specs.Prelude.{Ok, Err}
+use Rattle.codes.specs.Refusals.{number_of}
 use Rattle.lists.specs.Lists.{filled}
 use Rattle.lists.proofs.Choice.{Truth, holds, fails, truth, yes, no, true_not_false, not_true_false, not_false_true}
 use Rattle.lists.proofs.Ranges.{some_here, Found, some_found}
@@ -28,10 +30,9 @@ use Rattle.reader.specs.Due.{InFile, FileDue, too_few, vertex_repeated}
 use Rattle.reader.specs.Reading as reader
 use Rattle.reader.proofs.Order.{none_first, Verdict, first_due_lem, none_due, verdict_either, verdict_first, verdict_given, verdict_zero, verdict_none}
 use Rattle.reader.proofs.FirstNumber.{number_first, no_number_read, read_none}
-use Rattle.conversion.specs.Converted.{converted, other_edition, normal_lost}
-use Rattle.converter.specs.Call.{number_of, conversion_number, number_due, Converting, converting, convert_by, convert_call}
+use Rattle.conversion.specs.Converted.{converted, normal_lost}
+use Rattle.converter.specs.Call.{conversion_number, number_due, Converting, converting, converted_to, convert_by, convert_call}
 use Rattle.converter.specs.Due.{ConvertDue, by_reader, thirteen, nineteen}
-use Rattle.converter.specs.declared.Conversion.TheVariants.{Converted, Refused}
 use Rattle.converter.proofs.Answers.{right_length}
 
 -- ---- 19, as a test and as a statement
@@ -153,7 +154,7 @@ module _ (file out : List ℕ) where
   first_or_none = verdict_either verdict
 
   -- the first number due is given, and the output table holds what it held
-  pub refused_first : (k : ℕ) → First (ConvertDue file out) k → convert_call file out ≡ converting (Refused (refusal k)) out
+  pub refused_first : (k : ℕ) → First (ConvertDue file out) k → convert_call file out ≡ converting (Err (refusal k)) out
   refused_first zero f = absurd (none_first (verdict_none verdict (verdict_first verdict f)) f)
   refused_first (suc k) f = call_by (suc k) (verdict_first verdict f)
 
@@ -163,7 +164,7 @@ module _ (file out : List ℕ) where
 
   -- the file is converted exactly when no number is due
   pub converted_when : NoneDue (ConvertDue file out) →
-      convert_call file out ≡ converting (Converted (other_edition file) (length (converted file))) (filled (converted file) out)
+      convert_call file out ≡ converting (Ok (converted_to file)) (filled (converted file) out)
   converted_when none = call_by 0 (verdict_zero verdict none)
 
   pub converted_only_when : number_of (convert_call file out).answer ≡ 0 → NoneDue (ConvertDue file out)

@@ -7,19 +7,21 @@ use borrow.Author.Tests.{eq-eqb}
 use lib.Dec.{eqb}
 use lib.Ieee.{of_bits}
 use lib.ListN.{replicate}
-use Rattle.codes.specs.Refusals.{refusal}
+use Rattle.std.specs.Prelude.{Ok, Err}
+use Rattle.codes.specs.Refusals.{refusal, number_of}
 use Rattle.lists.specs.Lists.{up_from, some_from, both}
 use Rattle.lists.proofs.Comparing.{same_list, same_list_lem, any_of, any_of_lem}
 use Rattle.grid.specs.Number.{finite, numerator, denominator, negative, in_range, round_eighths}
 use Rattle.polygon.specs.Polygon.{repeated_vertex}
 use Rattle.rim_file.specs.File.{layout_of, length_wrong}
+use Rattle.rim_file.specs.declared.edition.Edition.{Edition}
+use Rattle.rim_file.specs.declared.edition.Edition.TheVariants.{One, Two}
 use Rattle.rim_file.specs.Record.{record_at, numbers_code, vertex_of, normal_in}
 use Rattle.reader.specs.Chain.{link, met_before, height_before, link_code, position_code, code_from, end_from}
 use Rattle.reader.specs.Reading as reader
 use Rattle.reader.proofs.Cases.{point_then, zero_mm, one_mm, no_surface}
 use Rattle.conversion.specs.Converted.{converted, normal_lost}
-use Rattle.converter.specs.Call.{number_of, edition_of, converted_length, Converting, converting, convert_call}
-use Rattle.converter.specs.declared.Conversion.TheVariants.{Converted, Refused}
+use Rattle.converter.specs.Call.{Conversion, edition_of, converted_length, Converting, converting, convert_call}
 
 -- ---- two files of one rim: a chain of records 1, 2 and 3, and a spare record 4
 abbrev header : List ℕ
@@ -59,20 +61,23 @@ pub record Try : Type 0 where
 abbrev try : List ℕ → List ℕ → Converting → Converting → Try
 try file out right wrong = record { file = file; out = out; right = right; wrong = wrong }
 
+abbrev made : Edition → ℕ → Conversion
+made edition size = Ok (record { edition = edition; length = size })
+
 abbrev pub tries : List Try
 tries =
     -- spare records dropped
-    try (second 2 no_surface) (places 73) (converting (Converted 1 72) (first 128 ++ places 1))
-    (converting (Converted 1 56) (header ++ point_then 2 zero_mm zero_mm ++ point_then 3 one_mm zero_mm ++ point_then 0 zero_mm one_mm ++ places 17))
+    try (second 2 no_surface) (places 73) (converting (made One 72) (first 128 ++ places 1))
+    (converting (made One 56) (header ++ point_then 2 zero_mm zero_mm ++ point_then 3 one_mm zero_mm ++ point_then 0 zero_mm one_mm ++ places 17))
     -- a NaN of a spare record made quiet
-    ∷ try (second 2 no_surface) (places 72) (converting (Converted 1 72) (first 128)) (converting (Converted 1 72) (first 192))
+    ∷ try (second 2 no_surface) (places 72) (converting (made One 72) (first 128)) (converting (made One 72) (first 192))
     -- 19 for the normals of the chain only
-    ∷ try (second 2 up) (places 73) (converting (Refused (refusal 19)) (places 73)) (converting (Converted 1 72) (first 128 ++ places 1))
+    ∷ try (second 2 up) (places 73) (converting (Err (refusal 19)) (places 73)) (converting (made One 72) (first 128 ++ places 1))
     -- 19 before 13
-    ∷ try (second 2 up) (places 71) (converting (Refused (refusal 13)) (places 71)) (converting (Refused (refusal 19)) (places 71))
+    ∷ try (second 2 up) (places 71) (converting (Err (refusal 13)) (places 71)) (converting (Err (refusal 19)) (places 71))
     -- the marker left out
-    ∷ try (first 128) (places 99) (converting (Converted 2 98) (second 2 no_surface ++ places 1))
-    (converting (Converted 2 96) (second 0 no_surface ++ places 3))
+    ∷ try (first 128) (places 99) (converting (made Two 98) (second 2 no_surface ++ places 1))
+    (converting (made Two 96) (second 0 no_surface ++ places 3))
     ∷ []
 
 pub right_calls : map (λ (t : Try). convert_call t.file t.out) tries ≡ map (λ (t : Try). t.right) tries

@@ -1,28 +1,31 @@
 -- What a call of the converter answers, and what it leaves in every place of the output table. Definitions only.
-use Rattle.std.specs.Prelude.{Bool, cond, List, ℕ, zero, suc, ltb, length}
-use Rattle.codes.specs.Refusals.{refusal}
+use Rattle.std.specs.Prelude.{Bool, cond, List, ℕ, zero, suc, Result, Ok, Err, ltb, length}
+use Rattle.codes.specs.Refusals.{refusal, number_of}
+use Rattle.codes.specs.declared.Refusal.{Refusal}
 use Rattle.lists.specs.Lists.{filled, first_places}
 use Rattle.terms.specs.Limits.{max_vertices}
 use Rattle.terms.specs.Numbers.{first_due}
 use Rattle.reader.specs.Reading as reader
+use Rattle.rim_file.specs.File.{edition_number}
+use Rattle.rim_file.specs.File as rim
+use Rattle.conversion.specs.Steps.{target_of}
 use Rattle.conversion.specs.Converted.{converted, other_edition, normal_lost}
-use Rattle.converter.specs.declared.Conversion.{Conversion}
-use Rattle.converter.specs.declared.Conversion.TheVariants.{Converted, Refused}
+use Rattle.converter.specs.declared.Converted.{Converted}
 
--- the number, the edition of the converted file and its length, in each case of an answer (rule 5.2)
-abbrev pub number_of : Conversion → ℕ
-number_of (Converted edition size) = 0
-number_of (Refused r) = r.number
+-- what the converter answers (rules 4.30, 5.7): what a file was converted to, or a refusal
+abbrev pub Conversion : Type 0
+Conversion = Result Converted Refusal
 
+-- the edition of the converted file and its length, in each case of an answer (rule 5.2)
 abbrev pub edition_of : Conversion → ℕ
-edition_of (Converted edition size) = edition
-edition_of (Refused r) = 0
+edition_of (Ok c) = edition_number c.edition
+edition_of (Err r) = 0
 
 abbrev pub converted_length : Conversion → ℕ
-converted_length (Converted edition size) = size
-converted_length (Refused r) = 0
+converted_length (Ok c) = c.length
+converted_length (Err r) = 0
 
--- the three together (rule 5.2)
+-- both, with the number of the answer (rule 5.2)
 pub record Values : Type 0 where
   pub number : ℕ
   pub edition : ℕ
@@ -58,10 +61,14 @@ pub record Converting : Type 0 where
 abbrev pub converting : Conversion → List ℕ → Converting
 converting r left = record { answer = r; left = left }
 
+-- what a file is converted to (rules 1.15, 5.2): the edition that is not its own, and its length there
+abbrev pub converted_to : List ℕ → Converted
+converted_to file = record { edition = target_of (rim.edition_of file); length = length (converted file) }
+
 -- the converted file in the first places, every further place as it was (rule 3.9); a number changes no place (rule 4.30)
 abbrev pub convert_by : ℕ → List ℕ → List ℕ → Converting
-convert_by zero file out = converting (Converted (other_edition file) (length (converted file))) (filled (converted file) out)
-convert_by (suc k) file out = converting (Refused (refusal (suc k))) out
+convert_by zero file out = converting (Ok (converted_to file)) (filled (converted file) out)
+convert_by (suc k) file out = converting (Err (refusal (suc k))) out
 
 -- the call, by the first number due (rule 5.7)
 unfoldable pub convert_call : List ℕ → List ℕ → Converting

@@ -1,9 +1,9 @@
 -- That nothing crosses, of the lists that a call leaves for a rim and of its patch (rules 2.20 to 2.22, 3.16). Definitions only.
-use Rattle.std.specs.Prelude.{◌≡◌, ℕ, ◌<◌, length}
+use Rattle.triangulator.specs.Call.{patch_with}
+use Rattle.std.specs.Prelude.{◌≡◌, ℕ, ◌<◌, length, Some, None, Ok}
 use mathlib.Core.List.{List, [], ◌∷◌, map, Memᴰ}
 use Rattle.terms.specs.Entries.{entry_at, row_weight}
 use Rattle.polygon.specs.declared.Polygon.{Polygon}
-use Rattle.triangulator.specs.declared.Outcome.TheVariants.{Patch, None}
 use Rattle.pipeline.specs.Patching.{Patching, handed_back}
 use Rattle.demands.specs.Candidates.{Flat}
 use Rattle.demands.specs.Demand3.{candidates_left_of, rows_left_of}
@@ -32,6 +32,6 @@ pub record Uncrossed (p : Polygon) (x : Patching) : Type 0 where
   -- no two triangles of the patch cross (rule 3.16)
   pub patch : NoCrossing p (λ t. Memᴰ t (patch_of x))
   -- after a patch two rim edges meet only in ends that they share (rule 3.16)
-  pub rim : (count total : ℕ) → x.outcome ≡ Patch count total → NoCrossing p (IsRimEdge p.n)
+  pub rim : (count total : ℕ) → x.outcome ≡ Ok (Some (patch_with count total)) → NoCrossing p (IsRimEdge p.n)
   -- where two rim edges that share no vertex meet in a point, the answer is 'none' (rule 3.16)
-  pub crossed_none : (e f : List ℕ) → IsRimEdge p.n e → IsRimEdge p.n f → NoVertexShared e f → (v w : ℕ → ℕ) → Meet p e f v w → x.outcome ≡ None
+  pub crossed_none : (e f : List ℕ) → IsRimEdge p.n e → IsRimEdge p.n f → NoVertexShared e f → (v w : ℕ → ℕ) → Meet p e f v w → x.outcome ≡ Ok None

@@ -18,7 +18,8 @@ fn is_flat(p: Polygon) -> bool
     ensures { result ≡ is_flat p }
 {
     let n = p.n;
-    let lifted = lift_vertices(p, 0);
+    let table = lift_vertices(p, 0);
+    let lifted = &table[..];
     // A loop over the number c: each vertex after it is looked at with it.
     for c in 2..n {
         let pencil = sphere::pencil_through(lifted[1], lifted[c]);

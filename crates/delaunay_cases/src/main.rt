@@ -1,9 +1,11 @@
 // The candidate finder on stored cases. Each prints the answer and every place of every table; 9 is what a place held before.
 #![tactic(auto)]
 
-ghost use Rattle.std.specs.Prelude.{◌≤◌, length};
+ghost use Rattle.std.specs.Prelude.{◌≤◌, ◌<◌};
+ghost use Rattle.terms.specs.Limits.{max_vertices};
 
-use finder::Found;
+use codes::Refusal;
+use finder::Counts;
 use geometry::face;
 use grid::GridPoint;
 use polygon::Polygon;
@@ -13,121 +15,65 @@ use std::io;
 // Places of each table; a part of them is lent.
 const PLACES: usize = 20;
 
-fn print_number(rt: &impl Print, n: u64) -> io::Result<()> {
-    print!(rt; " {n}")
-}
-
-fn print_candidate(rt: &impl Print, t: [u8; 3]) -> io::Result<()> {
-    print!(rt; " ")?;
-    print_number(rt, t[0] as u64)?;
-    print_number(rt, t[1] as u64)?;
-    print_number(rt, t[2] as u64)
-}
-
-fn print_candidates(rt: &impl Print, candidates: &[[u8; 3]]) -> io::Result<()> {
-    print!(rt; "\ncandidates")?;
-    for i in 0..candidates.len() {
-        print_candidate(rt, candidates[i])?;
-    }
-    Ok(())
-}
-
-fn print_weight(rt: &impl Print, w: u32) -> io::Result<()> {
-    print_number(rt, w as u64)
-}
-
-fn print_weights(rt: &impl Print, weights: &[u32]) -> io::Result<()> {
-    print!(rt; "\nweights")?;
-    for i in 0..weights.len() {
-        print_weight(rt, weights[i])?;
-    }
-    Ok(())
-}
-
-fn print_row(rt: &impl Print, r: [u32; 3]) -> io::Result<()> {
-    print!(rt; " ")?;
-    print_number(rt, r[0] as u64)?;
-    print_number(rt, r[1] as u64)?;
-    print_number(rt, r[2] as u64)
-}
-
-fn print_rows(rt: &impl Print, rows: &[[u32; 3]]) -> io::Result<()> {
-    print!(rt; "\nrows")?;
-    for i in 0..rows.len() {
-        print_row(rt, rows[i])?;
-    }
-    Ok(())
-}
-
-fn print_answer(rt: &impl Print, answer: Found) -> io::Result<()> {
+fn print_answer(rt: &impl Print, answer: Result<Counts, Refusal>) -> io::Result<()> {
     match answer {
-        Found::Lists { candidates, rows } => {
-            print!(rt; "found")?;
-            print_number(rt, candidates as u64)?;
-            print_number(rt, rows as u64)
-        }
-        Found::Refused(refusal) => {
-            print!(rt; "refused")?;
-            print_number(rt, refusal.number as u64)
-        }
+        Ok(lists) => print!(rt; "found {} {}", lists.candidates, lists.rows),
+        Err(refusal) => print!(rt; "{refusal}"),
     }
+}
+
+fn print_tables(
+    rt: &impl Print,
+    candidates: &[[u8; 3]],
+    weights: &[u32],
+    rows: &[[u32; 3]],
+) -> io::Result<()> {
+    print!(rt; "\ncandidates")?;
+    for t in candidates {
+        print!(rt; "  {} {} {}", t[0], t[1], t[2])?;
+    }
+    print!(rt; "\nweights")?;
+    for weight in weights {
+        print!(rt; " {weight}")?;
+    }
+    print!(rt; "\nrows")?;
+    for row in rows {
+        print!(rt; "  {} {} {}", row[0], row[1], row[2])?;
+    }
+    Ok(())
 }
 
 // Lends so many places of the tables.
-fn find_in(
-    p: Polygon,
-    candidates: &mut [[u8; 3]],
-    c: usize,
-    weights: &mut [u32],
-    w: usize,
-    rows: &mut [[u32; 3]],
-    r: usize,
-) -> Found
-    requires { (c ≤ length candidates.old) × (w ≤ length weights.old) × (r ≤ length rows.old) }
-{
-    finder::find(p, &mut candidates[..c], &mut weights[..w], &mut rows[..r])
-}
-
 fn run(rt: &impl Print, p: Polygon, c: usize, w: usize, r: usize) -> io::Result<()>
-    requires { (c ≤ 20) × (w ≤ 20) × (r ≤ 20) }
+    requires { (c ≤ PLACES) × (w ≤ PLACES) × (r ≤ PLACES) }
 {
     let mut candidates = [[9u8; 3]; PLACES];
     let mut weights = [9u32; PLACES];
     let mut rows = [[9u32; 3]; PLACES];
-    let answer = find_in(p, &mut candidates, c, &mut weights, w, &mut rows, r);
+    let answer = finder::find(p, &mut candidates[..c], &mut weights[..w], &mut rows[..r]);
     print_answer(rt, answer)?;
-    print_candidates(rt, &candidates)?;
-    print_weights(rt, &weights)?;
-    print_rows(rt, &rows)?;
+    print_tables(rt, &candidates, &weights, &rows)?;
     print!(rt; "\n\n")
 }
 
 // The first n points, with these factors and no normal.
 fn polygon(n: usize, area_factor: u32, bend_factor: u32, points: [GridPoint; 6]) -> Polygon {
-    let mut vertices = [GridPoint { x: 0, y: 0, z: 0 }; 64];
-    for i in 0..6 {
-        let point = points[i];
-        vertices[i] = point;
-    }
-    let normals = [Normal { x: 0, y: 0, z: 0 }; 64];
-    Polygon {
+    let mut p = Polygon {
         n,
         area_factor,
         bend_factor,
-        vertices,
-        normals,
-    }
+        ..Polygon::empty()
+    };
+    p.vertices[..6].copy_from_slice(&points);
+    p
 }
 
 // The polygon with another normal at place i.
-fn with_normal(p: Polygon, i: usize, normal: Normal) -> Polygon {
-    let mut normals = p.normals;
-    if i < 64 {
-        normals[i] = normal;
-    }
-    let mut changed = p;
-    changed.normals = normals;
-    changed
+fn with_normal(mut p: Polygon, i: usize, normal: Normal) -> Polygon
+    requires { i < max_vertices }
+{
+    p.normals[i] = normal;
+    p
 }
 
 // Rim file P of rule 6.1.
@@ -294,12 +240,13 @@ fn run_refused(rt: &impl Print) -> io::Result<()> {
 
 // The bend of equal, perpendicular and opposite normals that are 100 long, which is 400 quarters, and for a dot product of -1.
 fn run_bends(rt: &impl Print) -> io::Result<()> {
-    print!(rt; "bends")?;
-    print_number(rt, face::bend(10000, 400, 400) as u64)?;
-    print_number(rt, face::bend(0, 400, 400) as u64)?;
-    print_number(rt, face::bend(-10000, 400, 400) as u64)?;
-    print_number(rt, face::bend(-1, 400, 400) as u64)?;
-    println!(rt)
+    println!(rt;
+        "bends {} {} {} {}",
+        face::bend(10000, 400, 400),
+        face::bend(0, 400, 400),
+        face::bend(-10000, 400, 400),
+        face::bend(-1, 400, 400)
+    )
 }
 
 fn main(rt: HostRuntime) -> io::Result<()> {

@@ -1,5 +1,5 @@
 -- Three corners and four, as the search computes them: their pencil and their sphere, and what a vertex's position says of the fours. Assumes nothing.
-use mathlib.Core.Path.{◌≡◌, sym, ◌∙◌, ap, subst}
+use mathlib.Core.Path.{◌≡◌, sym, ◌∙◌, ap}
 use mathlib.Core.Bool.{true, false}
 use mathlib.Core.List.{List}
 use Prim.Native.Nat.{ℕ, ◌<◌}
@@ -14,14 +14,12 @@ use Rattle.geometry.specs.declared.sphere.Position.{Position}
 use Rattle.geometry.specs.declared.sphere.Position.TheVariants.{Inside}
 use Rattle.integers.specs.Order.{equal}
 use Rattle.geometry.specs.Spheres.{coplanar}
-use Rattle.geometry.specs.Bounds.{LiftedBounds, PencilBounds, SphereBounds}
 use Rattle.geometry.specs.Lifting.{position_of, lift_of, pencil_of, sphere_of, position_by}
 use Rattle.geometry.specs.Facets.{separates_by, refuted_by}
-use Rattle.geometry.proofs.Spheres.{pencil_bounds, sphere_bounds, computed_sphere, coplanar_is, position_is}
+use Rattle.geometry.proofs.Spheres.{computed_sphere, coplanar_is, position_is}
 use Rattle.geometry.proofs.Facets.{separates_is, refuted_is}
 use Rattle.delaunay_tetrahedra.specs.Tetrahedra.{inside_four, on_four, counts}
 use Rattle.delaunay_search.specs.Search.{Lifts, unlifted}
-use Rattle.delaunay_search.proofs.Lifting.{lift_in}
 use Rattle.delaunay_search.proofs.Placing.{Placed, placed}
 use Rattle.delaunay_tetrahedra.proofs.Counting.{not_counts_inside, not_counts_between}
 
@@ -35,12 +33,6 @@ pub record Three (p : Polygon) (a b c : ℕ) (lifted : List Lifted) (pencil : Pe
   pub spans : pencil ≡ pencil_of (get_or lifted b unlifted) (get_or lifted c unlifted)
 
 module _ {p : Polygon} {a b c : ℕ} {lifted : List Lifted} {pencil : Pencil} (t : Three p a b c lifted pencil) where
-  pub vertex_in : (v : ℕ) → v < p.n → LiftedBounds (get_or lifted v unlifted)
-  vertex_in = lift_in t.valid t.a<n t.lifts
-
-  pub pencil_in : PencilBounds pencil
-  pencil_in = subst (λ (k : Pencil). PencilBounds k) (sym t.spans) (pencil_bounds (vertex_in b t.b<n) (vertex_in c t.c<n))
-
   pencil_of_lem : pencil ≡ pencil_of (lift_of (vertex p a) (vertex p b)) (lift_of (vertex p a) (vertex p c))
   pencil_of_lem = t.spans ∙ (λ i. pencil_of (t.lifts.at b t.b<n i) (t.lifts.at c t.c<n i))
 
@@ -54,9 +46,6 @@ module _ {p : Polygon} {a b c : ℕ} {lifted : List Lifted} {pencil : Pencil} (t
 
   -- the sphere through a fourth corner
   module _ (d : ℕ) (d<n : d < p.n) {ball : Sphere} (es : ball ≡ sphere_of pencil (get_or lifted d unlifted)) where
-    pub sphere_in : SphereBounds ball
-    sphere_in = subst (λ (s : Sphere). SphereBounds s) (sym es) (sphere_bounds pencil_in (vertex_in d d<n))
-
     sphere_of_lem : ball ≡ computed_sphere (vertex p a) (vertex p b) (vertex p c) (vertex p d)
     sphere_of_lem = es ∙ (λ i. sphere_of (pencil_of_lem i) (t.lifts.at d d<n i))
 

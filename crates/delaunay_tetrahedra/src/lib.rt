@@ -3,7 +3,6 @@
 
 ghost use Rattle.std.specs.Prelude.{◌≡◌, not, true, ◌≤◌, ◌<◌, eqb};
 ghost use Rattle.terms.specs.Limits.{max_vertices};
-ghost use Rattle.geometry.specs.Bounds.{LiftedBounds, PencilBounds};
 ghost use Rattle.geometry.specs.Facets.{refuted_by};
 ghost use Rattle.lists.specs.Lists.{both, either};
 ghost use Rattle.polygon.specs.Polygon.{ValidPolygon};
@@ -27,7 +26,7 @@ fn is_fifth(place: Position, a: usize, b: usize, c: usize, d: usize, v: usize) -
 
 // Do two vertices that an earlier three was left for, or dropped by, refute this one? Asked where six vertices or more come after c: fewer are tried sooner.
 fn still_refuted(n: usize, c: usize, pencil: Pencil, one: Lifted, other: Lifted) -> bool
-    requires { (n ≤ max_vertices) × (c < n) × (PencilBounds pencil) × (LiftedBounds one) × (LiftedBounds other) }
+    requires { (n ≤ max_vertices) × (c < n) }
     ensures { result ≡ true → refuted_by pencil one other ≡ true }
 {
     c + 6 < n && facet::refuted_by(pencil, one, other)

@@ -1,5 +1,5 @@
 -- The search over threes of a flat polygon: what one vertex's position, and the scans of all, say of what is marked and what is left. Assumes nothing.
-use mathlib.Core.Path.{◌≡◌, sym, ◌∙◌, ap, subst}
+use mathlib.Core.Path.{◌≡◌, sym, ◌∙◌, ap}
 use mathlib.Core.Bool.{Bool, true, false, not}
 use mathlib.Core.List.{List}
 use Prim.Native.Nat.{ℕ, ◌+◌, ◌-◌, ◌≤◌, ◌<◌}
@@ -13,12 +13,11 @@ use Rattle.geometry.specs.declared.sphere.Sphere.{Sphere}
 use Rattle.geometry.specs.declared.sphere.Position.{Position}
 use Rattle.geometry.specs.declared.sphere.Position.TheVariants.{Inside}
 use Rattle.integers.specs.Order.{equal}
-use Rattle.geometry.specs.Bounds.{LiftedBounds, SphereBounds}
 use Rattle.geometry.specs.Lifting.{position_by}
 use Rattle.planar.specs.Circles.{collinear}
 use Rattle.planar.specs.Planes.{InOnePlane}
 use Rattle.planar.specs.Seen.{position_in_plane, circle_of}
-use Rattle.planar.proofs.Seen.{computed_circle, circle_bounds, circle_position_is, collinear_is}
+use Rattle.planar.proofs.Seen.{computed_circle, circle_position_is, collinear_is}
 use Rattle.planar.proofs.Planes.{plane_any}
 use Rattle.std.proofs.Common.{Ok}
 use Rattle.lists.specs.Lists.{both, either, some}
@@ -35,7 +34,6 @@ use Rattle.delaunay_search.proofs.Marking.{put_all}
 use Rattle.delaunay_search.proofs.Placing.{Placed, placed, other_is}
 use Rattle.delaunay_search.proofs.Scanning as scanning
 use Rattle.delaunay_search.proofs.Scanning.{none_inside, Scanned, Passed, scan_turn, scan_end, pass_on, pass_end}
-use Rattle.delaunay_search.proofs.Lifting.{lift_in}
 
 -- a test of threes
 abbrev pub Test : Type 0
@@ -81,12 +79,6 @@ pub record Triangle (p : Polygon) (a b c : ℕ) (lifted : List Lifted) (circle :
 
 module _ {p : Polygon} {a b c : ℕ} {lifted : List Lifted} {circle : Sphere} {marks₀ marks : List ℕ} {left₀ : Test → Bool}
     (t : Triangle p a b c lifted circle marks₀ marks left₀) where
-  pub vertex_in : (v : ℕ) → v < p.n → LiftedBounds (get_or lifted v unlifted)
-  vertex_in = lift_in t.valid t.a<n t.lifts
-
-  pub circle_in : SphereBounds circle
-  circle_in = subst (λ (s : Sphere). SphereBounds s) (sym t.through) (circle_bounds (vertex_in b t.b<n) (vertex_in c t.c<n))
-
   circle_of_lem : circle ≡ computed_circle (vertex p a) (vertex p b) (vertex p c)
   circle_of_lem = t.through ∙ (λ i. circle_of (t.lifts.at b t.b<n i) (t.lifts.at c t.c<n i))
 

@@ -9,6 +9,8 @@ use native.Mathlib.Omega.{arith}
 use borrow.Author.Tests.{ltb-true, lt-ltb}
 use lib.Dec.{ltb}
 use lib.ListN.{length}
+use Rattle.triangulator.specs.Call.{Outcome}
+use Rattle.codes.specs.Refusals.{number_of}
 use Rattle.lists.specs.Lists.{up_from}
 use Rattle.lists.proofs.Choice.{Truth, holds, fails, truth, no, either_left, either_right}
 use Rattle.polygon.specs.declared.Polygon.{Polygon}
@@ -20,8 +22,6 @@ use Rattle.reader.proofs.Order.{none_first, Verdict, verdict_either, verdict_fir
 use Rattle.delaunay.specs.Candidates.{candidates_of}
 use Rattle.finder.specs.Sizes.{places_of}
 use Rattle.triangulation.specs.Triangulations.{best}
-use Rattle.triangulator.specs.declared.Outcome.{Outcome}
-use Rattle.triangulator.specs.Call.{number_of}
 use Rattle.triangulator.specs.Demands.{Taken, a_patch, a_none}
 use Rattle.triangulator.proofs.Demands.{never_refused, settled_taken}
 use Rattle.pipeline.specs.Patching.{Tables, Patching, refused, rows_in, problem_in, tables_short, patched, patch_by, file_number, patch_file}

@@ -7,7 +7,7 @@ use mathlib.Core.Logic.{◌⊎◌}
 use Prim.Native.Nat.{ℕ, zero, suc}
 use lib.ListN.{take}
 use native.Mathlib.Omega.{arith}
-use Rattle.codes.specs.Refusals.{refusal}
+use Rattle.codes.specs.Refusals.{refusal, number_of}
 use Rattle.lists.specs.Lists.{up_from}
 use Rattle.polygon.specs.declared.Polygon.{Polygon}
 use Rattle.polygon.specs.Polygon.{empty_polygon}
@@ -16,8 +16,8 @@ use Rattle.reader.specs.Order.{First, NoneDue}
 use Rattle.reader.specs.Reading.{polygon_of}
 use Rattle.reader.specs.Reading as reader
 use Rattle.reader.proofs.Order.{none_first, Verdict, verdict_either, verdict_first, verdict_given, verdict_zero, verdict_none}
-use Rattle.finder.specs.declared.Found.TheVariants.{Lists, Refused}
-use Rattle.finder.specs.Finding.{Finding, finding, number_of, short_tables, find_by}
+use Rattle.std.specs.Prelude.{Ok, Err}
+use Rattle.finder.specs.Finding.{Found, counts, Finding, finding, short_tables, find_by}
 use Rattle.finder.specs.Sizes.{places_of}
 use Rattle.pipeline.specs.Finding.{find_file_number, find_file}
 use Rattle.demands.specs.Demand1.{polygon_in}
@@ -56,7 +56,7 @@ module _ (limit : ℕ) (file : List ℕ) (bytes : Bytes file) (candidates : List
 
   -- the first number due is given, and every lent table holds what it held
   pub refused_first : (k : ℕ) → First (FindFileDue limit file candidates weights rows) k →
-      find_file limit file candidates weights rows ≡ finding (Refused (refusal k)) candidates weights rows
+      find_file limit file candidates weights rows ≡ finding (Err (refusal k)) candidates weights rows
   refused_first zero f = absurd (none_first (verdict_none verdict (verdict_first verdict f)) f)
   refused_first (suc k) f = by_number (verdict_first verdict f)
 
@@ -71,14 +71,14 @@ module _ (limit : ℕ) (file : List ℕ) (bytes : Bytes file) (candidates : List
       number_is (suc n) = refl
 
   -- the lists are found only where no number is due
-  pub found_only_when : (count row_count : ℕ) → (find_file limit file candidates weights rows).answer ≡ Lists count row_count →
+  pub found_only_when : (count row_count : ℕ) → (find_file limit file candidates weights rows).answer ≡ Ok (counts count row_count) →
       NoneDue (FindFileDue limit file candidates weights rows)
   found_only_when count row_count e = verdict_none verdict (by (find_file_number limit file candidates weights rows) refl)
     where
       by : (n : ℕ) → find_file_number limit file candidates weights rows ≡ n → find_file_number limit file candidates weights rows ≡ 0
       by zero d = d
       by (suc n) d =
-          let q : Refused (refusal (suc n)) ≡ Lists count row_count = sym (ap (λ (x : Finding). x.answer) (by_number d)) ∙ e in
+          let q : ◌≡◌ {A = Found} (Err (refusal (suc n))) (Ok (counts count row_count)) = sym (ap (λ (x : Finding). x.answer) (by_number d)) ∙ e in
           absurd (let z : ◌≡◌ {A = ℕ} 0 1 = cc in omega arith)
 
   -- ---- a call on which no number is due
@@ -93,7 +93,7 @@ module _ (limit : ℕ) (file : List ℕ) (bytes : Bytes file) (candidates : List
 
     -- the lists are found
     pub found_when : (find_file limit file candidates weights rows).answer
-        ≡ Lists (places_of (polygon_in limit file)).candidates (places_of (polygon_in limit file)).rows
+        ≡ Ok (counts (places_of (polygon_in limit file)).candidates (places_of (polygon_in limit file)).rows)
     found_when = ap (λ (x : Finding). x.answer) call_is
 
     -- Demand 2: the tables hold the lists of the rim in their first places, and what they held in all others

@@ -10,7 +10,7 @@ use native.Mathlib.Omega.{arith}
 use borrow.Author.Tests.{ltb-true, lt-ltb}
 use lib.Dec.{ltb}
 use lib.ListN.{length, take}
-use Rattle.codes.specs.Refusals.{refusal}
+use Rattle.codes.specs.Refusals.{refusal, number_of}
 use Rattle.lists.proofs.Choice.{Truth, holds, fails, truth, no, true_not_false, either_left, either_right}
 use Rattle.terms.specs.Order.{NoneDue}
 use Rattle.terms.proofs.Order.{Verdict, none_first, verdict_either, verdict_first, verdict_given, verdict_zero, verdict_none}
@@ -18,11 +18,9 @@ use Rattle.polygon.specs.declared.Polygon.{Polygon}
 use Rattle.polygon.specs.Due.{PolygonBefore, First}
 use Rattle.polygon.proofs.Due.{ordered}
 use Rattle.polygon.proofs.Validity.{code_valid}
-use Rattle.finder.specs.declared.Found.TheVariants.{Lists, Refused}
-use Rattle.finder.specs.declared.Sizes.TheVariants as sizes
-use Rattle.finder.specs.Finding.{Finding, finding, number_of, short_tables, number_due, find_by, find_number, find_call}
-use Rattle.finder.specs.Sizes.{places_of, sizes_by, sizes_of}
-use Rattle.finder.specs.Sizes as finder-sizes
+use Rattle.std.specs.Prelude.{Ok, Err}
+use Rattle.finder.specs.Finding.{Found, counts, Finding, finding, short_tables, number_due, find_by, find_number, find_call}
+use Rattle.finder.specs.Sizes.{Sizes, places_of, sizes_by, sizes_of}
 use Rattle.finder.proofs.Answers.{clear}
 use Rattle.demands.specs.Finding.{FindTooShort, few_candidates, few_weights, few_rows}
 use Rattle.demands.specs.Polygons.{FindDue, SizesDue}
@@ -60,7 +58,7 @@ module _ (p : Polygon) (candidates : List (List ℕ)) (weights : List ℕ) (rows
 
   -- the first number due is given, and every lent table holds what it held
   pub refused_first : (k : ℕ) → First (FindDue p candidates weights rows) k →
-      find_call p candidates weights rows ≡ finding (Refused (refusal k)) candidates weights rows
+      find_call p candidates weights rows ≡ finding (Err (refusal k)) candidates weights rows
   refused_first zero f = absurd (none_first (verdict_none verdict (verdict_first ordered verdict f)) f)
   refused_first (suc k) f = by_number (verdict_first ordered verdict f)
 
@@ -74,7 +72,7 @@ module _ (p : Polygon) (candidates : List (List ℕ)) (weights : List ℕ) (rows
 
   -- the lists are found exactly when no number is due
   pub found_when : NoneDue (FindDue p candidates weights rows) →
-      (find_call p candidates weights rows).answer ≡ Lists (places_of p).candidates (places_of p).rows
+      (find_call p candidates weights rows).answer ≡ Ok (counts (places_of p).candidates (places_of p).rows)
   found_when none = ap (λ (x : Finding). x.answer) (by_number (verdict_zero verdict none))
 
   -- lengths in quarters, of the lists that are found
@@ -85,14 +83,14 @@ module _ (p : Polygon) (candidates : List (List ℕ)) (weights : List ℕ) (rows
       in_quarters p (code_valid p (clear p (short_tables p candidates weights rows) (verdict_zero verdict none)).code)
       (find_hold p candidates weights rows _ _ (found_when none)).lists
 
-  pub found_only_when : (count row_count : ℕ) → (find_call p candidates weights rows).answer ≡ Lists count row_count →
+  pub found_only_when : (count row_count : ℕ) → (find_call p candidates weights rows).answer ≡ Ok (counts count row_count) →
       NoneDue (FindDue p candidates weights rows)
   found_only_when count row_count e = verdict_none verdict (by (find_number p candidates weights rows) refl)
     where
       by : (n : ℕ) → find_number p candidates weights rows ≡ n → find_number p candidates weights rows ≡ 0
       by zero d = d
       by (suc n) d =
-          let q : Refused (refusal (suc n)) ≡ Lists count row_count = sym (ap (λ (x : Finding). x.answer) (by_number d)) ∙ e in
+          let q : ◌≡◌ {A = Found} (Err (refusal (suc n))) (Ok (counts count row_count)) = sym (ap (λ (x : Finding). x.answer) (by_number d)) ∙ e in
           absurd (let z : ◌≡◌ {A = ℕ} 0 1 = cc in omega arith)
 
 -- ---- the places that a polygon needs (rule 5.5)
@@ -104,22 +102,22 @@ module _ (p : Polygon) where
   by_sizes e = ap (λ (k : ℕ). sizes_by k p) e
 
   -- the first number due is given, and a number that is given is the first
-  pub sizes_refused_first : (k : ℕ) → First (SizesDue p) k → sizes_of p ≡ sizes.Refused (refusal k)
+  pub sizes_refused_first : (k : ℕ) → First (SizesDue p) k → sizes_of p ≡ Err (refusal k)
   sizes_refused_first zero f = absurd (none_first (verdict_none sizes_verdict (verdict_first ordered sizes_verdict f)) f)
   sizes_refused_first (suc k) f = by_sizes (verdict_first ordered sizes_verdict f)
 
-  pub sizes_given_first : (k : ℕ) → sizes_of p ≡ sizes.Refused (refusal k) → First (SizesDue p) k
+  pub sizes_given_first : (k : ℕ) → sizes_of p ≡ Err (refusal k) → First (SizesDue p) k
   sizes_given_first k e = by (number_due false p) refl
     where
       by : (n : ℕ) → number_due false p ≡ n → First (SizesDue p) k
       by zero d =
-          let q : sizes.Known (places_of p) ≡ sizes.Refused (refusal k) = sym (by_sizes d) ∙ e in
+          let q : ◌≡◌ {A = Sizes} (Ok (places_of p)) (Err (refusal k)) = sym (by_sizes d) ∙ e in
           absurd (let z : ◌≡◌ {A = ℕ} 0 1 = cc in omega arith)
       by (suc n) d =
-          let q : sizes.Refused (refusal (suc n)) ≡ sizes.Refused (refusal k) = sym (by_sizes d) ∙ e in
-          let same : suc n ≡ k = ap finder-sizes.number_of q in
+          let q : ◌≡◌ {A = Sizes} (Err (refusal (suc n))) (Err (refusal k)) = sym (by_sizes d) ∙ e in
+          let same : suc n ≡ k = ap number_of q in
           subst (λ (j : ℕ). First (SizesDue p) j) same (verdict_given sizes_verdict d)
 
   -- the places are told where no number is due
-  pub sizes_known_when : NoneDue (SizesDue p) → sizes_of p ≡ sizes.Known (places_of p)
+  pub sizes_known_when : NoneDue (SizesDue p) → sizes_of p ≡ Ok (places_of p)
   sizes_known_when none = by_sizes (verdict_zero sizes_verdict none)

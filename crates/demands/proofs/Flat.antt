@@ -8,6 +8,8 @@ use native.Mathlib.Omega.{arith}
 use lib.IntN.{ℤ, pos}
 use lib.ListN.{length}
 use lib.Signed.{lt_z}
+use Rattle.std.specs.Prelude.{Some, None, Ok}
+use Rattle.codes.specs.Refusals.{number_of}
 use Rattle.integers.proofs.Laws.{sub_self}
 use Rattle.integers.proofs.Order.{less_by_difference}
 use Rattle.lists.specs.Lists.{up_from, when, every_from}
@@ -33,8 +35,7 @@ use Rattle.triangulation.specs.Triangulations.{Answer, patch, best, best_key, ke
 use Rattle.triangulation.specs.Problems.{problem_from}
 use Rattle.triangulation.specs.Demand3.{Triangulates}
 use Rattle.triangulation.proofs.Demand3.{demand3, members, triangle_count}
-use Rattle.triangulator.specs.declared.Outcome.TheVariants.{Patch, None}
-use Rattle.triangulator.specs.Call.{number_of, settled}
+use Rattle.triangulator.specs.Call.{settled, patch_with}
 use Rattle.pipeline.specs.Patching.{Tables, Patching, problem_in, refused, patch_file}
 use Rattle.pipeline.proofs.Values.{valid_job}
 use Rattle.demands.specs.Demand1.{CallDue, by_reader, twelve, polygon_in}
@@ -157,7 +158,7 @@ module _ (limit : ℕ) (file : List ℕ) (bytes : Bytes file) (t : Tables) (none
       ∙ ap (λ (a : Answer). (settled a (length (candidates_of rim)) t.triangles t.work).outcome) e
 
   -- a rim with all vertices on one line gets 'none'
-  pub line_gets_none : OnOneLine (vertex rim) rim.n → (patch_file limit file t).outcome ≡ None
+  pub line_gets_none : OnOneLine (vertex rim) rim.n → (patch_file limit file t).outcome ≡ Ok None
   line_gets_none h =
       let v = (accepted limit file bytes t none_due).polygon_valid in
       outcome_by ((demand3 (problem_in rim) (valid_job rim v)).none_if (λ s m. no_tiling v s m))
@@ -170,7 +171,7 @@ module _ (limit : ℕ) (file : List ℕ) (bytes : Bytes file) (t : Tables) (none
 
   -- every other triangle gets a patch: itself, at its own weight
   pub triangle_gets_patch : rim.n ≡ 3 → collinear (vertex rim 0) (vertex rim 1) (vertex rim 2) ≡ false →
-      (patch_file limit file t).outcome ≡ Patch 1 (own_weight rim (triple 0 1 2))
+      (patch_file limit file t).outcome ≡ Ok (Some (patch_with 1 (own_weight rim (triple 0 1 2))))
   triangle_gets_patch is3 proper =
       outcome_by (ap best (λ i. problem_from (is3 i) (triangle_candidate rim is3 proper i) (weights_of rim (triangle_candidate rim is3 proper i))
       (rows_of rim (triangle_candidate rim is3 proper i))) ∙ alone (own_weight rim (triple 0 1 2)) (rows_of rim (triple 0 1 2 ∷ [])))

@@ -6,7 +6,7 @@ use mathlib.Core.Bool.{false}
 use mathlib.Core.List.{List}
 use Prim.Native.Nat.{ℕ, suc, ◌≤◌, ◌<◌}
 use native.Mathlib.Omega.{arith}
-use Rattle.codes.specs.Refusals.{refusal}
+use Rattle.codes.specs.Refusals.{refusal, number_of}
 use Rattle.terms.specs.Limits.{min_vertices, max_vertices, trim_vertices, count_fits}
 use Rattle.terms.specs.Numbers.{first_due}
 use Rattle.rim_file.specs.File.{Bytes}
@@ -17,12 +17,11 @@ use Rattle.reader.specs.declared.Status.TheVariants.{Complete}
 use Rattle.reader.proofs.Limits.{number_alike, reading_alike, number_over, read_at_most, due_5, due_20}
 use Rattle.reader.proofs.Accepted.{within_limit}
 use Rattle.finder.specs.Finding.{number_due}
-use Rattle.finder.specs.declared.Sizes.TheVariants.{Refused}
+use Rattle.std.specs.Prelude.{Err}
 use Rattle.finder.specs.Sizes.{sizes_by}
 use Rattle.pipeline.specs.Patching.{Tables, refused, patch_by, polygon_number, patch_file}
 use Rattle.pipeline.specs.Sizes.{sizes_file}
 use Rattle.pipeline.proofs.Files.{lists_alike}
-use Rattle.triangulator.specs.Call.{number_of}
 use Rattle.demands.specs.Demand1.{CallDue, by_reader}
 use Rattle.demands.specs.Limits.{OneAnswer}
 use Rattle.demands.proofs.Demand1.{refused_first, given_first}
@@ -58,7 +57,7 @@ module _ {small large : ℕ} (least : min_vertices ≤ small) (below : small ≤
           let n = number_over least below most file complete more in
           ap (λ (k : ℕ). patch_by (first_due k (polygon_number (polygon_of file) lent)) (polygon_of file) lent) n
 
-      pub no_sizes : sizes_file small file ≡ Refused (refusal 20)
+      pub no_sizes : sizes_file small file ≡ Err (refusal 20)
       unfolding sizes_file
       no_sizes =
           let n = number_over least below most file complete more in

@@ -3,7 +3,8 @@ use mathlib.Core.Path.{◌≡◌, ap}
 use mathlib.Core.List.{List}
 use Prim.Native.Nat.{ℕ, ◌≤◌}
 use native.Mathlib.Omega.{arith}
-use Rattle.codes.specs.Refusals.{refusal}
+use Rattle.std.specs.Prelude.{Err}
+use Rattle.codes.specs.Refusals.{refusal, number_of}
 use Rattle.polygon.specs.declared.Polygon.{Polygon}
 use Rattle.polygon.specs.Due.{PolygonPlace, PolygonDue}
 use Rattle.polygon.specs.Due as polygon
@@ -11,8 +12,6 @@ use Rattle.rim_file.specs.File.{Bytes}
 use Rattle.reader.specs.Order.{FilePlace}
 use Rattle.reader.specs.Due.{FileDue}
 use Rattle.reader.specs.Due as reader
-use Rattle.triangulator.specs.declared.Outcome.TheVariants.{Refused}
-use Rattle.triangulator.specs.Call.{number_of}
 use Rattle.pipeline.specs.Patching.{Tables, patch_polygon, patch_file}
 use Rattle.demands.specs.Demand1.{FileCallDue, by_reader, twelve, thirteen}
 use Rattle.demands.specs.Polygons.{PolygonCallDue, by_polygon}
@@ -57,8 +56,8 @@ polygon_at_most_20 (polygons.twelve _) = omega arith
 polygon_at_most_20 (polygons.thirteen _) = omega arith
 
 -- the one call never gives 23 (rules 4.23, 4.31, 4.34)
-pub file_never_23 : (limit : ℕ) (file : List ℕ) → Bytes file → (t : Tables) → (patch_file limit file t).outcome ≡ Refused (refusal 23) → ⊥
+pub file_never_23 : (limit : ℕ) (file : List ℕ) → Bytes file → (t : Tables) → (patch_file limit file t).outcome ≡ Err (refusal 23) → ⊥
 file_never_23 limit file bytes t e = omega (arith, file_at_most_20 (given_first limit file bytes t 22 (ap number_of e)).is_due)
 
-pub polygon_never_23 : (p : Polygon) (t : Tables) → (patch_polygon p t).outcome ≡ Refused (refusal 23) → ⊥
+pub polygon_never_23 : (p : Polygon) (t : Tables) → (patch_polygon p t).outcome ≡ Err (refusal 23) → ⊥
 polygon_never_23 p t e = omega (arith, polygon_at_most_20 (polygon-calls.given_first p t 22 (ap number_of e)).is_due)

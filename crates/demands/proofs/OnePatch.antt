@@ -6,6 +6,7 @@ use mathlib.Core.List.{List, [], Memᴰ}
 use mathlib.Core.Logic.{◌⊎◌, inl, inr}
 use Prim.Native.Nat.{ℕ, ◌<◌}
 use lib.ListN.{length, get_or, length-map}
+use Rattle.std.specs.Prelude.{None, Ok, Err}
 use Rattle.codes.specs.Refusals.{refusal}
 use Rattle.lists.specs.Lists.{filled}
 use Rattle.lists.proofs.Writing.{filled_at}
@@ -18,9 +19,7 @@ use Rattle.weights.specs.Weights.{own_weight}
 use Rattle.triangulation.specs.Triangulations.{Answer, none, patch, best}
 use Rattle.triangulation.specs.Demand3.{Optimal}
 use Rattle.triangulation.proofs.Demand3.{members, demand3, handed_back_lem}
-use Rattle.triangulator.specs.declared.Outcome.{Outcome}
-use Rattle.triangulator.specs.declared.Outcome.TheVariants.{None, Refused}
-use Rattle.triangulator.specs.Call.{triangles_of, settled}
+use Rattle.triangulator.specs.Call.{triangles_of, settled, Outcome}
 use Rattle.triangulator.proofs.Settling.{part_patch, part_empty}
 use Rattle.pipeline.specs.Patching.{Tables, Patching, patching, weights_in, problem_in, patched_by, patched, patch_file, handed_back}
 use Rattle.pipeline.proofs.Values.{valid_job}
@@ -61,7 +60,7 @@ module _ (p : Polygon) (valid : ValidPolygon p) (s t : Tables) where
 
   same_answer : (a : Answer) → ((total : ℕ) (l : List ℕ) → a ≡ patch total l → Optimal (problem_in p) total l) → SamePatch (answered a s) (answered a t)
   unfolding answered
-  same_answer none o = same_empty None refl (answered none s).left (answered none t).left
+  same_answer none o = same_empty (Ok None) refl (answered none s).left (answered none t).left
   same_answer (patch total l) o =
       let e = part_patch l s.triangles total in
       let within : (k : ℕ) → Memᴰ k (handed_back (answered (patch total l) s)) → k < length (candidates_of p) =
@@ -100,7 +99,7 @@ module _ (limit : ℕ) (file : List ℕ) where
       by : ((k : ℕ) × First (CallDue limit file s) k) ⊎ NoneDue (CallDue limit file s) → SamePatch (patch_file limit file s) (patch_file limit file t)
       by (inl (k, f)) =
           rw (refused_first limit file bytes s k f, refused_first limit file bytes t k (first_again h g f))
-          (same_empty (Refused (refusal k)) refl s t)
+          (same_empty (Err (refusal k)) refl s t)
       by (inr n) =
           let a = accepted limit file bytes s n in
           let b = accepted limit file bytes t (none_again g n) in

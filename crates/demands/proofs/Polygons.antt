@@ -5,6 +5,7 @@ use mathlib.Core.Path.{◌≡◌, refl, sym, ap, ◌∙◌, subst}
 use mathlib.Core.Logic.{◌⊎◌}
 use Prim.Native.Nat.{ℕ, zero, suc}
 use lib.ListN.{length}
+use Rattle.codes.specs.Refusals.{number_of}
 use Rattle.terms.specs.Order.{NoneDue}
 use Rattle.terms.proofs.Order.{Verdict, none_first, verdict_either, verdict_first, verdict_given, verdict_zero, verdict_none}
 use Rattle.polygon.specs.declared.Polygon.{Polygon}
@@ -15,7 +16,6 @@ use Rattle.delaunay.specs.Candidates.{candidates_of}
 use Rattle.finder.specs.Sizes.{places_of}
 use Rattle.triangulation.specs.Triangulations.{ValidProblem, best}
 use Rattle.triangulation.specs.Demand3.{Demand3}
-use Rattle.triangulator.specs.Call.{number_of}
 use Rattle.triangulator.specs.Demands.{Taken}
 use Rattle.triangulator.proofs.Demands.{never_refused, settled_taken}
 use Rattle.pipeline.specs.Patching.{Tables, Patching, refused, problem_in, tables_short, patched, patch_by, polygon_number, patch_polygon}

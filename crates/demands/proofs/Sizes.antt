@@ -5,22 +5,21 @@ use mathlib.Core.List.{List}
 use Prim.Native.Nat.{ℕ, zero, suc}
 use native.Mathlib.Omega.{arith}
 use lib.ListN.{length}
-use Rattle.codes.specs.Refusals.{refusal}
+use Rattle.triangulator.specs.Call.{Outcome}
+use Rattle.codes.specs.Refusals.{refusal, number_of}
+use Rattle.codes.specs.Refusals as codes
 use Rattle.lists.proofs.Choice.{Truth, holds, fails, truth, true_not_false}
 use Rattle.terms.specs.Numbers.{first_due}
 use Rattle.reader.specs.Reading.{polygon_of}
 use Rattle.reader.specs.Reading as reader
 use Rattle.delaunay.specs.Candidates.{candidates_of}
 use Rattle.finder.specs.declared.Places.{Places}
-use Rattle.finder.specs.declared.Sizes.TheVariants.{Known, Refused}
+use Rattle.std.specs.Prelude.{Ok, Err}
 use Rattle.finder.specs.Finding.{number_due}
 use Rattle.finder.specs.Sizes.{places_of, sizes_by}
-use Rattle.finder.specs.Sizes as sizes
 use Rattle.finder.proofs.Answers.{due_13, due_first}
 use Rattle.triangulation.specs.Triangulations.{best}
-use Rattle.triangulator.specs.Call.{number_of}
 use Rattle.triangulator.specs.Demands.{Taken, a_patch, a_none}
-use Rattle.triangulator.specs.declared.Outcome.{Outcome}
 use Rattle.triangulator.proofs.Demands.{settled_taken}
 use Rattle.pipeline.specs.Patching.{Tables, Patching, refused, problem_in, tables_short, patch_by, polygon_number, file_number, patch_file}
 use Rattle.pipeline.specs.Sizes.{sizes_number, sizes_file}
@@ -53,15 +52,15 @@ module _ (limit : ℕ) (file : List ℕ) (t : Tables) where
   call_is e = ap (λ (n : ℕ). patch_by n (polygon_of file) t) e
 
   -- a number from the sizing call is that of the one call, whatever the tables
-  pub sizes_refused : (k : ℕ) → sizes_file limit file ≡ Refused (refusal k) → patch_file limit file t ≡ refused k t
+  pub sizes_refused : (k : ℕ) → sizes_file limit file ≡ Err (refusal k) → patch_file limit file t ≡ refused k t
   unfolding sizes_file
   sizes_refused k e = by own refl e
     where
-      by : (n : ℕ) → own ≡ n → sizes_by n (polygon_of file) ≡ Refused (refusal k) → patch_file limit file t ≡ refused k t
+      by : (n : ℕ) → own ≡ n → sizes_by n (polygon_of file) ≡ Err (refusal k) → patch_file limit file t ≡ refused k t
       by zero m d = absurd (let z : ◌≡◌ {A = ℕ} 0 1 = cc in omega arith)
-      by (suc n) m d = let q : suc n ≡ k = ap sizes.number_of d in call_is (own_first n m) ∙ ap (λ (j : ℕ). refused j t) q
+      by (suc n) m d = let q : suc n ≡ k = ap codes.number_of d in call_is (own_first n m) ∙ ap (λ (j : ℕ). refused j t) q
 
-  module _ {needed : Places} (e : sizes_file limit file ≡ Known needed) where
+  module _ {needed : Places} (e : sizes_file limit file ≡ Ok needed) where
     record Sized : Type 0 where
       none_due : own ≡ 0
       places_are : places_of (polygon_of file) ≡ needed
@@ -70,7 +69,7 @@ module _ (limit : ℕ) (file : List ℕ) (t : Tables) where
     unfolding sizes_file
     sized = by own refl e
       where
-        by : (n : ℕ) → own ≡ n → sizes_by n (polygon_of file) ≡ Known needed → Sized
+        by : (n : ℕ) → own ≡ n → sizes_by n (polygon_of file) ≡ Ok needed → Sized
         by zero m d = record { none_due = m; places_are = cc }
         by (suc n) m d = absurd (let z : ◌≡◌ {A = ℕ} 0 1 = cc in omega arith)
 

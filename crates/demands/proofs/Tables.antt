@@ -2,7 +2,6 @@
 use mathlib.Core.Path.{◌≡◌, refl, sym, ap, ◌∙◌}
 use mathlib.Core.List.{List}
 use Prim.Native.Nat.{ℕ, zero, suc}
-use native.Mathlib.Omega.{arith}
 use lib.ListN.{length, take, drop, length-map}
 use lib.Seq.{drop_at}
 use Rattle.lists.specs.Lists.{filled}
@@ -13,8 +12,8 @@ use Rattle.polygon.proofs.Validity.{code_valid}
 use Rattle.delaunay.specs.Candidates.{candidates_of}
 use Rattle.dihedrals.specs.Dihedrals.{rows_of}
 use Rattle.weights.specs.Weights.{own_weight, weights_of}
-use Rattle.finder.specs.declared.Found.TheVariants.{Lists}
-use Rattle.finder.specs.Finding.{short_tables, find_by, find_number, find_call}
+use Rattle.std.specs.Prelude.{Ok}
+use Rattle.finder.specs.Finding.{counts, candidate_count_of, row_count_of, short_tables, find_by, find_number, find_call}
 use Rattle.finder.proofs.Answers.{clear}
 use Rattle.demands.specs.Demand2.{TablesHold}
 use Rattle.demands.proofs.Demand2.{demand_2}
@@ -41,17 +40,17 @@ filled_hold p v candidates weights rows =
 
 -- the finder's call, where it finds the lists
 pub find_hold : (p : Polygon) (candidates : List (List ℕ)) (weights : List ℕ) (rows : List (List ℕ)) (count row_count : ℕ) →
-    (find_call p candidates weights rows).answer ≡ Lists count row_count →
+    (find_call p candidates weights rows).answer ≡ Ok (counts count row_count) →
     TablesHold p count row_count candidates weights rows (find_call p candidates weights rows).candidates
     (find_call p candidates weights rows).weights (find_call p candidates weights rows).rows
 find_hold p candidates weights rows count row_count e = by (find_number p candidates weights rows) refl e
   where
-    by : (k : ℕ) → find_number p candidates weights rows ≡ k → (find_by k p candidates weights rows).answer ≡ Lists count row_count →
+    by : (k : ℕ) → find_number p candidates weights rows ≡ k → (find_by k p candidates weights rows).answer ≡ Ok (counts count row_count) →
         TablesHold p count row_count candidates weights rows (find_by k p candidates weights rows).candidates
         (find_by k p candidates weights rows).weights (find_by k p candidates weights rows).rows
-    by (suc k) n d = absurd (let z : ◌≡◌ {A = ℕ} 0 1 = cc in omega arith)
+    by (suc k) n d = absurd cc
     by zero n d =
         let v : ValidPolygon p = code_valid p (clear p (short_tables p candidates weights rows) n).code in
-        let c : count ≡ length (candidates_of p) = cc in
-        let r : row_count ≡ length (rows_of p (candidates_of p)) = cc in
+        let c : count ≡ length (candidates_of p) = sym (ap candidate_count_of d) in
+        let r : row_count ≡ length (rows_of p (candidates_of p)) = sym (ap row_count_of d) in
         rw (c, r) (filled_hold p v candidates weights rows)

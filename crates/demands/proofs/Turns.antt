@@ -4,6 +4,7 @@ use mathlib.Core.Path.{◌≡◌, sym, ap, ◌∙◌, subst}
 use mathlib.Core.List.{List}
 use native.Mathlib.Omega.{arith}
 use lib.ListN.{length}
+use Rattle.triangulator.specs.Call.{Outcome}
 use Rattle.jobs.specs.Job.{Job}
 use Rattle.rim_file.specs.File.{Bytes}
 use Rattle.reader.specs.Order.{NoneDue}
@@ -18,7 +19,6 @@ use Rattle.preorder.specs.Preorder.{TurnByTurn}
 use Rattle.preorder.proofs.TurnByTurn.{turn_by_turn}
 use Rattle.jobs.specs.Due.{Accepted}
 use Rattle.jobs.proofs.Acceptance.{accepted_zero}
-use Rattle.triangulator.specs.declared.Outcome.{Outcome}
 use Rattle.pricing.specs.Patch.{patched_at}
 use Rattle.pricing.proofs.Demands.{right}
 use Rattle.triangulator.specs.Demands.{stated}

@@ -1,5 +1,5 @@
 -- The worked cases of rules 6.1 to 6.10 in one list: what the definitions give, and what it should be. Definitions only.
-use Rattle.std.specs.Prelude.{List, [], ◌∷◌, map, ℕ, ℤ, pos, negsuc, length, replicate}
+use Rattle.std.specs.Prelude.{List, [], ◌∷◌, map, ℕ, ℤ, pos, negsuc, length, replicate, Some, None, Ok, Err}
 use Rattle.std.specs.Float.{binary32}
 use Rattle.std.specs.Float.Ieee.{of_bits}
 use Rattle.codes.specs.Refusals.{refusal}
@@ -17,11 +17,9 @@ use Rattle.polygon.specs.declared.normal.Normal.{Normal}
 use Rattle.polygon.specs.Normal.{normal}
 use Rattle.reader.specs.Reading.{polygon_of}
 use Rattle.triangulation.specs.Triangulations.{Problem, triangulations, total_weight}
-use Rattle.triangulator.specs.declared.Outcome.TheVariants.{Patch, None, Refused}
-use Rattle.triangulator.specs.Call.{Result, result_of}
+use Rattle.triangulator.specs.Call.{Result, result_of, patch_with}
 use Rattle.jobs.specs.Job.{Job, job_of}
 use Rattle.jobs.specs.Cases.{single, job_p, edited_p, ties}
-use Rattle.pricing.specs.declared.Quote.TheVariants as quote
 use Rattle.pricing.specs.Quote as price
 use Rattle.pricing.specs.Cases.{priced_on, patched_on, cleared, two_triangles, not_least_result}
 use Rattle.judge.specs.declared.Judgement.TheVariants as judgement
@@ -131,7 +129,7 @@ abbrev pub worked : List Case
 worked =
     -- rule 6.1: P from its bytes through the one call; and its tilings, which are two
     case (of_file (patch_file max_vertices file_p lent_p))
-    (of_file (patching (Patch 2 943) (tables (1 ∷ 3 ∷ 9 ∷ [])
+    (of_file (patching (Ok (Some (patch_with 2 943))) (tables (1 ∷ 3 ∷ 9 ∷ [])
     (triple 0 1 2 ∷ triple 0 1 3 ∷ triple 0 2 3 ∷ triple 1 2 3 ∷ triple 9 9 9 ∷ [])
     (320 ∷ 256 ∷ 320 ∷ 373 ∷ 9 ∷ [])
     (triple 1 3 314 ∷ triple 2 0 360 ∷ triple 9 9 9 ∷ [])
@@ -139,47 +137,47 @@ worked =
     ∷ case (of_tilings (with_totals (problem_in (polygon_of file_p)))) (of_tilings ((1000 ∷ 0 ∷ 2 ∷ []) ∷ (943 ∷ 1 ∷ 3 ∷ []) ∷ []))
     -- rule 6.6: with normals outside two edges of a candidate
     ∷ case (of_file (patch_file max_vertices file_n lent_p))
-    (of_file (patching (Patch 2 1286) (tables (1 ∷ 3 ∷ 9 ∷ [])
+    (of_file (patching (Ok (Some (patch_with 2 1286))) (tables (1 ∷ 3 ∷ 9 ∷ [])
     (triple 0 1 2 ∷ triple 0 1 3 ∷ triple 0 2 3 ∷ triple 1 2 3 ∷ triple 9 9 9 ∷ [])
     (320 ∷ 456 ∷ 1040 ∷ 516 ∷ 9 ∷ [])
     (triple 1 3 314 ∷ triple 2 0 360 ∷ triple 9 9 9 ∷ [])
     (0 ∷ 0 ∷ 0 ∷ 0 ∷ 9 ∷ []))))
     -- rule 6.8: a triangle, with a surface outside each edge too; a square with a dent; a rim in a tilted plane; a square; points on one line
     ∷ case (of_rim (patch_polygon (rim_of triangle []) (lent 2 1 0)))
-    (of_rim (patching (Patch 1 212586) (tables (0 ∷ 9 ∷ []) (triple 0 1 2 ∷ []) (212586 ∷ []) [] (0 ∷ []))))
+    (of_rim (patching (Ok (Some (patch_with 1 212586))) (tables (0 ∷ 9 ∷ []) (triple 0 1 2 ∷ []) (212586 ∷ []) [] (0 ∷ []))))
     ∷ case (of_rim (patch_polygon (rim_of triangle (replicate 3 (normal (pos 0) (pos 0) (pos 9)))) (lent 1 1 0)))
-    (of_rim (patching (Patch 1 212664) (tables (0 ∷ []) (triple 0 1 2 ∷ []) (212664 ∷ []) [] (0 ∷ []))))
+    (of_rim (patching (Ok (Some (patch_with 1 212664))) (tables (0 ∷ []) (triple 0 1 2 ∷ []) (212664 ∷ []) [] (0 ∷ []))))
     ∷ case (of_rim (patch_polygon (rim_of dent []) (lent 3 4 2)))
-    (of_rim (patching (Patch 3 727040) (tables (0 ∷ 2 ∷ 3 ∷ [])
+    (of_rim (patching (Ok (Some (patch_with 3 727040))) (tables (0 ∷ 2 ∷ 3 ∷ [])
     (triple 0 1 4 ∷ triple 0 3 4 ∷ triple 1 2 4 ∷ triple 2 3 4 ∷ [])
     (235520 ∷ 92160 ∷ 317440 ∷ 174080 ∷ [])
     (triple 0 2 0 ∷ triple 2 3 0 ∷ [])
     (replicate 4 0))))
     ∷ case (of_rim (patch_polygon (rim_of tilted []) (lent 4 7 3)))
-    (of_rim (patching (Patch 4 143660) (tables (1 ∷ 4 ∷ 3 ∷ 6 ∷ [])
+    (of_rim (patching (Ok (Some (patch_with 4 143660))) (tables (1 ∷ 4 ∷ 3 ∷ 6 ∷ [])
     (triple 0 1 2 ∷ triple 0 1 5 ∷ triple 0 4 5 ∷ triple 1 2 3 ∷ triple 1 3 5 ∷ triple 2 3 4 ∷ triple 3 4 5 ∷ [])
     (99766 ∷ 35915 ∷ 99766 ∷ 35915 ∷ 35915 ∷ 99766 ∷ 35915 ∷ [])
     (triple 1 4 0 ∷ triple 4 3 0 ∷ triple 4 6 0 ∷ [])
     (replicate 7 0))))
-    ∷ case (of_rim (patch_polygon (rim_of square []) (lent 2 4 2))) (of_rim (patching (Refused (refusal 12)) (lent 2 4 2)))
-    ∷ case (of_rim (patch_polygon (rim_of line []) (lent 2 0 0))) (of_rim (patching None (lent 2 0 0)))
+    ∷ case (of_rim (patch_polygon (rim_of square []) (lent 2 4 2))) (of_rim (patching (Err (refusal 12)) (lent 2 4 2)))
+    ∷ case (of_rim (patch_polygon (rim_of line []) (lent 2 0 0))) (of_rim (patching (Ok None) (lent 2 0 0)))
     -- rule 6.2: a candidate of weight 5; no candidate
-    ∷ prices single (price.result_of (quote.Total 1 5) (0 ∷ 9 ∷ []))
-    ∷ patches single 5 (result_of (Patch 1 5) (0 ∷ 9 ∷ []) (0 ∷ 9 ∷ []))
-    ∷ prices (job_of 3 [] [] []) (price.result_of quote.None (9 ∷ []))
-    ∷ patches (job_of 3 [] [] []) 0 (result_of None (9 ∷ 9 ∷ []) (9 ∷ []))
+    ∷ prices single (price.result_of (Ok (Some (patch_with 1 5))) (0 ∷ 9 ∷ []))
+    ∷ patches single 5 (result_of (Ok (Some (patch_with 1 5))) (0 ∷ 9 ∷ []) (0 ∷ 9 ∷ []))
+    ∷ prices (job_of 3 [] [] []) (price.result_of (Ok None) (9 ∷ []))
+    ∷ patches (job_of 3 [] [] []) 0 (result_of (Ok None) (9 ∷ 9 ∷ []) (9 ∷ []))
     -- rule 6.3: four candidates of weight 1 without rows, with a row, with the row of a pair that does not hang
-    ∷ prices (ties []) (price.result_of (quote.Total 2 2) cleared)
+    ∷ prices (ties []) (price.result_of (Ok (Some (patch_with 2 2))) cleared)
     ∷ patches (ties []) 2 (two_triangles 2 1 3)
-    ∷ prices (ties (triple 1 3 1 ∷ [])) (price.result_of (quote.Total 2 2) cleared)
+    ∷ prices (ties (triple 1 3 1 ∷ [])) (price.result_of (Ok (Some (patch_with 2 2))) cleared)
     ∷ patches (ties (triple 1 3 1 ∷ [])) 2 (two_triangles 2 2 0)
-    ∷ prices (ties (triple 1 0 1 ∷ [])) (price.result_of (quote.Refused (refusal 16)) (9 ∷ 9 ∷ 9 ∷ 9 ∷ 9 ∷ []))
-    ∷ patches (ties (triple 1 0 1 ∷ [])) 2 (result_of (Refused (refusal 16)) (9 ∷ 9 ∷ 9 ∷ []) (9 ∷ 9 ∷ 9 ∷ 9 ∷ 9 ∷ []))
+    ∷ prices (ties (triple 1 0 1 ∷ [])) (price.result_of (Err (refusal 16)) (9 ∷ 9 ∷ 9 ∷ 9 ∷ 9 ∷ []))
+    ∷ patches (ties (triple 1 0 1 ∷ [])) 2 (result_of (Err (refusal 16)) (9 ∷ 9 ∷ 9 ∷ []) (9 ∷ 9 ∷ 9 ∷ 9 ∷ 9 ∷ []))
     -- rule 6.4: two candidates that leave a hole
-    ∷ prices (job_of 5 (triple 0 1 2 ∷ triple 0 2 4 ∷ []) (1 ∷ 1 ∷ []) []) (price.result_of quote.None (0 ∷ 0 ∷ 9 ∷ []))
-    ∷ patches (job_of 5 (triple 0 1 2 ∷ triple 0 2 4 ∷ []) (1 ∷ 1 ∷ []) []) 2 (result_of None (9 ∷ 9 ∷ 9 ∷ 9 ∷ []) (0 ∷ 0 ∷ 9 ∷ []))
+    ∷ prices (job_of 5 (triple 0 1 2 ∷ triple 0 2 4 ∷ []) (1 ∷ 1 ∷ []) []) (price.result_of (Ok None) (0 ∷ 0 ∷ 9 ∷ []))
+    ∷ patches (job_of 5 (triple 0 1 2 ∷ triple 0 2 4 ∷ []) (1 ∷ 1 ∷ []) []) 2 (result_of (Ok None) (9 ∷ 9 ∷ 9 ∷ 9 ∷ []) (0 ∷ 0 ∷ 9 ∷ []))
     -- rule 6.10: the lists of P priced, patched at the price, and at other totals; after edits of weights that leave the least total, and that do not
-    ∷ prices job_p (price.result_of (quote.Total 2 943) cleared)
+    ∷ prices job_p (price.result_of (Ok (Some (patch_with 2 943))) cleared)
     ∷ patches job_p 943 (two_triangles 943 1 3)
     ∷ patches job_p 942 not_least_result
     ∷ patches job_p 944 not_least_result

@@ -2,55 +2,23 @@
 use mathlib.Core.Path.{◌≡◌, sym, ◌∙◌, ap, subst}
 use mathlib.Core.List.{List, []}
 use Prim.Native.Nat.{ℕ, ◌<◌}
-use native.Mathlib.Omega.{arith}
 use lib.ListN.{length, take, get_or, length-map}
 use Rattle.lists.specs.Lists.{filled}
 use Rattle.lists.proofs.Maps.{map_at}
 use Rattle.lists.proofs.Writing.{taken}
-use Rattle.grid.specs.Point.{PointOnGrid}
 use Rattle.polygon.specs.declared.Polygon.{Polygon}
-use Rattle.polygon.specs.Polygon.{vertex_at, ValidPolygon}
+use Rattle.polygon.specs.Polygon.{ValidPolygon}
 use Rattle.geometry.specs.declared.Vector.{Vector}
 use Rattle.geometry.specs.Bounds.{max_normal, Within}
-use Rattle.geometry.specs.Faces.{normal_of, length_of}
+use Rattle.geometry.specs.Faces.{length_of}
 use Rattle.geometry.proofs.Vectors.{within_as}
 use Rattle.geometry.proofs.Faces.{normal_within}
-use Rattle.terms.specs.Limits.{max_vertices}
 use Rattle.terms.specs.Entries.{entry_at, vertex_a, vertex_b, vertex_c}
 use Rattle.dihedrals.specs.Dihedrals.{face_normal, lengths_of}
 use Rattle.dihedrals.specs.Lists.{Corners, ProperCandidates, Measured}
 
 pub face_within : {p : Polygon} {t : List ℕ} → ValidPolygon p → Corners p t → Within max_normal (face_normal p t)
 face_within {p} {t} v c = normal_within (v.on_grid (vertex_a t) c.a<n) (v.on_grid (vertex_b t) c.b<n) (v.on_grid (vertex_c t) c.c<n)
-
--- the corners of a candidate t, read as numbers
-pub record Read (p : Polygon) (t : List ℕ) (a b c : ℕ) : Type 0 where
-  pub valid : ValidPolygon p
-  pub corners : Corners p t
-  pub a_is : a ≡ vertex_a t
-  pub b_is : b ≡ vertex_b t
-  pub c_is : c ≡ vertex_c t
-
-module _ {p : Polygon} {t : List ℕ} {a b c : ℕ} (r : Read p t a b c) where
-  pub a<limit : a < max_vertices
-  a<limit = omega (arith, r.a_is, r.corners.a<n, r.valid.most)
-
-  pub b<limit : b < max_vertices
-  b<limit = omega (arith, r.b_is, r.corners.b<n, r.valid.most)
-
-  pub c<limit : c < max_vertices
-  c<limit = omega (arith, r.c_is, r.corners.c<n, r.valid.most)
-
-  pub on_grid : (PointOnGrid (vertex_at p.vertices a)) × (PointOnGrid (vertex_at p.vertices b)) × (PointOnGrid (vertex_at p.vertices c))
-  on_grid = (
-    r.valid.on_grid a (omega (arith, r.a_is, r.corners.a<n)),
-    r.valid.on_grid b (omega (arith, r.b_is, r.corners.b<n)),
-    r.valid.on_grid c (omega (arith, r.c_is, r.corners.c<n)),
-  )
-
-  -- the normal as it is computed
-  pub normal_is : {n : Vector} → n ≡ normal_of (vertex_at p.vertices a) (vertex_at p.vertices b) (vertex_at p.vertices c) → n ≡ face_normal p t
-  normal_is e = e ∙ (λ h. normal_of (vertex_at p.vertices (r.a_is h)) (vertex_at p.vertices (r.b_is h)) (vertex_at p.vertices (r.c_is h)))
 
 pub length_at : (p : Polygon) (cs : List (List ℕ)) (i : ℕ) → i < length cs → get_or (lengths_of p cs) i 0 ≡ length_of (face_normal p (entry_at cs i))
 length_at p cs i h = map_at (λ t. length_of (face_normal p t)) cs [] 0 i h

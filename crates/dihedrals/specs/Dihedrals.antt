@@ -1,5 +1,6 @@
 -- The normals of a polygon's candidates, their lengths, and the rows of its hanging pairs. Definitions only.
 use Rattle.std.specs.Prelude.{List, [], ◌∷◌, map, ℕ, length}
+use Rattle.grid.specs.declared.GridPoint.{GridPoint}
 use Rattle.polygon.specs.declared.Polygon.{Polygon}
 use Rattle.polygon.specs.Polygon.{vertex_at}
 use Rattle.geometry.specs.declared.Vector.{Vector}
@@ -8,8 +9,11 @@ use Rattle.terms.specs.Entries.{entry_at, vertex_a, vertex_b, vertex_c, hangs}
 use Rattle.lists.specs.Lists.{over, when}
 
 -- the normal of candidate t (rule 2.6)
+abbrev pub normal_in : List GridPoint → List ℕ → Vector
+normal_in vertices t = normal_of (vertex_at vertices (vertex_a t)) (vertex_at vertices (vertex_b t)) (vertex_at vertices (vertex_c t))
+
 abbrev pub face_normal : Polygon → List ℕ → Vector
-face_normal p t = normal_of (vertex_at p.vertices (vertex_a t)) (vertex_at p.vertices (vertex_b t)) (vertex_at p.vertices (vertex_c t))
+face_normal p t = normal_in p.vertices t
 
 -- their lengths, one for each candidate (rule 2.7)
 abbrev pub lengths_of : Polygon → List (List ℕ) → List ℕ

@@ -1,7 +1,10 @@
 -- What functions ask of a list of candidates and say to each other; nobody has to believe it.
 use Rattle.std.specs.Prelude.{List, ◌≡◌, ℕ, ◌≤◌, ◌<◌, length}
 use Rattle.polygon.specs.declared.Polygon.{Polygon}
-use Rattle.polygon.specs.Polygon.{ValidPolygon}
+use Rattle.polygon.specs.Polygon.{vertex_at, ValidPolygon}
+use Rattle.grid.specs.declared.GridPoint.{GridPoint}
+use Rattle.grid.specs.Point.{PointOnGrid}
+use Rattle.terms.specs.Limits.{max_vertices}
 use Rattle.geometry.specs.declared.Vector.{Vector}
 use Rattle.geometry.specs.Bounds.{max_normal, Within}
 use Rattle.geometry.specs.Faces.{length_of}
@@ -15,6 +18,15 @@ pub record Corners (p : Polygon) (t : List ℕ) : Type 0 where
   pub a<n : vertex_a t < p.n
   pub b<n : vertex_b t < p.n
   pub c<n : vertex_c t < p.n
+
+-- the corners of a triple have places, and are on the grid
+pub record CornersOnGrid (vertices : List GridPoint) (t : List ℕ) : Type 0 where
+  pub a_place : vertex_a t < max_vertices
+  pub b_place : vertex_b t < max_vertices
+  pub c_place : vertex_c t < max_vertices
+  pub a_on_grid : PointOnGrid (vertex_at vertices (vertex_a t))
+  pub b_on_grid : PointOnGrid (vertex_at vertices (vertex_b t))
+  pub c_on_grid : PointOnGrid (vertex_at vertices (vertex_c t))
 
 -- candidates of a valid polygon, none of them with its corners on one line
 pub record ProperCandidates (p : Polygon) (candidates : List (List ℕ)) : Type 0 where

@@ -2,11 +2,8 @@
 use mathlib.Core.Path.{◌≡◌, ◌∙◌, ap}
 use mathlib.Core.List.{List}
 use Prim.Native.Nat.{ℕ}
-use Rattle.finder.specs.declared.Found.{Found}
-use Rattle.finder.specs.Finding.{Finding, finding}
-use Rattle.triangulator.specs.declared.Outcome.{Outcome}
-use Rattle.triangulator.specs.Call.{Result, result_of}
-use Rattle.pricing.specs.declared.Quote.{Quote}
+use Rattle.finder.specs.Finding.{Found, Finding, finding}
+use Rattle.triangulator.specs.Call.{Result, result_of, Outcome}
 use Rattle.pricing.specs.Quote as price
 use Rattle.judge.specs.declared.Judgement.{Judgement}
 use Rattle.judge.specs.Call as judge
@@ -46,6 +43,6 @@ pub job_judged :
 job_judged {work = work} e h = ap (λ (x : JudgeAnswer). job_judgement x work) e ∙ ap job_judgement_of h
 
 pub job_priced :
-    {q : Quote} {a : PriceAnswer} {work : List ℕ} {r : price.Result} →
+    {q : Outcome} {a : PriceAnswer} {work : List ℕ} {r : price.Result} →
     a ≡ price_answer_of q → price.result_of q work ≡ r → job_price a work ≡ job_price_of r
 job_priced {work = work} e h = ap (λ (x : PriceAnswer). job_price x work) e ∙ ap job_price_of h

@@ -78,6 +78,10 @@ module _ (p : Polygon) where
       go true (holds d) (fails f) e = absurd (let z = sym (yes _ _ d ∙ no _ _ f) ∙ e in omega (arith, z))
       go false (holds d) (fails f) e = record { code = eqb-true (code_of p) 0 d; no_12 = f; no_13 = refl }
 
+  pub due_first : (k : ℕ) (too_short : Bool) → k ≡ number_due false p → (k ≡ 0 → ⊥) → k ≡ number_due too_short p
+  due_first zero too_short e h = absurd (h refl)
+  due_first (suc k) too_short e h = sym (thirteen_last too_short ∙ ap (λ (k : ℕ). then13 k too_short) (sym e))
+
   pub due_13 : (too_short : Bool) → number_due false p ≡ 0 → number_due too_short p ≡ cond too_short 13 0
   due_13 too_short e = thirteen_last too_short ∙ ap (λ (k : ℕ). then13 k too_short) e
 

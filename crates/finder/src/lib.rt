@@ -35,10 +35,7 @@ fn search(p: Polygon, set: &mut TriangleSet) -> Result<(), Refusal>
     requires { set.old ≡ empty_set }
     ensures { Searched p result set.new }
 {
-    let code = polygon::polygon_code(p);
-    if code != 0 {
-        return Err(Refusal::new(code));
-    }
+    polygon::check(p)?;
     delaunay::mark_candidates(p, set)
 }
 

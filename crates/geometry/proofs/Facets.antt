@@ -15,6 +15,8 @@ use Rattle.integers.proofs.Ring.{E, var, con, ◌:+◌, ◌:-◌, ◌:*◌, ring
 use Rattle.geometry.specs.Vectors.{difference_of, dot_of, cross_of, square_of, scaled_by, plus, minus}
 use Rattle.geometry.specs.Spheres.{orient_of, coplanar, centre_of, distance_of, strictly_inside, on_sphere}
 use Rattle.geometry.specs.Lifting.{position_of, position_by, lift_of, pencil_of, sphere_of}
+use denote.Enum.Bare.{sameb}
+use Rattle.geometry.specs.contracts.sphere.Position.{the_type}
 use Rattle.geometry.specs.Facets.{opposed, separates, separates_by, is_inside, refuted_by}
 use Rattle.geometry.proofs.Terms.{VectorE, vec, dot_e, cross_e, scaled_e, plus_e, minus_e, orient_e, of_vectors}
 use Rattle.geometry.proofs.Signs.{opposed_is, opposed_first, one_negative}
@@ -138,7 +140,7 @@ module _ (p q r s w : GridPoint) where
       go true h e = (h, sym told_inside ∙ sym (ap is_inside (position_is p q r s w (separates_solid h))) ∙ e)
       go false h e = true≢false (sym e)
 
-pub not_inside : (place : Position) → (place ≡ Inside → ⊥) → is_inside place ≡ false
-not_inside Inside h = absurd (h refl)
-not_inside On h = refl
-not_inside Outside h = refl
+pub is_inside_same : (place : Position) → sameb the_type place Inside ≡ is_inside place
+is_inside_same Inside = refl
+is_inside_same On = refl
+is_inside_same Outside = refl

@@ -1,10 +1,11 @@
 -- How large the numbers of the geometry can be, so that they fit i64. What functions say to each other; nobody has to believe it.
-use Rattle.std.specs.Prelude.{ℕ, ◌+◌, ◌*◌, ◌/◌, ◌*ℤ◌}
+use Rattle.std.specs.Prelude.{ℕ, ◌+◌, ◌*◌, ◌/◌, ℤ, ◌*ℤ◌}
 use Rattle.integers.specs.Bounds.{AtMost, largest}
 use Rattle.geometry.specs.declared.Vector.{Vector}
 use Rattle.geometry.specs.declared.sphere.Lifted.{Lifted}
 use Rattle.geometry.specs.declared.sphere.Pencil.{Pencil}
 use Rattle.geometry.specs.declared.sphere.Sphere.{Sphere}
+use Rattle.geometry.specs.Vectors.{scaled_by, plus, minus}
 use Rattle.geometry.specs.Faces.{ratio_scale, dividend_scale}
 
 -- a coordinate of a difference of two grid points, from -1000 to 1000 each (rule 1.11)
@@ -68,6 +69,22 @@ pub record PencilBounds (k : Pencil) : Type 0 where
 pub record SphereBounds (s : Sphere) : Type 0 where
   pub orient_in : AtMost max_orient s.orient
   pub centre_in : Within max_centre s.centre
+
+-- the sum, the difference and the multiple of vectors can be computed in i64
+pub record SumFits (u v : Vector) : Type 0 where
+  pub left : Within largest u
+  pub right : Within largest v
+  pub sum_in : Within largest (plus u v)
+
+pub record DifferenceFits (u v : Vector) : Type 0 where
+  pub left : Within largest u
+  pub right : Within largest v
+  pub difference_in : Within largest (minus u v)
+
+pub record ScaleFits (k : ℤ) (v : Vector) : Type 0 where
+  pub factor_in : AtMost largest k
+  pub vector_in : Within largest v
+  pub product_in : Within largest (scaled_by k v)
 
 -- three products of this size add up to an i64
 abbrev pub third : ℕ

@@ -26,9 +26,7 @@ pub fn normal(a: GridPoint, b: GridPoint, c: GridPoint) -> Vector
     requires { (PointOnGrid a) × (PointOnGrid b) × (PointOnGrid c) }
     ensures { result ≡ normal_of a b c }
 {
-    let u = difference(b, a);
-    let v = difference(c, a);
-    cross(u, v)
+    cross(difference(b, a), difference(c, a))
 }
 
 // The length in quarters: their scale goes under the root, before anything is cut off.
@@ -53,8 +51,8 @@ pub fn bend(d: i64, m: u32, k: u32) -> u32
     ensures { result ≡ bend_of d m k }
 {
     let n = DIVIDEND_SCALE * d;
-    let w = m as i64 * k as i64;
-    let q = integers::clamp(integers::floor_div(n, w), LEAST_RATIO, RATIO_SCALE);
+    let w = i64::from(m) * i64::from(k);
+    let q = integers::floor_div(n, w).clamp(LEAST_RATIO, RATIO_SCALE);
     (RATIO_SCALE - q) as u32
 }
 

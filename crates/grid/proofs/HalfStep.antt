@@ -11,7 +11,7 @@ use lib.IntN.{ℤ, pos, negsuc, neg_ℤ, nat_abs, ◌-ℤ◌, ◌*ℤ◌, neg_�
 use lib.Dec.{ltb}
 use lib.Ieee.{Float, nan, inf, fin}
 use lib.Ieee.Fits.{down_pos}
-use Rattle.grid.specs.declared.GridNumber.TheVariants.{Value}
+use Rattle.std.proofs.Common.{Ok}
 use Rattle.grid.specs.Number.{finite, numerator, denominator, negative, signed, nearest_even, in_range, round_eighths, grid_number_of, HalfStep, EvenHalf}
 use Rattle.grid.specs.Point.{OnGrid}
 use Rattle.grid.proofs.Nearest.{Cases, below_half, above_half, half_even, half_odd, cases, nearest_mono}
@@ -153,6 +153,6 @@ in_range_on_grid v h =
     }
 
 -- rule 1.10: that of minus zero is 0
-pub minus_zero : grid_number_of (fin true 0 (pos 0)) ≡ Value (pos 0)
+pub minus_zero : grid_number_of (fin true 0 (pos 0)) ≡ Ok (pos 0)
 unfolding grid_number_of finite in_range round_eighths numerator denominator negative
 minus_zero = refl

@@ -11,7 +11,8 @@ use lib.Pow.{pow_pos, pow_mono}
 use lib.Ieee.{Float, nan, inf, binary32, of_fields, of_bits, to_bits, fits}
 use lib.Ieee.Bits.{of_bits-to_bits}
 use lib.Ieee.Exact.{HasValue}
-use Rattle.grid.specs.declared.GridNumber.TheVariants.{NotFinite}
+use Rattle.std.proofs.Common.{Err}
+use Rattle.grid.specs.declared.OffGrid.TheVariants.{NotFinite}
 use Rattle.grid.specs.Number.{finite, numerator, denominator, negative, in_range, round_eighths, grid_number_of}
 use Rattle.grid.specs.Pattern.{significand, exponent, units}
 use Rattle.grid.proofs.Value.{of_bits_is, bits_value}
@@ -80,7 +81,7 @@ ends b h =
     ∙ ap (λ (e : ℕ). of_fields binary32 (leb 2147483648 b) e (b % 8388608)) (field_ones b h)
     ∙ at_ones (leb 2147483648 b) (b % 8388608)
 
-end_grid : (p s : Bool) → grid_number_of (cond p (inf s) nan) ≡ NotFinite
+end_grid : (p s : Bool) → grid_number_of (cond p (inf s) nan) ≡ Err NotFinite
 unfolding grid_number_of finite in_range round_eighths numerator denominator negative
 end_grid true s = refl
 end_grid false s = refl
@@ -89,10 +90,10 @@ end_value : (p s t : Bool) (a c : ℕ) → HasValue (cond p (inf s) nan) t a c �
 end_value true s t a c h = h
 end_value false s t a c h = h
 
-pub bits_not_finite : (b : ℕ) → 2139095040 ≤ b % 2147483648 → grid_number_of (of_bits binary32 b) ≡ NotFinite
+pub bits_not_finite : (b : ℕ) → 2139095040 ≤ b % 2147483648 → grid_number_of (of_bits binary32 b) ≡ Err NotFinite
 bits_not_finite b h = ap grid_number_of (ends b h) ∙ end_grid (eqb (b % 8388608) 0) (leb 2147483648 b)
 
-pub not_finite : (x : Float) → T (fits binary32 x) → 2139095040 ≤ to_bits binary32 x % 2147483648 → NotFinite ≡ grid_number_of x
+pub not_finite : (x : Float) → T (fits binary32 x) → 2139095040 ≤ to_bits binary32 x % 2147483648 → Err NotFinite ≡ grid_number_of x
 not_finite x f h = sym (bits_not_finite (to_bits binary32 x) h) ∙ ap grid_number_of (of_bits-to_bits binary32 x f)
 
 pub finite_bits : (x : Float) → T (fits binary32 x) → (s : Bool) (a c : ℕ) → HasValue x s a c → to_bits binary32 x % 2147483648 < 2139095040

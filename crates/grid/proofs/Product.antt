@@ -16,7 +16,8 @@ use lib.Ieee.Fits.{down_pos, mul-fits, core, round_is}
 use lib.Ieee.Exact.{HasValue, round_exact}
 use lib.Ieee.Nearest.{nearest-ge}
 use lib.Ieee.Scale.{round_same}
-use Rattle.grid.specs.declared.GridNumber.TheVariants.{Value, OutOfRange}
+use Rattle.std.proofs.Common.{Ok, Err}
+use Rattle.grid.specs.declared.OffGrid.TheVariants.{OutOfRange}
 use Rattle.grid.specs.Number.{signed, nearest_even, grid_number_of}
 use Rattle.grid.specs.Pattern.{significand, exponent, units}
 use Rattle.grid.proofs.Value.{bits_value, value_unique, grid_value}
@@ -158,10 +159,10 @@ module _ (x : Float) (f : T (fits binary32 x)) (finite : to_bits binary32 x % 21
       (own_bits w (mul-fits binary32 x eight) (finite_bits w (mul-fits binary32 x eight) s (8 * units a) (2 ^ 149) (product h))) (product h)
 
   -- ---- the range: 0x447a_0000 is the pattern of 1000.0
-  pub too_far : 1148846080 < c → OutOfRange ≡ grid_number_of x
+  pub too_far : 1148846080 < c → Err OutOfRange ≡ grid_number_of x
   too_far r =
       sym (grid_value x s (units a) (2 ^ 149) (pow_pos 149) held
-      ∙ ap (λ (t : Bool). cond t (Value (signed s (nearest_even (8 * units a) (2 ^ 149)))) OutOfRange)
+      ∙ ap (λ (t : Bool). cond t (Ok (signed s (nearest_even (8 * units a) (2 ^ 149)))) (Err OutOfRange))
       (lt-leb (8 * units a) (1000 * 2 ^ 149) (by (ltb a 2113929216) (ltb-true a 2113929216) (ltb-false a 2113929216))))
     where
       by : (t : Bool) → (t ≡ true → a < 2113929216) → (t ≡ false → 2113929216 ≤ a) → 1000 * 2 ^ 149 < 8 * units a
@@ -185,10 +186,10 @@ module _ (x : Float) (f : T (fits binary32 x)) (finite : to_bits binary32 x % 21
     ranged : units c ≤ 1000 * 2 ^ 149
     ranged = units_le c 1148846080 r
 
-    pub grid_is : grid_number_of x ≡ Value (signed (leb 2147483648 (to_bits binary32 w)) (nearest_even (units c) (2 ^ 149)))
+    pub grid_is : grid_number_of x ≡ Ok (signed (leb 2147483648 (to_bits binary32 w)) (nearest_even (units c) (2 ^ 149)))
     grid_is =
         let e = product_same below_overflow in
         grid_value x s (units a) (2 ^ 149) (pow_pos 149) held
-        ∙ ap (λ (n : ℕ). cond (leb n (1000 * 2 ^ 149)) (Value (signed s (nearest_even n (2 ^ 149)))) OutOfRange) (sym e.1)
-        ∙ ap (λ (t : Bool). cond t (Value (signed s (nearest_even (units c) (2 ^ 149)))) OutOfRange) (le-leb (units c) (1000 * 2 ^ 149) ranged)
-        ∙ ap (λ (t : Bool). Value (signed t (nearest_even (units c) (2 ^ 149)))) (sym e.0)
+        ∙ ap (λ (n : ℕ). cond (leb n (1000 * 2 ^ 149)) (Ok (signed s (nearest_even n (2 ^ 149)))) (Err OutOfRange)) (sym e.1)
+        ∙ ap (λ (t : Bool). cond t (Ok (signed s (nearest_even (units c) (2 ^ 149)))) (Err OutOfRange)) (le-leb (units c) (1000 * 2 ^ 149) ranged)
+        ∙ ap (λ (t : Bool). Ok (signed t (nearest_even (units c) (2 ^ 149)))) (sym e.0)

@@ -9,7 +9,8 @@ use lib.Ieee.{Float, nan, inf, fin, binary32, up, down, odd, of_fields, of_bits,
 use lib.Ieee.Bits.{cond_no}
 use lib.Ieee.Fits.{down_pos}
 use lib.Ieee.Exact.{HasValue, odd_sign}
-use Rattle.grid.specs.declared.GridNumber.TheVariants.{Value, OutOfRange}
+use Rattle.std.proofs.Common.{Ok, Err}
+use Rattle.grid.specs.declared.OffGrid.TheVariants.{OutOfRange}
 use Rattle.grid.specs.Number.{finite, numerator, denominator, negative, signed, nearest_even, in_range, round_eighths, grid_number_of}
 use Rattle.grid.specs.Pattern.{grid_fraction, significand, exponent, units}
 use Rattle.grid.proofs.Nearest.{nearest_same}
@@ -68,11 +69,11 @@ within a b c d B e h = le_of_mul-le-mul_right (le_trans (le_of_eq (sym e)) (le_t
 
 pub step_same : (s : Bool) (a b c d : ℕ) → 0 < b → 0 < d → a * d ≡ c * b → grid_fraction s a b ≡ grid_fraction s c d
 step_same s a b c d B D e =
-    ap (λ (t : Bool). cond t (Value (signed s (nearest_even a b))) OutOfRange)
+    ap (λ (t : Bool). cond t (Ok (signed s (nearest_even a b))) (Err OutOfRange))
     (bool_same (leb a (1000 * b)) (leb c (1000 * d))
     (λ (t : T (leb a (1000 * b))). le→leb c (1000 * d) (within a b c d B e (leb→le a (1000 * b) t)))
     (λ (t : T (leb c (1000 * d))). le→leb a (1000 * b) (within c d a b D (sym e) (leb→le c (1000 * d) t))))
-    ∙ ap (λ (n : ℕ). cond (leb c (1000 * d)) (Value (signed s n)) OutOfRange) (nearest_same a b c d B D e)
+    ∙ ap (λ (n : ℕ). cond (leb c (1000 * d)) (Ok (signed s n)) (Err OutOfRange)) (nearest_same a b c d B D e)
 
 pub grid_value : (x : Float) (s : Bool) (a c : ℕ) → 0 < c → HasValue x s a c → grid_number_of x ≡ grid_fraction s (8 * a) c
 unfolding grid_number_of finite in_range round_eighths numerator denominator negative

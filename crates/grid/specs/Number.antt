@@ -1,9 +1,9 @@
 -- The grid number of a float, from its exact value v. A finite float is ± m * 2 ^ e, and 2 ^ e is the fraction up e / down e (`lib.Ieee`). Definitions only.
-use Rattle.std.specs.Prelude.{◌≡◌, ℕ, ◌+◌, ◌*◌, ◌/◌, ◌%◌, ◌≤◌, Bool, true, false, cond, ℤ, pos, neg_ℤ, nat_abs, ◌-ℤ◌, ◌*ℤ◌, leb, ltb, eqb, Float}
+use Rattle.std.specs.Prelude.{◌≡◌, ℕ, ◌+◌, ◌*◌, ◌/◌, ◌%◌, ◌≤◌, Bool, true, false, cond, ℤ, pos, neg_ℤ, nat_abs, ◌-ℤ◌, ◌*ℤ◌, leb, ltb, eqb, Float, Result, Ok, Err}
 use Rattle.std.specs.Float.{nan, inf, fin}
 use Rattle.std.specs.Float.Ieee.{up, down}
-use Rattle.grid.specs.declared.GridNumber.{GridNumber}
-use Rattle.grid.specs.declared.GridNumber.TheVariants.{Value, NotFinite, OutOfRange}
+use Rattle.grid.specs.declared.OffGrid.{OffGrid}
+use Rattle.grid.specs.declared.OffGrid.TheVariants.{NotFinite, OutOfRange}
 
 -- rule 4.8: neither an infinity nor a NaN
 unfoldable pub finite : Float → Bool
@@ -53,10 +53,14 @@ unfoldable pub round_eighths : Float → ℤ
 unfolding numerator denominator negative
 round_eighths v = signed (negative v) (nearest_even (numerator v) (denominator v))
 
+-- a grid number (rule 1.10), or why there is none (rules 4.8 and 4.9)
+abbrev pub GridNumber : Type 0
+GridNumber = Result ℤ OffGrid
+
 -- rules 4.8 and 4.9, in this order; where neither is due, the grid number
 unfoldable pub grid_number_of : Float → GridNumber
 unfolding finite in_range round_eighths
-grid_number_of v = cond (finite v) (cond (in_range v) (Value (round_eighths v)) OutOfRange) NotFinite
+grid_number_of v = cond (finite v) (cond (in_range v) (Ok (round_eighths v)) (Err OutOfRange)) (Err NotFinite)
 
 -- How far a whole number g is from 8v: | g - 8v | times the denominator, which is a whole number (rule 1.10).
 abbrev pub distance : ℤ → Float → ℕ

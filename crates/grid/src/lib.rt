@@ -1,12 +1,13 @@
 // Grid points, and the grid number of a float: a step of the grid is an eighth of a millimetre.
 #![tactic(auto)]
 
-ghost use Rattle.std.specs.Prelude.{◌≡◌, ◌%◌, ◌^◌, ◌<◌};
-ghost use Rattle.std.specs.Float.{binary32};
-ghost use Rattle.std.specs.Float.Ieee.{of_bits};
+ghost use Rattle.std.specs.Prelude.{◌≡◌, ◌%◌, ◌^◌, ◌<◌, IfOk};
 ghost use Rattle.grid.specs.Number.{nearest_even, grid_number_of};
 ghost use Rattle.grid.specs.Pattern.{units};
 ghost use Rattle.grid.specs.Point.{point, OnGrid, coordinate_on_grid, point_on_grid};
+
+use std::error::Error;
+use std::fmt;
 
 // A point in grid steps.
 #[derive(Clone, Copy, Debug, PartialEq, Eq)]
@@ -32,53 +33,42 @@ impl GridPoint {
     pub fn on_grid(self) -> bool
         ensures { result ≡ point_on_grid self }
     {
-        let x = self.x;
-        let y = self.y;
-        let z = self.z;
-        GridPoint::coordinates_on_grid(x, y, z)
+        GridPoint::coordinates_on_grid(self.x, self.y, self.z)
     }
 
     // The same of three numbers that are no point yet.
     pub fn coordinates_on_grid(x: i64, y: i64, z: i64) -> bool
         ensures { result ≡ point_on_grid (point x y z) }
     {
-        if !GridPoint::coordinate_on_grid(x) {
-            return false;
-        }
-        if !GridPoint::coordinate_on_grid(y) {
-            return false;
-        }
-        GridPoint::coordinate_on_grid(z)
+        GridPoint::coordinate_on_grid(x)
+            && GridPoint::coordinate_on_grid(y)
+            && GridPoint::coordinate_on_grid(z)
     }
 
     fn coordinate_on_grid(c: i64) -> bool
         ensures { result ≡ coordinate_on_grid c }
     {
-        if c < GridPoint::LOWEST {
-            return false;
-        }
-        c <= GridPoint::HIGHEST
+        (GridPoint::LOWEST..=GridPoint::HIGHEST).contains(&c)
     }
 }
 
-// What a float is on the grid.
-#[derive(Clone, Copy)]
-pub enum GridNumber {
-    Value(i64),
+// Why a float has no grid number.
+#[derive(Clone, Copy, Debug, PartialEq, Eq)]
+pub enum OffGrid {
     NotFinite,
     OutOfRange,
 }
 
-// The value of a bit pattern. A NaN pattern is the NaN, which f32::from_bits does not cover.
-pub fn float_from_bits(bits: u32) -> f32
-    ensures { result ≡ of_bits binary32 bits }
-{
-    if bits % 0x8000_0000 > 0x7f80_0000 {
-        0.0 / 0.0
-    } else {
-        f32::from_bits(bits)
+impl fmt::Display for OffGrid {
+    fn fmt<W: fmt::Write>(&self, f: &mut fmt::Formatter<W>) -> fmt::Result {
+        match self {
+            OffGrid::NotFinite => write!(f, "not finite"),
+            OffGrid::OutOfRange => write!(f, "out of range"),
+        }
     }
 }
+
+impl Error for OffGrid {}
 
 // The size of the whole number nearest to a float of a size below 1024, from its bits. Their sign has no part in it: at a half the number is
 // the even one above and below zero alike.
@@ -108,26 +98,23 @@ fn rounded(bits: u32) -> u32
 
 // The grid number of a value in millimetres (rules 1.9 and 1.10). v * 8.0 is exact, or overflows to an infinity: its pattern is above
 // that of 1000.0 (0x447a_0000) exactly where 8v is out of range. Whether a value is finite is asked of v, so an overflow is out of range.
-pub fn grid_number(v: f32) -> GridNumber
-    ensures { result ≡ grid_number_of v }
+pub fn grid_number(v: f32) -> Result<i64, OffGrid>
+    ensures number { result ≡ grid_number_of v }
+    ensures on_grid { IfOk result OnGrid }
 {
-    if v != v {
-        return GridNumber::NotFinite;
-    }
-    let size = f32::to_bits(v) % 0x8000_0000;
-    if 0x7f80_0000 <= size {
-        return GridNumber::NotFinite;
+    if !v.is_finite() {
+        return Err(OffGrid::NotFinite);
     }
     let eighths = v * 8.0;
     let bits = f32::to_bits(eighths);
     let pattern = bits % 0x8000_0000;
     if 0x447a_0000 < pattern {
-        return GridNumber::OutOfRange;
+        return Err(OffGrid::OutOfRange);
     }
-    let number = rounded(bits) as i64;
+    let number = i64::from(rounded(bits));
     if bits < 0x8000_0000 {
-        GridNumber::Value(number)
+        Ok(number)
     } else {
-        GridNumber::Value(-number)
+        Ok(-number)
     }
 }

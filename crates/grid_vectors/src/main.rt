@@ -2,8 +2,8 @@
 // grid numbers of the next float below v, of v, and of the next float above it. What `stdout` holds was worked out from rule 1.10 in exact fractions.
 #![tactic(auto)]
 
-use grid::{GridNumber, GridPoint};
 use std::io;
+use std::num;
 
 const SIGN: u32 = 0x8000_0000;
 
@@ -15,31 +15,11 @@ const LOWEST: f32 = -124.9375;
 
 const STEP: f32 = 0.125;
 
-// The bits of a float that is no NaN, as to_bits asks.
-fn bits_of(v: f32) -> u32 {
-    if v != v {
-        return 0;
-    }
-    f32::to_bits(v)
-}
-
-fn print_number(rt: &impl Print, n: i64) -> io::Result<()> {
-    if n < GridPoint::LOWEST {
-        print!(rt; "below the grid")
-    } else if n < 0 {
-        print!(rt; "-{}", (-n) as u64)
-    } else {
-        print!(rt; "{}", n as u64)
-    }
-}
-
 fn print_grid_number(rt: &impl Print, bits: u32) -> io::Result<()> {
     print!(rt; " ")?;
-    let number = grid::grid_number(grid::float_from_bits(bits));
-    match number {
-        GridNumber::Value(n) => print_number(rt, n),
-        GridNumber::NotFinite => print!(rt; "not finite"),
-        GridNumber::OutOfRange => print!(rt; "out of range"),
+    match grid::grid_number(num::f32_from_bits_with_nan(bits)) {
+        Ok(number) => print!(rt; "{number}"),
+        Err(off_grid) => print!(rt; "{off_grid}"),
     }
 }
 
@@ -57,9 +37,9 @@ fn print_three(rt: &impl Print, below: u32, at: u32, above: u32) -> io::Result<(
 
 // The bits rise away from zero, so below zero the next float below has the next bits above.
 fn print_line(rt: &impl Print, whole: u32, v: f32) -> io::Result<()> {
-    let bits = bits_of(v);
-    let nearer = std::num::wrapping_sub_u32(bits, 1);
-    let farther = std::num::wrapping_add_u32(bits, 1);
+    let bits = num::f32_to_bits_with_nan(v);
+    let nearer = bits.wrapping_sub(1);
+    let farther = bits.wrapping_add(1);
     if bits < SIGN {
         print_half(rt, whole)?;
         print_three(rt, nearer, bits, farther)

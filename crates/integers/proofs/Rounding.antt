@@ -9,6 +9,8 @@ use native.Mathlib.Omega.{arith}
 use lib.Dec.{T, ltb, leb, lt→ltb, le→leb, leb→le, nleb→lt, lit≤}
 use lib.IntN.{ℤ, pos, negsuc, neg_ℤ, nat_abs, ◌-ℤ◌, ◌+ℤ◌, ◌*ℤ◌}
 use lib.Signed.{lt_z, quot_z, rem_z, ◌<ℤ◌, ◌≤ℤ◌}
+use Rattle.std.specs.Int.{int_max, int_min}
+use Rattle.std.proofs.lemmas.Int.{ints, clamps}
 use borrow.Author.Tests.{ltb-true, ltb-false, lt-ltb}
 use Rattle.integers.proofs.Bounds.{Holds, nat_abs_neg}
 use Rattle.integers.proofs.Order.{true≢false}
@@ -163,7 +165,10 @@ floor_root_is x h = root_digits_lem 32 x h
 pub is_floor_root : (x r : ℕ) → x < 2 ^ 64 → IsFloorRoot x r → r ≡ floor_root x
 is_floor_root x r h p = floor_root_unique x r (floor_root x) p (floor_root_is x h)
 
--- ---- the clamp to -1000 to 1000, taken from 1000
+-- ---- the clamp to -1000 to 1000: that of `i64::clamp`, and what it leaves, taken from 1000
+
+pub clamped_is : (x : ℤ) → int_max (negsuc 999) (int_min x (pos 1000)) ≡ clamped (negsuc 999) (pos 1000) x
+clamped_is x = grind (arith, ints, clamps)
 
 pub clamped_range : (x : ℤ) → (j : ℕ) × (j ≤ 2000) × (pos 1000 -ℤ clamped (negsuc 999) (pos 1000) x ≡ pos j)
 clamped_range x = low (lt_z x (negsuc 999)) refl

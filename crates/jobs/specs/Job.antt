@@ -1,6 +1,7 @@
 -- A job, the tests of a direct one (rules 4.13 to 4.17), and the number that they give. Definitions only.
 use Rattle.std.specs.Prelude.{Bool, cond, List, ℕ, ◌-◌, length, get_or, eqb, ltb, leb}
 use Rattle.lists.specs.Lists.{every, both, either}
+use Rattle.jobs.specs.declared.Job as lent
 use Rattle.terms.specs.Limits.{count_fits, max_weight}
 use Rattle.terms.specs.Entries.{entry_at, vertex_a, vertex_b, vertex_c, outer, inner, row_weight, before, row_before, hangs}
 
@@ -13,6 +14,10 @@ pub record Job : Type 0 where
 
 abbrev pub job_of : ℕ → List (List ℕ) → List ℕ → List (List ℕ) → Job
 job_of n candidates weights rows = record { n = n; candidates = candidates; weights = weights; rows = rows }
+
+-- the job that a caller of a function lends (rule 3.1)
+abbrev pub job_in : lent.Job → Job
+job_in job = job_of job.n job.candidates.now job.weights.now job.rows.now
 
 -- a lent table has the places needed (rule 4.13)
 abbrev pub enough : ℕ → ℕ → Bool

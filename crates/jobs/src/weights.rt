@@ -7,22 +7,13 @@ pub fn weights_fit(weights: &[u32], count: usize) -> bool
     requires { count ≤ length weights.now }
     ensures { result ≡ weights_fit weights.now count }
 {
-    for i in 0..count {
-        if terms::MAX_WEIGHT < weights[i] {
-            return false;
-        }
-    }
-    true
+    weights[..count]
+        .iter()
+        .all(|weight| *weight <= terms::MAX_WEIGHT)
 }
 
 pub fn row_weights_fit(rows: &[[u32; 3]]) -> bool
     ensures { result ≡ row_weights_fit rows.now }
 {
-    for i in 0..rows.len() {
-        let row = rows[i];
-        if terms::MAX_WEIGHT < row[2] {
-            return false;
-        }
-    }
-    true
+    rows.iter().all(|row| row[2] <= terms::MAX_WEIGHT)
 }

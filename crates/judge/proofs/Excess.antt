@@ -3,8 +3,9 @@ use Prim.Native.Nat.{ℕ, ◌-◌, ◌≤◌}
 use mathlib.Core.Path.{◌≡◌, refl}
 use mathlib.Core.List.{List, [], ◌∷◌}
 use native.Mathlib.Omega.{arith}
+use Rattle.std.proofs.Common.{Some}
 use Rattle.triangulation.specs.Triangulations.{Problem, ValidProblem, Answer, total_weight, best_key, answer_of, best}
-use Rattle.triangulation.specs.Recursion.{cost_of}
+use Rattle.triangulation.specs.Recursion.{cost_of, key_total}
 use Rattle.triangulation.specs.Demand3.{Triangulates}
 use Rattle.triangulation.proofs.LeastTotal.{Known, known, without, answer_known}
 use Rattle.judge.specs.Call.{excess_over}
@@ -28,8 +29,10 @@ module _ (job : Problem) (good : ValidProblem job) (s : List ℕ) (tiles : Trian
   -- the dynamic programme returns the least total: the code's difference is the excess
   pub excess_by_cost : (stated : ℕ) → stated ≡ total_weight job s →
       (cost_of (best_key job) ≤ stated) × (stated - cost_of (best_key job) ≡ excess_over (best job) stated)
+      × (key_total (best_key job) ≡ Some (cost_of (best_key job)))
   excess_by_cost stated e = go (best_key job) (answer_known job good)
     where
       go : (k : List ℕ) → Known job (answer_of k) → (cost_of k ≤ stated) × (stated - cost_of k ≡ excess_over (answer_of k) stated)
+          × (key_total k ≡ Some (cost_of k))
       go [] (without h) = absurd (h s tiles)
-      go (x ∷ l) (known least triangles q) = (omega (arith, q.lowest s tiles), refl)
+      go (x ∷ l) (known least triangles q) = (omega (arith, q.lowest s tiles), refl, refl)

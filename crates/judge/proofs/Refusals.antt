@@ -5,6 +5,7 @@ use mathlib.Core.Logic.{◌≢◌, ◌⊎◌, inl, inr, ⊎_elim}
 use mathlib.Core.List.{List, Memᴰ}
 use native.Mathlib.Omega.{arith}
 use lib.ListN.{length, get_or}
+use Rattle.std.proofs.Common.{Err}
 use Rattle.jobs.specs.Job.{Job}
 use Rattle.codes.specs.Refusals.{refusal}
 use Rattle.lists.proofs.Choice.{Truth, truth, holds, fails, true_not_false}
@@ -17,7 +18,6 @@ use Rattle.jobs.proofs.Acceptance.{at_most_17}
 use Rattle.jobs.proofs.Calls.{none_on_job}
 use Rattle.validation.specs.Validation.{named, is_tiling, list_total}
 use Rattle.validation.proofs.Tilings.{tiling_length}
-use Rattle.judge.specs.declared.Judgement.TheVariants.{Refused}
 use Rattle.judge.specs.Call.{result_of, judged}
 use Rattle.judge.specs.Demands.{IsTiling}
 use Rattle.judge.specs.Due.{JudgeDue, of_job, no_tiling, other_total, FirstDue}
@@ -52,10 +52,10 @@ module _ (job : Job) (list : List ℕ) (stated : ℕ) (work : List ℕ) where
 
   -- ---- 21 is given exactly when the problem is accepted and the list is no tiling without repeats (rules 4.21, 4.36)
   pub gives_21 : AcceptedWithoutTriangles job (length work) → ((set : List ℕ) → IsTiling problem list set → ⊥)
-      → judged job list stated work ≡ result_of (Refused (refusal 21)) work
+      → judged job list stated work ≡ result_of (Err (refusal 21)) work
   gives_21 a h = by_code job list stated work (no_tiling_code job list stated (length work) a h)
 
-  pub given_21 : (judged job list stated work).judgement ≡ Refused (refusal 21)
+  pub given_21 : (judged job list stated work).judgement ≡ Err (refusal 21)
       → AcceptedWithoutTriangles job (length work) × ((set : List ℕ) → IsTiling problem list set → ⊥)
   given_21 e =
       let f : FirstDue job list stated (length work) 21 = given_first job list stated work 21 e in
@@ -64,27 +64,27 @@ module _ (job : Job) (list : List ℕ) (stated : ℕ) (work : List ℕ) where
 
   -- so where a number stands at two places, or is no candidate's, where there are not n - 2 of them, and for every list of a problem that has no tiling
   pub twice_21 : AcceptedWithoutTriangles job (length work) → (i j : ℕ) → i < j → j < length list → get_or list i 0 ≡ get_or list j 0
-      → judged job list stated work ≡ result_of (Refused (refusal 21)) work
+      → judged job list stated work ≡ result_of (Err (refusal 21)) work
   twice_21 a i j h l e = gives_21 a (λ set t. t.once.apart i j h l e)
 
   pub no_candidate_21 : AcceptedWithoutTriangles job (length work) → (k : ℕ) → Memᴰ k list → length job.candidates ≤ k
-      → judged job list stated work ≡ result_of (Refused (refusal 21)) work
+      → judged job list stated work ≡ result_of (Err (refusal 21)) work
   no_candidate_21 a k m h = gives_21 a (λ set t. omega (arith, (names problem list t).candidate k m))
 
   pub other_length_21 : AcceptedWithoutTriangles job (length work) → length list ≢ job.n - 2
-      → judged job list stated work ≡ result_of (Refused (refusal 21)) work
+      → judged job list stated work ≡ result_of (Err (refusal 21)) work
   other_length_21 a h = gives_21 a (λ set t. h (tiling_length problem list (valid job a) (is_tiling_lem problem list t)))
 
   pub no_tiling_21 : AcceptedWithoutTriangles job (length work) → ((set : List ℕ) → Triangulates problem set → ⊥)
-      → judged job list stated work ≡ result_of (Refused (refusal 21)) work
+      → judged job list stated work ≡ result_of (Err (refusal 21)) work
   no_tiling_21 a h = gives_21 a (λ set t. h set t.tiles)
 
   -- ---- 22 exactly when the problem is accepted and the list is such a tiling, but the stated total is not its total (rules 4.22, 4.36)
   pub gives_22 : AcceptedWithoutTriangles job (length work) → (set : List ℕ) → IsTiling problem list set → stated ≢ total_weight problem set
-      → judged job list stated work ≡ result_of (Refused (refusal 22)) work
+      → judged job list stated work ≡ result_of (Err (refusal 22)) work
   gives_22 a set t h = by_code job list stated work (other_total_code job list stated (length work) a set t h)
 
-  pub given_22 : (judged job list stated work).judgement ≡ Refused (refusal 22)
+  pub given_22 : (judged job list stated work).judgement ≡ Err (refusal 22)
       → AcceptedWithoutTriangles job (length work) × ((set : List ℕ) × IsTiling problem list set × (stated ≢ total_weight problem set))
   given_22 e =
       let f : FirstDue job list stated (length work) 22 = given_first job list stated work 22 e in

@@ -4,13 +4,14 @@ use mathlib.Core.Bool.{Bool, true, false, false≢true}
 use mathlib.Core.List.{Memᴰ}
 use lib.Dec.{eqb}
 use borrow.Author.Tests.{eq-eqb}
+use Rattle.codes.specs.Refusals.{number_of}
 use Rattle.lists.specs.Lists.{every_from, both}
 use Rattle.lists.proofs.Comparing.{same_list, same_list_lem, any_of, any_of_lem}
 use Rattle.terms.specs.Entries.{before, hangs, row_before}
 use Rattle.jobs.specs.Job.{ascends, candidate_fits, names_pair, row_fits, lists_code, job_code}
 use Rattle.triangulation.specs.Triangulations.{best_key, key, is_triangulation, total_weight, preorder_from, count_between, count_outside}
 use Rattle.validation.specs.Validation.{named, is_tiling, list_total, list_code}
-use Rattle.judge.specs.Call.{Result, number_of, excess_of, judge_code, judged}
+use Rattle.judge.specs.Call.{Result, excess_of, judge_code, judged}
 use Rattle.judge.specs.Cases.{judged_on}
 use Rattle.judge.specs.WrongCalls.{Call, wrong_calls}
 

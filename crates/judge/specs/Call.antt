@@ -1,25 +1,25 @@
 -- What a call of the judge answers, and what it leaves in every place of the work table. Definitions only.
-use Rattle.std.specs.Prelude.{ℕ, zero, suc, ◌-◌, List, length, replicate}
-use Rattle.codes.specs.Refusals.{refusal}
+use Rattle.std.specs.Prelude.{ℕ, zero, suc, ◌-◌, Ok, Err, List, length, replicate}
+use Rattle.std.specs.Prelude as prelude
+use Rattle.codes.specs.Refusals.{refusal, number_of}
+use Rattle.codes.specs.declared.Refusal.{Refusal}
 use Rattle.lists.specs.Lists.{filled}
 use Rattle.terms.specs.Numbers.{first_due}
 use Rattle.triangulation.specs.Triangulations.{Answer, none, patch, best}
 use Rattle.triangulation.specs.Problems.{problem_of}
 use Rattle.jobs.specs.Job.{Job, code_without_triangles}
 use Rattle.validation.specs.Validation.{list_code}
-use Rattle.judge.specs.declared.Judgement.{Judgement}
-use Rattle.judge.specs.declared.Judgement.TheVariants.{Accepted, Refused}
 
--- the number and the excess of each case of a judgement (rule 5.10)
-abbrev pub number_of : Judgement → ℕ
-number_of (Accepted excess) = 0
-number_of (Refused r) = r.number
+-- a judgement: an acceptance with the excess, or a refusal (rule 5.10)
+abbrev pub Judgement : Type 0
+Judgement = prelude.Result ℕ Refusal
 
+-- the excess of an acceptance, 0 in a refusal (rule 5.10)
 abbrev pub excess_of : Judgement → ℕ
-excess_of (Accepted excess) = excess
-excess_of (Refused r) = 0
+excess_of (Ok excess) = excess
+excess_of (Err r) = 0
 
--- the two together (rule 5.10)
+-- the number and the excess together (rule 5.10)
 pub record Values : Type 0 where
   pub number : ℕ
   pub excess : ℕ
@@ -58,8 +58,8 @@ result_of j w = record { judgement = j; work = w }
 
 -- an acceptance leaves 0 in a place for each candidate (rule 3.9); a refusal changes no table (rule 4.30)
 abbrev pub settled : ℕ → ℕ → ℕ → List ℕ → Result
-settled zero excess count work = result_of (Accepted excess) (filled (replicate count 0) work)
-settled (suc k) excess count work = result_of (Refused (refusal (suc k))) work
+settled zero excess count work = result_of (Ok excess) (filled (replicate count 0) work)
+settled (suc k) excess count work = result_of (Err (refusal (suc k))) work
 
 -- the call, by the first number due on it (rules 3.14, 4.36)
 unfoldable pub judged : Job → List ℕ → ℕ → List ℕ → Result

@@ -1,8 +1,7 @@
 -- Judgements of direct jobs over a work table with one place more than needed, each holding 9, for the worked cases of rule 6.9. Definitions only.
-use Rattle.std.specs.Prelude.{ℕ, ◌+◌, List, [], ◌∷◌, length, replicate}
+use Rattle.std.specs.Prelude.{ℕ, ◌+◌, Ok, Err, List, [], ◌∷◌, length, replicate}
 use Rattle.codes.specs.Refusals.{refusal}
 use Rattle.jobs.specs.Job.{Job}
-use Rattle.judge.specs.declared.Judgement.TheVariants.{Accepted, Refused}
 use Rattle.judge.specs.Call.{Result, result_of, judged}
 
 -- the call on such a table
@@ -11,7 +10,7 @@ judged_on l list stated = judged l list stated (replicate (length l.candidates +
 
 -- what it should answer and leave, of four candidates
 abbrev pub accepted : ℕ → Result
-accepted excess = result_of (Accepted excess) (0 ∷ 0 ∷ 0 ∷ 0 ∷ 9 ∷ [])
+accepted excess = result_of (Ok excess) (0 ∷ 0 ∷ 0 ∷ 0 ∷ 9 ∷ [])
 
 abbrev pub refused : ℕ → Result
-refused number = result_of (Refused (refusal number)) (9 ∷ 9 ∷ 9 ∷ 9 ∷ 9 ∷ [])
+refused number = result_of (Err (refusal number)) (9 ∷ 9 ∷ 9 ∷ 9 ∷ 9 ∷ [])

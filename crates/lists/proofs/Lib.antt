@@ -3,6 +3,7 @@ pub mod Bools
 pub mod Ranges
 pub mod Parts
 pub mod Fronts
+pub mod Points
 pub mod Pieces
 pub mod Members
 pub mod Maps
@@ -10,3 +11,4 @@ pub mod Flattening
 pub mod Writing
 pub mod Counting
 pub mod Comparing
+pub mod Elements

@@ -40,7 +40,7 @@ fn better(
     if p.cost <= d {
         return p;
     }
-    let row = rows::row_weight(rows, t, u) as u64;
+    let row = u64::from(rows::row_weight(rows, t, u));
     let cost = d + row;
     if cost < p.cost {
         return Pick { cost, at: u };
@@ -62,12 +62,10 @@ pub fn best_in_block(
     ensures { result ≡ pick_under candidates.now work.now rows.now t i j }
 {
     let block = i as usize;
-    let end = starts[block + 1];
     let mut p = Pick { cost: NONE, at: 0 };
-    let mut u = starts[block];
-    while u < end {
+    // A loop over places: candidates, work and rows are asked by u, and the pick names it.
+    for u in starts[block]..starts[block + 1] {
         p = better(p, candidates, work, rows, t, j, u);
-        u += 1;
     }
     p
 }

@@ -18,13 +18,11 @@ fn join_cost(w: u32, left: u64, right: u64) -> u64
     requires { Cost left × Cost right }
     ensures { result ≡ join_cost w left right }
 {
-    if NONE <= left {
-        return NONE;
+    if NONE <= left || NONE <= right {
+        NONE
+    } else {
+        u64::from(w) + left + right
     }
-    if NONE <= right {
-        return NONE;
-    }
-    w as u64 + left + right
 }
 
 // The least total of a part that starts with candidate t, by the rows of outer t. (n and rows are for the contract alone.)
@@ -43,10 +41,7 @@ fn cost_of(
     requires ready_beneath { ReadyBeneath (problem_from n candidates.now weights.now rows.now) work.now t }
     ensures { result ≡ cost_of (best_from (problem_from n candidates.now weights.now rows.now) n t) }
 {
-    let triangle = candidates[t];
-    let a = triangle[0];
-    let b = triangle[1];
-    let c = triangle[2];
+    let [a, b, c] = candidates[t];
     let left = best_under(starts, candidates, work, run, t, a, b);
     let right = best_under(starts, candidates, work, run, t, b, c);
     join_cost(weights[t], left.cost, right.cost)
@@ -68,15 +63,12 @@ fn fill_block(
     ensures { Filled (problem_from n candidates.now weights.now rows.now)
         work.old (get_or starts.now v 0) work.new }
 {
-    let end = starts[v + 1];
-    let mut t = starts[v];
-    let mut first = rows::lower_bound(rows, t, 0);
-    while t < end {
+    let mut first = rows::lower_bound(rows, starts[v], 0);
+    // A loop over places: what hangs on candidate t reads other places of the table that is written.
+    for t in starts[v]..starts[v + 1] {
         let last = rows::run_end(rows, first, t);
         let run = &rows[first..last];
-        let cost = cost_of(n, starts, candidates, weights, rows, run, work, t);
-        work[t] = cost;
-        t += 1;
+        work[t] = cost_of(n, starts, candidates, weights, rows, run, work, t);
         first = last;
     }
 }
@@ -95,9 +87,7 @@ pub fn fill(
     ensures { work.new
         ≡ filled (part_totals (problem_from n candidates.now weights.now rows.now)) work.old }
 {
-    let mut v = n;
-    while 0 < v {
-        v -= 1;
+    for v in (0..n).rev() {
         fill_block(n, starts, candidates, weights, rows, work, v);
     }
 }

@@ -1,21 +1,27 @@
 -- The rows of a table counted from the front. Assumes nothing.
-use mathlib.Core.Path.{◌≡◌, sym, ap, ◌∙◌}
-use mathlib.Core.List.{List, []}
-use Prim.Native.Nat.{ℕ, suc, ◌+◌, ◌≤◌, ◌<◌}
-use native.Mathlib.Numerals.{add-one}
-use borrow.Author.Tests.{eq-eqb, ne_eqb}
-use lib.ListN.{length, drop, drop_of_length-le}
-use lib.Seq.{drop-cons}
-use Rattle.lists.proofs.Choice.{yes, no}
-use Rattle.terms.specs.Entries.{entry_at, outer, inner}
+use Rattle.std.proofs.Common.{◌≡◌, refl, sym, ap, List, [], ℕ, ◌≤◌, Bool, length, arith, cond, not, true, false, Some, None, Option, unwrap_or, MatchOption, ◌<◌}
+use Rattle.std.proofs.lemmas.List.Recursion.{is_position_or_len}
+use Rattle.std.proofs.lemmas.List.Sums.{position_or_len_is, prefix_len-le-length}
+use Rattle.std.specs.List.{position_or_len, AllWithin, HoldsAt}
+use lib.Dec.{eqb}
+use Rattle.terms.specs.Entries.{outer, inner}
 use Rattle.patch_lines.specs.Places.{row_count_of}
 
-module _ (rows : List (List ℕ)) (i : ℕ) (h : i < length rows) where
-  pub count_stop : outer (entry_at rows i) ≡ inner (entry_at rows i) → row_count_of (drop i rows) ≡ 0
-  count_stop e = ap row_count_of (drop-cons rows i [] h) ∙ yes _ _ (eq-eqb _ _ e)
+-- a row that names one candidate twice
+abbrev pub same_ends : List ℕ → Bool
+same_ends r = eqb (outer r) (inner r)
 
-  pub count_on : (outer (entry_at rows i) ≡ inner (entry_at rows i) → ⊥) → row_count_of (drop i rows) ≡ suc (row_count_of (drop (i + 1) rows))
-  count_on n = ap row_count_of (drop-cons rows i [] h) ∙ no _ _ (ne_eqb _ _ n) ∙ ap (λ (k : ℕ). suc (row_count_of (drop k rows))) (sym (add-one i))
+pub count_is : (rows : List (List ℕ)) → row_count_of rows ≡ position_or_len same_ends rows
+count_is = is_position_or_len row_count_of same_ends refl (λ r rows. ap (cond (same_ends r) 0) (omega arith))
 
-pub count_end : (rows : List (List ℕ)) (i : ℕ) → length rows ≤ i → row_count_of (drop i rows) ≡ 0
-count_end rows i h = ap row_count_of (drop_of_length-le rows h)
+pub count_within : (rows : List (List ℕ)) → position_or_len same_ends rows ≤ length rows
+count_within rows = prefix_len-le-length (λ r. not (same_ends r)) rows
+
+-- the first place found, or the length
+pub first_or_length : (p : List ℕ → Bool) (rows : List (List ℕ)) (r : Option ℕ) →
+    MatchOption r (AllWithin (λ x. p x ≡ false) rows 0 (length rows))
+    (λ i. (i < length rows) × HoldsAt (λ x. p x ≡ true) rows i × AllWithin (λ x. p x ≡ false) rows 0 i)
+    → unwrap_or r (length rows) ≡ position_or_len p rows
+first_or_length p rows None h = sym (position_or_len_is p rows (length rows) [] (omega arith) (λ k l. h k [] (omega arith) l) (λ l. absurd (omega arith)))
+first_or_length p rows (Some i) h =
+    sym (position_or_len_is p rows i [] (omega arith) (λ k l. h.2 k [] (omega arith) l) (λ l. h.1 []))

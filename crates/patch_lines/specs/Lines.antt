@@ -1,10 +1,9 @@
 -- The lines of a patch (rule 5.4), from its triangles and a job's lists. Definitions only.
-use Rattle.std.specs.Prelude.{cond, List, [], ◌∷◌, map, ℕ, ◌+◌, get_or, replicate}
+use Rattle.std.specs.Prelude.{cond, List, [], ◌∷◌, map, ℕ, ◌+◌, get_or, replicate, Some, None, Ok, Err}
 use Rattle.lists.specs.Lists.{filled}
 use Rattle.terms.specs.Entries.{entry_at, vertex_a, vertex_b, vertex_c, hangs}
 use Rattle.triangulation.specs.Problems.{pair_weight}
-use Rattle.triangulator.specs.declared.Outcome.{Outcome}
-use Rattle.triangulator.specs.declared.Outcome.TheVariants.{Patch, None, Refused}
+use Rattle.triangulator.specs.Call.{Outcome}
 use Rattle.patch_lines.specs.declared.Line.{Line}
 
 -- the row weight of the pair that candidate t is the inner of: its outer is the triangle of the patch that t hangs on; 0 where t hangs on none of them,
@@ -42,6 +41,6 @@ in_places lines = filled lines (replicate line_places no_line)
 
 -- the number of vertices on the first line: a patch has two triangles fewer (rules 5.2, 5.4)
 abbrev pub vertices_of : Outcome → ℕ
-vertices_of (Patch count total) = count + 2
-vertices_of None = 0
-vertices_of (Refused r) = 0
+vertices_of (Ok (Some p)) = p.triangles + 2
+vertices_of (Ok None) = 0
+vertices_of (Err r) = 0

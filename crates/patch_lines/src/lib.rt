@@ -8,14 +8,16 @@ ghost use Rattle.rows.specs.Search.{RowsAscend};
 ghost use Rattle.patch_lines.specs.Lines.{vertices_of, row_under, line_of, lines_of, line_places, in_places};
 ghost use Rattle.patch_lines.specs.Places.{row_count_of};
 
+use codes::Refusal;
 use jobs::pairs::hangs_on;
-use triangulator::Outcome;
+use std::fmt;
+use triangulator::Patch;
 
 // A rim of 64 points has at most 62 triangles (rule 5.3).
 pub const TRIANGLES: usize = 62;
 
 // A triangle's vertices, its own weight, and the row weight of the pair that it is the inner of.
-#[derive(Clone, Copy)]
+#[derive(Clone, Copy, Debug, Default, PartialEq, Eq)]
 pub struct Line {
     pub a: u8,
     pub b: u8,
@@ -24,46 +26,33 @@ pub struct Line {
     pub row: u32,
 }
 
-// The vertices of a patch, two more than its triangles; 0 where there is none.
-pub fn vertices_of(outcome: Outcome) -> usize
-    requires { triangles_of outcome ≤ line_places }
-    ensures { result ≡ vertices_of outcome }
-{
-    match outcome {
-        Outcome::Patch {
-            triangles,
-            total: _,
-        } => triangles + 2,
-        Outcome::None => 0,
-        Outcome::Refused(_) => 0,
+// A line as it is printed (rule 5.4).
+impl fmt::Display for Line {
+    fn fmt<W: fmt::Write>(&self, f: &mut fmt::Formatter<W>) -> fmt::Result {
+        write!(
+            f,
+            "{} {} {} {} {}",
+            self.a, self.b, self.c, self.weight, self.row
+        )
     }
 }
 
-// A candidate number of the patch.
-fn number(t: u16) -> usize
-    ensures { result ≡ t }
+// The vertices of a patch, two more than its triangles; 0 where there is none.
+pub fn vertices_of(outcome: &Result<Option<Patch>, Refusal>) -> usize
+    requires { triangles_of outcome.now ≤ line_places }
+    ensures { result ≡ vertices_of outcome.now }
 {
-    t as usize
+    match outcome {
+        Ok(Some(patch)) => patch.triangles + 2,
+        Ok(None) | Err(_) => 0,
+    }
 }
 
 // Candidate t, three zeros where there is none.
 fn candidate_at(candidates: &[[u8; 3]], t: usize) -> [u8; 3]
     ensures { result ≡ get_or candidates.now t (triple 0 0 0) }
 {
-    if candidates.len() <= t {
-        return [0, 0, 0];
-    }
-    candidates[t]
-}
-
-// The own weight of candidate t, 0 where there is none.
-fn weight_at(weights: &[u32], t: usize) -> u32
-    ensures { result ≡ get_or weights.now t 0 }
-{
-    if weights.len() <= t {
-        return 0;
-    }
-    weights[t]
+    candidates.get(t).copied().unwrap_or([0, 0, 0])
 }
 
 // The row weight of t and the triangle of the patch that it hangs on, 0 where it hangs on none.
@@ -72,8 +61,8 @@ fn row_under(candidates: &[[u8; 3]], rows: &[[u32; 3]], patch: &[u16], t: usize)
     ensures { result ≡ row_under candidates.now rows.now patch.now t }
 {
     let inner = candidate_at(candidates, t);
-    for k in 0..patch.len() {
-        let o = number(patch[k]);
+    for triangle in patch {
+        let o = usize::from(*triangle);
         let outer = candidate_at(candidates, o);
         if hangs_on(inner, outer) {
             return rows::row_weight(rows, o, t);
@@ -94,7 +83,7 @@ fn line_of(
     ensures { result ≡ line_of candidates.now weights.now rows.now patch.now t }
 {
     let triangle = candidate_at(candidates, t);
-    let weight = weight_at(weights, t);
+    let weight = weights.get(t).copied().unwrap_or(0);
     let row = row_under(candidates, rows, patch, t);
     Line {
         a: triangle[0],
@@ -115,16 +104,9 @@ pub fn lines_of(
     requires { RowsAscend rows.now × (length patch.now ≤ line_places) }
     ensures { result ≡ in_places (lines_of candidates.now weights.now rows.now patch.now) }
 {
-    let mut lines = [Line {
-        a: 0,
-        b: 0,
-        c: 0,
-        weight: 0,
-        row: 0,
-    }; TRIANGLES];
-    for k in 0..patch.len() {
-        let t = number(patch[k]);
-        lines[k] = line_of(candidates, weights, rows, patch, t);
+    let mut lines = [Line::default(); TRIANGLES];
+    for (k, t) in patch.iter().enumerate() {
+        lines[k] = line_of(candidates, weights, rows, patch, usize::from(*t));
     }
     lines
 }
@@ -133,11 +115,7 @@ pub fn lines_of(
 pub fn row_count(rows: &[[u32; 3]]) -> usize
     ensures { (result ≡ row_count_of rows.now) × (result ≤ length rows.now) }
 {
-    for i in 0..rows.len() {
-        let row = rows[i];
-        if row[0] == row[1] {
-            return i;
-        }
-    }
-    rows.len()
+    rows.iter()
+        .position(|row| row[0] == row[1])
+        .unwrap_or(rows.len())
 }

@@ -5,6 +5,7 @@ use mathlib.Core.List.{List, [], ◌∷◌, map, Memᴰ}
 use Prim.Native.Nat.{ℕ, zero, suc, ◌+◌, ◌-◌, ◌≤◌, ◌<◌}
 use native.Mathlib.Omega.{arith}
 use lib.ListN.{get_or, length, replicate, length-map}
+use Rattle.std.proofs.Common.{Some, None, Ok, Err}
 use Rattle.codes.specs.Refusals.{refusal}
 use Rattle.lists.specs.Lists.{filled}
 use Rattle.lists.proofs.Writing.{filled_at}
@@ -25,9 +26,7 @@ use Rattle.triangulation.specs.Problems.{pair_weight}
 use Rattle.triangulation.specs.Demand3.{HandedBack}
 use Rattle.triangulation.proofs.Sums.{Mem, count, sum_ext}
 use Rattle.triangulation.proofs.Demand3.{members}
-use Rattle.triangulator.specs.declared.Outcome.{Outcome}
-use Rattle.triangulator.specs.declared.Outcome.TheVariants.{Patch, None, Refused}
-use Rattle.triangulator.specs.Call.{total_of, part_of}
+use Rattle.triangulator.specs.Call.{Outcome, patch_with, total_of, part_of}
 use Rattle.triangulator.specs.Demands.{Handed, with_patch, with_none, with_refusal}
 use Rattle.triangulator.proofs.Settling.{part_empty}
 use Rattle.triangulator.proofs.Demands.{settled_handed}
@@ -47,7 +46,7 @@ weights_sum f [] = refl
 weights_sum f (t ∷ l) = ap (λ (x : ℕ). (f t).weight + (f t).row + x) (weights_sum f l)
 
 -- where nothing is handed back
-empty : (file : List ℕ) (o : Outcome) (left : Tables) → part_of o left.triangles ≡ [] → total_of o ≡ 0 → ((count total : ℕ) → o ≡ Patch count total → ⊥) →
+empty : (file : List ℕ) (o : Outcome) (left : Tables) → part_of o left.triangles ≡ [] → total_of o ≡ 0 → ((count total : ℕ) → o ≡ Ok (Some (patch_with count total)) → ⊥) →
     LinesHold file (patching o left)
 empty file o left e z n = record {
   line_count = length-map (part_of o left.triangles) (line_of left.candidates left.weights left.rows (part_of o left.triangles));
@@ -78,9 +77,9 @@ module _ (file : List ℕ) (v : ValidPolygon (polygon_of file)) (lent : Tables) 
   left triangles work =
       tables triangles (filled (candidates_of p) lent.candidates) (filled (weights_in p) lent.weights) (filled (rows_in p) lent.rows) work
 
-  module _ (triangles work : List ℕ) (size total : ℕ) (many : size ≡ job.n - 2) (h : HandedBack job total (part_of (Patch size total) triangles)) where
+  module _ (triangles work : List ℕ) (size total : ℕ) (many : size ≡ job.n - 2) (h : HandedBack job total (part_of (Ok (Some (patch_with size total))) triangles)) where
     abbrev patch : List ℕ
-    patch = part_of (Patch size total) triangles
+    patch = part_of (Ok (Some (patch_with size total))) triangles
 
     abbrev all : List (List ℕ)
     all = (left triangles work).candidates
@@ -142,7 +141,7 @@ module _ (file : List ℕ) (v : ValidPolygon (polygon_of file)) (lent : Tables) 
         ap (λ (x : List ℕ). row_under (candidates_of p) (rows_in p) x t) h.right.walk
         ∙ root_row p.n (candidates_of p) (weights_in p) (rows_in p) good h.right.set h.right.tiles t part (sym h.right.walk ∙ e)
 
-    of_patch : LinesHold file (patching (Patch size total) (left triangles work))
+    of_patch : LinesHold file (patching (Ok (Some (patch_with size total))) (left triangles work))
     of_patch = record {
       line_count = length-map patch (line_of all (left triangles work).weights (left triangles work).rows patch);
       corners = λ k h.
@@ -172,10 +171,10 @@ module _ (file : List ℕ) (v : ValidPolygon (polygon_of file)) (lent : Tables) 
     }
 
   of_handed : (o : Outcome) (triangles work : List ℕ) → Handed job (part_of o triangles) o → LinesHold file (patching o (left triangles work))
-  of_handed (Patch size total) triangles work (with_patch many h) = of_patch triangles work size total many h
-  of_handed None triangles work (with_none e) = empty file None (left triangles work) e refl (λ c x d. let z : ◌≡◌ {A = ℕ} 0 1 = cc in omega arith)
-  of_handed (Refused r) triangles work (with_refusal e) =
-      empty file (Refused r) (left triangles work) e refl (λ c x d. let z : ◌≡◌ {A = ℕ} 0 1 = cc in omega arith)
+  of_handed (Ok (Some x)) triangles work (with_patch many h) = of_patch triangles work x.triangles x.total many h
+  of_handed (Ok None) triangles work (with_none e) = empty file (Ok None) (left triangles work) e refl (λ c x d. let z : ◌≡◌ {A = ℕ} 0 1 = cc in omega arith)
+  of_handed (Err r) triangles work (with_refusal e) =
+      empty file (Err r) (left triangles work) e refl (λ c x d. let z : ◌≡◌ {A = ℕ} 0 1 = cc in omega arith)
 
   of_patched : LinesHold file (patched (polygon_of file) lent)
   of_patched = of_handed _ _ _ (settled_handed job good (length (candidates_of p)) lent.triangles lent.work)
@@ -189,5 +188,5 @@ lines_hold limit file = by (file_number limit file empty_tables) refl empty_tabl
         (file_number limit file empty_tables ≡ 0 → ValidPolygon (polygon_of file)) → LinesHold file (patch_by k (polygon_of file) lent)
     by zero e lent n z v = of_patched file (v e) lent n z
     by (suc k) e lent n z v =
-        empty file (Refused (refusal (suc k))) lent (part_empty (Refused (refusal (suc k))) lent.triangles refl) refl
+        empty file (Err (refusal (suc k))) lent (part_empty (Err (refusal (suc k))) lent.triangles refl) refl
         (λ c x d. let z : ◌≡◌ {A = ℕ} 0 1 = cc in omega arith)

@@ -14,8 +14,7 @@ use Rattle.terms.specs.Entries.{triple}
 use Rattle.triangulation.specs.Problems.{pair_weight}
 use Rattle.triangulation.specs.Triangulations.{Answer, none, patch, best}
 use Rattle.rows.specs.Search.{RowsAscend}
-use Rattle.triangulator.specs.declared.Outcome.{Outcome}
-use Rattle.triangulator.specs.Call.{Values, triangles_of, due_values, part_of}
+use Rattle.triangulator.specs.Call.{Outcome, Values, triangles_of, due_values, part_of}
 use Rattle.pipeline.specs.Patching.{Tables, tables, Patching, patching, problem_in, file_number, patch_file}
 use Rattle.pipeline.proofs.Values.{file_values_lem}
 use Rattle.patch_lines.specs.declared.Line.{Line}

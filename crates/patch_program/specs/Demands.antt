@@ -1,12 +1,11 @@
 -- What the lines of a patch have to do with each other and with the patch. Definitions only.
-use Rattle.std.specs.Prelude.{◌≡◌, true, ℕ, ◌+◌, ◌<◌, length, get_or}
+use Rattle.std.specs.Prelude.{◌≡◌, true, ℕ, ◌+◌, ◌<◌, length, get_or, Some, Ok}
 use mathlib.Core.List.{List, [], ◌∷◌, Memᴰ}
 use Rattle.terms.specs.Entries.{triple, entry_at, hangs}
 use Rattle.triangulation.specs.Problems.{pair_weight}
 use Rattle.reader.specs.Reading.{polygon_of}
 use Rattle.weights.specs.Weights.{own_weight}
-use Rattle.triangulator.specs.declared.Outcome.TheVariants.{Patch}
-use Rattle.triangulator.specs.Call.{total_of}
+use Rattle.triangulator.specs.Call.{patch_with, total_of}
 use Rattle.pipeline.specs.Patching.{Patching, handed_back}
 use Rattle.patch_lines.specs.declared.Line.{Line}
 use Rattle.patch_lines.specs.Lines.{no_line, vertices_of}
@@ -50,4 +49,4 @@ pub record LinesHold (file : List ℕ) (r : Patching) : Type 0 where
   -- the weights on the lines add up to the total
   pub adds_up : weights_on (lines_after r) ≡ total_of r.outcome
   -- the number of vertices on the first line is the rim's
-  pub vertices : (count total : ℕ) → r.outcome ≡ Patch count total → vertices_of r.outcome ≡ (polygon_of file).n
+  pub vertices : (count total : ℕ) → r.outcome ≡ Ok (Some (patch_with count total)) → vertices_of r.outcome ≡ (polygon_of file).n

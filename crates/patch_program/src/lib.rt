@@ -2,16 +2,17 @@
 // limit (rules 5.3, 5.4, 5.9).
 #![tactic(auto)]
 
-mod output;
-
 ghost use Rattle.std.specs.Prelude.{◌≡◌};
 ghost use Rattle.pipeline.specs.Patching.{patch_file};
 ghost use Rattle.patch_program.specs.Run.{empty_tables};
 ghost use Rattle.patch_program.specs.Printing.{printout_of};
 
+use codes::Refusal;
 use patch_lines::{Line, TRIANGLES};
-use std::io;
-use triangulator::Outcome;
+use programs::input;
+use std::io::Read;
+use std::{fmt, io};
+use triangulator::Patch;
 
 // Places of the tables beside that for triangles; a few rims need more than there is (rule 5.3).
 const CANDIDATES: usize = 1024;
@@ -21,9 +22,26 @@ const ROWS: usize = 4096;
 // What is printed: the outcome; for a patch also the number of its vertices, and a line in each of as many first places as it has triangles.
 #[derive(Clone, Copy)]
 pub struct Printout {
-    pub outcome: Outcome,
+    pub outcome: Result<Option<Patch>, Refusal>,
     pub vertices: usize,
     pub lines: [Line; TRIANGLES],
+}
+
+// The lines that are printed (rule 5.4).
+impl fmt::Display for Printout {
+    fn fmt<W: fmt::Write>(&self, f: &mut fmt::Formatter<W>) -> fmt::Result {
+        match self.outcome {
+            Ok(Some(Patch { triangles, total })) => {
+                writeln!(f, "patch {} {triangles} {total}", self.vertices)?;
+                for line in self.lines.iter().take(triangles) {
+                    writeln!(f, "{line}")?;
+                }
+                Ok(())
+            }
+            Ok(None) => writeln!(f, "none"),
+            Err(refusal) => writeln!(f, "{refusal}"),
+        }
+    }
 }
 
 // What is printed for a file.
@@ -44,7 +62,7 @@ pub fn printout_of(limit: usize, file: &[u8]) -> Printout
         &mut rows,
         &mut work,
     );
-    let vertices = patch_lines::vertices_of(outcome);
+    let vertices = patch_lines::vertices_of(&outcome);
     let row_count = patch_lines::row_count(&rows);
     let patch = triangulator::part(&triangles, outcome);
     let lines = patch_lines::lines_of(&candidates, &weights, &rows[..row_count], patch);
@@ -56,10 +74,26 @@ pub fn printout_of(limit: usize, file: &[u8]) -> Printout
 }
 
 // Closes the rim of a file and prints its patch; answers what came of it, and whether all could be written.
-pub fn run(rt: &impl Print, limit: usize, file: &[u8]) -> (Outcome, io::Result<()>)
+pub fn run(
+    rt: &impl Print,
+    limit: usize,
+    file: &[u8],
+) -> (Result<Option<Patch>, Refusal>, io::Result<()>)
     ensures { result.0 ≡ (patch_file limit file.now empty_tables).outcome }
 {
     let printout = printout_of(limit, file);
     let outcome = printout.outcome;
-    (outcome, output::print(rt, printout))
+    (outcome, print!(rt; "{printout}"))
+}
+
+// The rim file on an input, handed to the call by which a program closes it; answers whether all could be read and written.
+pub fn close_input<R: Read, F>(reader: &mut R, close: F) -> io::Result<()>
+where
+    F: FnOnce(&[u8]) -> (Result<Option<Patch>, Refusal>, io::Result<()>),
+    requires { F.IsAlwaysCallable close }
+{
+    let mut file = [0u8; input::BUFFER];
+    let length = input::read(reader, &mut file)?;
+    let (_, printed) = close(&file[..length]);
+    printed
 }

@@ -3,10 +3,10 @@ use mathlib.Core.Path.{◌≡◌, refl, sym, ap, ◌∙◌}
 use mathlib.Core.Bool.{Bool, false}
 use mathlib.Core.List.{List}
 use Prim.Native.Nat.{ℕ, zero, suc, ◌-◌, ◌≤◌}
-use native.Mathlib.Omega.{arith}
 use borrow.Author.Tests.{ltb-false}
 use lib.Dec.{ltb}
 use lib.ListN.{length}
+use Rattle.std.proofs.Common.{None, Ok, Err}
 use Rattle.codes.specs.declared.Refusal.{Refusal}
 use Rattle.codes.specs.Refusals.{refusal}
 use Rattle.lists.specs.Lists.{either, filled}
@@ -14,12 +14,8 @@ use Rattle.lists.proofs.Choice.{true_not_false, either_left, either_neither, not
 use Rattle.lists.proofs.Bools.{either_assoc}
 use Rattle.polygon.specs.declared.Polygon.{Polygon}
 use Rattle.delaunay.specs.Candidates.{candidates_of}
-use Rattle.finder.specs.declared.Found.{Found}
-use Rattle.finder.specs.declared.Found.TheVariants.{Lists}
-use Rattle.finder.specs.declared.Found.TheVariants as found
-use Rattle.finder.specs.Finding.{Finding, finding, short_tables, number_due, find_by, beside_number, find_beside_call}
-use Rattle.triangulator.specs.declared.Outcome.{Outcome}
-use Rattle.triangulator.specs.declared.Outcome.TheVariants.{None, Refused}
+use Rattle.finder.specs.Finding.{Found, counts, candidate_count_of, row_count_of, Finding, finding, short_tables, number_due, find_by, beside_number, find_beside_call}
+use Rattle.triangulator.specs.Call.{Outcome}
 use Rattle.pipeline.specs.Patching.{Tables, tables, Patching, patching, weights_in, rows_in, tables_short, patch_by, patched, polygon_number, patch_polygon}
 
 module _ (p : Polygon) (triangles : List ℕ) (candidates : List (List ℕ)) (weights : List ℕ) (rows : List (List ℕ)) (work : List ℕ) where
@@ -37,25 +33,24 @@ module _ (p : Polygon) (triangles : List ℕ) (candidates : List (List ℕ)) (we
       (sym (either_assoc (ltb (length triangles) (p.n - 2)) (ltb (length work) (length (candidates_of p))) (short_tables p candidates weights rows)))
 
   as_outcome : Found → Outcome
-  as_outcome (Lists x y) = None
-  as_outcome (found.Refused k) = Refused k
+  as_outcome (Ok lists) = Ok None
+  as_outcome (Err k) = Err k
 
   -- the finder's answer as that of the call
   as_patching : Finding → Patching
   as_patching f = patching (as_outcome f.answer) (tables triangles f.candidates f.weights f.rows work)
 
   -- the finder refuses: so does the call
-  pub find_refused : {f : Found} {k : Refusal} {c r : List (List ℕ)} {w : List ℕ} → f ≡ found.Refused k →
+  pub find_refused : {f : Found} {k : Refusal} {c r : List (List ℕ)} {w : List ℕ} → f ≡ Err k →
       finding f c w r ≡ find_beside_call p (length triangles) (length work) candidates weights rows →
-      patching (Refused k) (tables triangles c w r work) ≡ patch_polygon p (tables triangles candidates weights rows work)
+      patching (Err k) (tables triangles c w r work) ≡ patch_polygon p (tables triangles candidates weights rows work)
   unfolding patch_polygon as_outcome as_patching
   find_refused {f} {k} {c} {r} {w} d e = by number (ap (λ (g : Found). finding g c w r) (sym d) ∙ e) ∙ ap (λ (n : ℕ). patch_by n p lent) number_same
     where
-      by : (n : ℕ) → finding (found.Refused k) c w r ≡ find_by n p candidates weights rows →
-          patching (Refused k) (tables triangles c w r work) ≡ patch_by n p lent
+      by : (n : ℕ) → finding (Err k) c w r ≡ find_by n p candidates weights rows →
+          patching (Err k) (tables triangles c w r work) ≡ patch_by n p lent
       by zero e =
-          let f : found.Refused k ≡ Lists (length (candidates_of p)) (length (rows_in p)) = ap (λ (g : Finding). g.answer) e in
-          absurd (let n : ◌≡◌ {A = ℕ} 0 1 = cc in omega arith)
+          let f : ◌≡◌ {A = Found} (Err k) (Ok (counts (length (candidates_of p)) (length (rows_in p)))) = ap (λ (g : Finding). g.answer) e in absurd cc
       by (suc n) e = ap as_patching e
 
   -- the finder finds the lists: no number is due
@@ -68,20 +63,18 @@ module _ (p : Polygon) (triangles : List ℕ) (candidates : List (List ℕ)) (we
     pub rows_are : r ≡ filled (rows_in p) rows
 
   pub find_lists : {x y : ℕ} {c r : List (List ℕ)} {w : List ℕ} →
-      finding (Lists x y) c w r ≡ find_beside_call p (length triangles) (length work) candidates weights rows →
+      finding (Ok (counts x y)) c w r ≡ find_beside_call p (length triangles) (length work) candidates weights rows →
       Lists-found x y c r w
   find_lists {x} {y} {c} {r} {w} e = by number refl e
     where
-      by : (n : ℕ) → number ≡ n → finding (Lists x y) c w r ≡ find_by n p candidates weights rows → Lists-found x y c r w
+      by : (n : ℕ) → number ≡ n → finding (Ok (counts x y)) c w r ≡ find_by n p candidates weights rows → Lists-found x y c r w
       by (suc n) m d =
-          let f : Lists x y ≡ found.Refused (refusal (suc n)) = ap (λ (g : Finding). g.answer) d in
-          absurd (let z : ◌≡◌ {A = ℕ} 0 1 = cc in omega arith)
+          let f : ◌≡◌ {A = Found} (Ok (counts x y)) (Err (refusal (suc n))) = ap (λ (g : Finding). g.answer) d in absurd cc
       by zero m d =
-          let f : Lists x y ≡ Lists (length (candidates_of p)) (length (rows_in p)) = ap (λ (g : Finding). g.answer) d in
           record {
             none_due = sym number_same ∙ m;
-            count = cc;
-            row_count = cc;
+            count = ap (λ (g : Finding). candidate_count_of g.answer) d;
+            row_count = ap (λ (g : Finding). row_count_of g.answer) d;
             candidates_are = ap (λ (g : Finding). g.candidates) d;
             weights_are = ap (λ (g : Finding). g.weights) d;
             rows_are = ap (λ (g : Finding). g.rows) d;

@@ -11,15 +11,13 @@ use Rattle.polygon.specs.declared.Polygon.{Polygon}
 use Rattle.polygon.specs.Polygon.{ValidPolygon}
 use Rattle.polygon.proofs.Validity.{code_valid}
 use Rattle.delaunay.specs.Candidates.{candidates_of}
-use Rattle.finder.specs.declared.Found.{Found}
-use Rattle.finder.specs.declared.Found.TheVariants.{Lists}
-use Rattle.finder.specs.Finding.{finding, find_beside_call}
+use Rattle.std.specs.Prelude.{Ok}
+use Rattle.finder.specs.Finding.{Found, counts, finding, find_beside_call}
 use Rattle.finder.proofs.Answers.{clear}
 use Rattle.triangulation.specs.Triangulations.{best}
 use Rattle.triangulation.specs.Problems.{problem_from}
 use Rattle.minimum_weight.specs.Tables.{WellFormed}
-use Rattle.triangulator.specs.declared.Outcome.{Outcome}
-use Rattle.triangulator.specs.Call.{Result, result_of, settled}
+use Rattle.triangulator.specs.Call.{Outcome, Result, result_of, settled}
 use Rattle.triangulator.proofs.Accepting.{well_formed}
 use Rattle.pipeline.specs.Patching.{tables, patching, weights_in, rows_in, problem_in, tables_short, patched_by, patch_polygon}
 use Rattle.pipeline.proofs.Finds.{Lists-found, find_lists, room, patched_is}
@@ -42,7 +40,7 @@ counted n x candidates weights rows triangles work h e =
     e ∙ ap (λ (k : ℕ). settled (best (problem_from n (take x candidates) weights rows)) k triangles work) (length-take-le x candidates h)
 
 module _ (p : Polygon) (triangles : List ℕ) (candidates : List (List ℕ)) (weights : List ℕ) (rows : List (List ℕ)) (work : List ℕ)
-    {f : Found} {x y : ℕ} {c r : List (List ℕ)} {w : List ℕ} (found : f ≡ Lists x y)
+    {f : Found} {x y : ℕ} {c r : List (List ℕ)} {w : List ℕ} (found : f ≡ Ok (counts x y))
     (e : finding f c w r ≡ find_beside_call p (length triangles) (length work) candidates weights rows) where
   lists : Lists-found p triangles candidates weights rows work x y c r w
   lists = find_lists p triangles candidates weights rows work (ap (λ (g : Found). finding g c w r) (sym found) ∙ e)

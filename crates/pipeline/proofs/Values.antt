@@ -16,8 +16,7 @@ use Rattle.finder.proofs.Answers.{clear}
 use Rattle.triangulation.specs.Triangulations.{Answer, none, patch, best}
 use Rattle.triangulation.specs.Triangulations as triangulations
 use Rattle.triangulation.proofs.Demand3.{best_length}
-use Rattle.triangulator.specs.declared.Outcome.{Outcome}
-use Rattle.triangulator.specs.Call.{values, values_of, answer_values, due_values, settled}
+use Rattle.triangulator.specs.Call.{Outcome, values, values_of, answer_values, due_values, settled}
 use Rattle.triangulator.proofs.Accepting.{well_formed}
 use Rattle.pipeline.specs.Patching.{Tables, Patching, patching, weights_in, rows_in, problem_in, tables_short}
 use Rattle.pipeline.specs.Patching.{patch_by, polygon_number, patch_polygon, file_number, patch_file}

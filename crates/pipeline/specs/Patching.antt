@@ -1,5 +1,5 @@
 -- The one call over the three stages: what it answers and what it leaves in every place of its five tables. Definitions only.
-use Rattle.std.specs.Prelude.{Bool, List, ℕ, zero, suc, ◌-◌, length}
+use Rattle.std.specs.Prelude.{Bool, List, ℕ, zero, suc, ◌-◌, length, Err}
 use Rattle.jobs.specs.Job.{Job, job_of}
 use Rattle.codes.specs.Refusals.{refusal}
 use Rattle.lists.specs.Lists.{either, filled}
@@ -13,9 +13,7 @@ use Rattle.weights.specs.Weights.{weights_of}
 use Rattle.finder.specs.Finding.{short, number_due}
 use Rattle.triangulation.specs.Triangulations.{Problem, best}
 use Rattle.triangulation.specs.Problems.{problem_of}
-use Rattle.triangulator.specs.declared.Outcome.{Outcome}
-use Rattle.triangulator.specs.declared.Outcome.TheVariants.{Refused}
-use Rattle.triangulator.specs.Call.{Values, due_values, part_of, Result, settled}
+use Rattle.triangulator.specs.Call.{Outcome, Values, due_values, part_of, Result, settled}
 
 -- the five lent tables (rule 5.1)
 pub record Tables : Type 0 where
@@ -43,7 +41,7 @@ handed_back x = part_of x.outcome x.left.triangles
 
 -- a number changes no table (rule 4.30)
 abbrev pub refused : ℕ → Tables → Patching
-refused k t = patching (Refused (refusal k)) t
+refused k t = patching (Err (refusal k)) t
 
 -- the lists of a polygon, and the job that they state (rule 3.1)
 abbrev pub weights_in : Polygon → List ℕ

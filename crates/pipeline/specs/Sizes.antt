@@ -3,9 +3,8 @@ use Rattle.std.specs.Prelude.{false, List, ℕ}
 use Rattle.terms.specs.Numbers.{first_due}
 use Rattle.reader.specs.Reading.{polygon_of}
 use Rattle.reader.specs.Reading as reader
-use Rattle.finder.specs.declared.Sizes.{Sizes}
 use Rattle.finder.specs.Finding.{number_due}
-use Rattle.finder.specs.Sizes.{sizes_by}
+use Rattle.finder.specs.Sizes.{Sizes, sizes_by}
 
 -- the first number due before any table is looked at (rule 4.31): the reader's in their order, then those of its polygon
 abbrev pub sizes_number : ℕ → List ℕ → ℕ

@@ -2,11 +2,11 @@
 #![tactic(auto)]
 
 ghost use Rattle.std.specs.Prelude.{◌≡◌, ◌+◌, ◌≤◌, length, take};
+ghost use Rattle.codes.specs.Refusals.{number_of};
 ghost use Rattle.reader.specs.Reading.{polygon_of};
 ghost use Rattle.finder.specs.Finding.{finding};
 ghost use Rattle.finder.specs.Finding as found;
 ghost use Rattle.finder.specs.Sizes.{places_in, due_places};
-ghost use Rattle.finder.specs.Sizes as sizes;
 ghost use Rattle.triangulation.specs.Triangulations.{best};
 ghost use Rattle.triangulation.specs.Problems.{problem_from};
 ghost use Rattle.minimum_weight.specs.Tables.{WellFormed};
@@ -15,10 +15,10 @@ ghost use Rattle.pipeline.specs.Finding.{find_file_values, find_file};
 ghost use Rattle.pipeline.specs.Patching.{tables, patching, polygon_values, patch_polygon, file_values, patch_file};
 ghost use Rattle.pipeline.specs.Sizes.{sizes_number, sizes_file};
 
-use finder::{Found, Sizes};
+use codes::Refusal;
+use finder::{Counts, Places};
 use polygon::Polygon;
-use reader::Status;
-use triangulator::Outcome;
+use triangulator::Patch;
 
 // The best triangulation by the lists in the first places of the tables.
 fn triangulate_first(
@@ -30,7 +30,7 @@ fn triangulate_first(
     row_count: usize,
     triangles: &mut [u16],
     work: &mut [u64],
-) -> Outcome
+) -> Result<Option<Patch>, Refusal>
     requires count_in_bounds { (count ≤ length candidates.now) × (count ≤ length weights.now) × (row_count ≤ length rows.now)
         × (count ≤ length work.old) × (n ≤ length triangles.old + 2) }
     requires well_formed { WellFormed n (take count candidates.now) (take count weights.now) (take row_count rows.now) }
@@ -56,23 +56,24 @@ pub fn patch_polygon(
     weights: &mut [u32],
     rows: &mut [[u32; 3]],
     work: &mut [u64],
-) -> Outcome
+) -> Result<Option<Patch>, Refusal>
     ensures tables { patching result (tables triangles.new candidates.new weights.new rows.new work.new)
         ≡ patch_polygon p (tables triangles.old candidates.old weights.old rows.old work.old) }
     ensures values { values_of result
         ≡ polygon_values p (tables triangles.old candidates.old weights.old rows.old work.old) }
 {
     let n = p.n;
-    let found = finder::find_beside(p, triangles.len(), work.len(), candidates, weights, rows);
-    match found {
-        Found::Refused(refusal) => Outcome::Refused(refusal),
-        Found::Lists {
-            candidates: count,
-            rows: row_count,
-        } => triangulate_first(
-            n, candidates, count, weights, rows, row_count, triangles, work,
-        ),
-    }
+    let lists = finder::find_beside(p, triangles.len(), work.len(), candidates, weights, rows)?;
+    triangulate_first(
+        n,
+        candidates,
+        lists.candidates,
+        weights,
+        rows,
+        lists.rows,
+        triangles,
+        work,
+    )
 }
 
 // The patch of a rim file of at most so many vertices.
@@ -84,7 +85,7 @@ pub fn patch_file(
     weights: &mut [u32],
     rows: &mut [[u32; 3]],
     work: &mut [u64],
-) -> Outcome
+) -> Result<Option<Patch>, Refusal>
     ensures tables { patching result (tables triangles.new candidates.new weights.new rows.new work.new)
         ≡ patch_file limit file.now
         (tables triangles.old candidates.old weights.old rows.old work.old) }
@@ -92,13 +93,8 @@ pub fn patch_file(
         ≡ file_values limit file.now
         (tables triangles.old candidates.old weights.old rows.old work.old) }
 {
-    let reading = reader::read_polygon(limit, file);
-    let status = reading.status;
-    let p = reading.polygon;
-    match status {
-        Status::Refused(refusal) => Outcome::Refused(refusal),
-        Status::Complete => patch_polygon(p, triangles, candidates, weights, rows, work),
-    }
+    let p = reader::read_polygon(limit, file)?;
+    patch_polygon(p, triangles, candidates, weights, rows, work)
 }
 
 // The candidates, weights and rows of a rim file of at most so many vertices: the reader, then the finder.
@@ -108,31 +104,20 @@ pub fn find_file(
     candidates: &mut [[u8; 3]],
     weights: &mut [u32],
     rows: &mut [[u32; 3]],
-) -> Found
+) -> Result<Counts, Refusal>
     ensures tables { finding result candidates.new weights.new rows.new
         ≡ find_file limit file.now candidates.old weights.old rows.old }
     ensures values { found.values_of result ≡ find_file_values limit file.now candidates.old weights.old rows.old }
 {
-    let reading = reader::read_polygon(limit, file);
-    let status = reading.status;
-    let p = reading.polygon;
-    match status {
-        Status::Refused(refusal) => Found::Refused(refusal),
-        Status::Complete => finder::find(p, candidates, weights, rows),
-    }
+    let polygon = reader::read_polygon(limit, file)?;
+    finder::find(polygon, candidates, weights, rows)
 }
 
 // The places that the lent tables need for a rim file of at most so many vertices, or the number due on it: one of the reader's, or 12.
-pub fn table_sizes(limit: usize, file: &[u8]) -> Sizes
+pub fn table_sizes(limit: usize, file: &[u8]) -> Result<Places, Refusal>
     ensures sizes { result ≡ sizes_file limit file.now }
-    ensures values { (sizes.number_of result ≡ sizes_number limit file.now)
+    ensures values { (number_of result ≡ sizes_number limit file.now)
         × (places_in result ≡ due_places (sizes_number limit file.now) (polygon_of file.now)) }
 {
-    let reading = reader::read_polygon(limit, file);
-    let status = reading.status;
-    let p = reading.polygon;
-    match status {
-        Status::Refused(refusal) => Sizes::Refused(refusal),
-        Status::Complete => finder::table_sizes(p),
-    }
+    finder::table_sizes(reader::read_polygon(limit, file)?)
 }

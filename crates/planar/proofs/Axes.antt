@@ -116,6 +116,3 @@ across_bounds {n} {e} a = record { vector_in = within; square_in = record { size
         (λ (k : (n.x ≡ pos 0) × (e ≡ axis_y)). by k.1 (record { in_x = at_most_zero; in_y = one_in; in_z = at_most_zero }))
         (λ (k : (n.x ≡ pos 0) × (n.y ≡ pos 0) × (e ≡ axis_z)). by k.2 (record { in_x = at_most_zero; in_y = at_most_zero; in_z = one_in })))
         a.first
-
-pub axis_bounds : (n : Vector) → LiftedBounds (record { vector = axis_across n; square = pos 0 })
-axis_bounds n = across_bounds (axis_across_lem n)

@@ -16,17 +16,16 @@ use Rattle.integers.proofs.Order.{equal_is, equal_yes, equal_no, less_multiple, 
 use Rattle.integers.proofs.Ring.{E, var, con, ◌:+◌, ◌:-◌, ◌:*◌, ring}
 use Rattle.geometry.specs.Vectors.{difference_of, dot_of, cross_of, square_of, scaled_by, plus, minus, opposite}
 use Rattle.geometry.specs.Spheres.{orient_of, coplanar}
-use Rattle.geometry.specs.Bounds.{LiftedBounds, SphereBounds}
 use Rattle.geometry.specs.Lifting.{lift_of, turned, no_sphere, position_by}
 use Rattle.geometry.specs.Faces.{normal_of}
 use Rattle.geometry.proofs.Terms.{VectorE, vec, dot_e, cross_e, scaled_e, plus_e, minus_e, opposite_e, of_vectors}
 use Rattle.geometry.proofs.Centres.{distances_power}
-use Rattle.geometry.proofs.Spheres.{by_multiple, pencil_bounds, sphere_bounds, triple_product, turned_orient}
+use Rattle.geometry.proofs.Spheres.{by_multiple, triple_product, turned_orient}
 use Rattle.geometry.proofs.Squares.{square_size}
 use Rattle.planar.specs.Circles.{collinear, circumcentre_of, distance_in_plane}
 use Rattle.planar.specs.Seen.{position_in_plane, axis_x, axis_y, axis_z, axis_across, circle_of}
 use Rattle.planar.proofs.Circles.{centre, normal_e, centre_e}
-use Rattle.planar.proofs.Axes.{axis_across_lem, zero_along, axis_bounds}
+use Rattle.planar.proofs.Axes.{axis_across_lem, zero_along}
 
 -- ---- as seen along an axis
 
@@ -120,11 +119,6 @@ place_turned n (negsuc m) c w y h e =
     place_same n m ((pos 0 -ℤ negsuc m) *ℤ w.square -ℤ dot_of (opposite c) w.vector) y
     (ap (λ (z : ℤ). pos (suc n) *ℤ z) (power_back (negsuc m) w.square c w.vector) ∙ opposite_products (pos (suc n))
     (negsuc m *ℤ w.square -ℤ dot_of c w.vector) (negsuc m) y e ∙ ap (λ (z : ℤ). z *ℤ y) (+ℤ_idl (pos (suc m))))
-
--- ---- bounds
-
-pub circle_bounds : {u v : Lifted} → LiftedBounds u → LiftedBounds v → SphereBounds (circle_of u v)
-circle_bounds {u} {v} h k = sphere_bounds (pencil_bounds h k) (axis_bounds (cross_of u.vector v.vector))
 
 -- ---- the computed circle is the one of the definitions
 

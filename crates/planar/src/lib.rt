@@ -3,7 +3,7 @@
 #![tactic(auto)]
 
 ghost use Rattle.std.specs.Prelude.{◌≡◌};
-ghost use Rattle.geometry.specs.Bounds.{max_normal, Within, LiftedBounds};
+ghost use Rattle.geometry.specs.Bounds.{max_normal, Within};
 ghost use Rattle.planar.specs.Seen.{Across, circle_of};
 
 use geometry::sphere::{Lifted, Sphere};
@@ -14,12 +14,10 @@ fn axis_across(normal: Vector) -> Vector
     requires { Within max_normal normal }
     ensures { Across normal result }
 {
-    let nx = normal.x;
-    let ny = normal.y;
-    if nx != 0 {
+    if normal.x != 0 {
         return Vector { x: 1, y: 0, z: 0 };
     }
-    if ny != 0 {
+    if normal.y != 0 {
         return Vector { x: 0, y: 1, z: 0 };
     }
     Vector { x: 0, y: 0, z: 1 }
@@ -28,12 +26,12 @@ fn axis_across(normal: Vector) -> Vector
 // The circle through the base, u and v. Its orientation is 0 where they are on one line; where a point of their plane lies is what
 // `sphere::locate` says: `circle_position_is` of proofs/Seen.antt.
 pub fn circle_through(u: Lifted, v: Lifted) -> Sphere
-    requires { (LiftedBounds u) × (LiftedBounds v) }
     ensures { result ≡ circle_of u v }
 {
     let pencil = sphere::pencil_through(u, v);
-    let normal = pencil.normal;
-    let vector = axis_across(normal);
-    let axis = Lifted { vector, square: 0 };
+    let axis = Lifted {
+        vector: axis_across(pencil.normal),
+        square: 0,
+    };
     sphere::circumsphere(pencil, axis)
 }

@@ -1,4 +1,3 @@
-pub mod Bits
 pub mod Points
 pub mod Normals
 pub mod Codes

@@ -1,20 +1,21 @@
 -- The tests of a normal: three zeros, and the range. Assumes nothing.
-use mathlib.Core.Path.{◌≡◌, sym, ap, ◌∙◌}
-use mathlib.Core.Bool.{Bool, true, false}
-use lib.Dec.{eqb}
+use mathlib.Core.Path.{◌≡◌, ◌∙◌}
+use mathlib.Core.Bool.{true, ◌&&◌}
+use Rattle.std.specs.Ordering.{int_eq}
 use lib.IntN.{ℤ, pos}
 use mir.Syntax.{w16, w64}
 use mir.Val.{SFits, to_z, of_z}
-use mir.Facts.{to_z-of_z, Fits-of_z, sfits_lit, sfits_to_z, sfits_widen}
+use mir.Facts.{to_z-of_z, Fits-of_z, sfits_to_z, sfits_widen}
 use Rattle.grid.specs.Point.{point}
 use Rattle.grid.proofs.Points.{point_on_grid_lem, point_on_grid_test}
 use Rattle.lists.specs.Lists.{both}
 use Rattle.integers.specs.Order.{equal}
-use Rattle.integers.proofs.Order.{equal_yes, equal_is, equal_no}
+use Rattle.integers.proofs.Order.{equal_yes}
 use Rattle.lists.proofs.Choice.{both_left, both_right}
 use Rattle.polygon.specs.declared.normal.Normal.{Normal}
 use Rattle.polygon.specs.Normal.{no_normal, is_none, NormalInRange, normal_in_range}
-use Rattle.polygon.proofs.Bits.{bits_equal, bits_test}
+use Rattle.polygon.specs.contracts.normal.NormalPartialEq.TheImpl.{ghosts}
+use Rattle.polygon.proofs.Points.{int_same, and_both}
 
 -- ---- the range: the fact holds exactly where the test does
 pub normal_in_range_lem : (n : Normal) → normal_in_range n ≡ true → NormalInRange n
@@ -39,19 +40,9 @@ none_is n h =
     let z = equal_yes n.z (pos 0) (both_right (equal n.y (pos 0)) (equal n.z (pos 0)) r) in
     λ i. record { x = x i; y = y i; z = z i }
 
-module _ (n : Normal) where
-  pub some_by_x : (of_z w16 n.x ≡ 0 → ⊥) → false ≡ is_none n
-  some_by_x d = sym (ap (λ (t : Bool). both t (both (equal n.y (pos 0)) (equal n.z (pos 0)))) (equal_no n.x (pos 0) (λ e. d (ap (of_z w16) e))))
-
-  module _ (fx : SFits w16 n.x) (ex : of_z w16 n.x ≡ 0) where
-    past_x : both (equal n.y (pos 0)) (equal n.z (pos 0)) ≡ is_none n
-    past_x = sym (ap (λ (t : Bool). both t (both (equal n.y (pos 0)) (equal n.z (pos 0)))) (equal_is (bits_equal fx (sfits_lit tt) ex)))
-
-    pub some_by_y : (of_z w16 n.y ≡ 0 → ⊥) → false ≡ is_none n
-    some_by_y d = sym (ap (λ (t : Bool). both t (equal n.z (pos 0))) (equal_no n.y (pos 0) (λ e. d (ap (of_z w16) e)))) ∙ past_x
-
-    pub by_z : SFits w16 n.y → of_z w16 n.y ≡ 0 → SFits w16 n.z → eqb (of_z w16 n.z) 0 ≡ is_none n
-    by_z fy ey fz =
-        bits_test n.z (pos 0) fz (sfits_lit tt)
-        ∙ sym (ap (λ (t : Bool). both t (equal n.z (pos 0))) (equal_is (bits_equal fy (sfits_lit tt) ey)))
-        ∙ past_x
+-- as `==` of std tests it
+pub none_test : (n : Normal) → ghosts.eq n no_normal ≡ is_none n
+none_test n =
+    and_both (int_eq n.x (pos 0)) (int_eq n.y (pos 0) && int_eq n.z (pos 0))
+    ∙ (λ i. both (int_same n.x (pos 0) i) (and_both (int_eq n.y (pos 0)) (int_eq n.z (pos 0)) i))
+    ∙ (λ i. both (equal n.x (pos 0)) (both (int_same n.y (pos 0) i) (int_same n.z (pos 0) i)))

@@ -1,6 +1,7 @@
 // Polygons on the grid: the boundary polygon of a gap is its rim.
 #![tactic(auto)]
 
+use codes::Refusal;
 use grid::GridPoint;
 use normal::Normal;
 
@@ -8,10 +9,11 @@ pub mod normal;
 
 ghost use Rattle.std.specs.Prelude.{◌≡◌, ◌≤◌};
 ghost use Rattle.terms.specs.Limits.{max_vertices};
-ghost use Rattle.polygon.specs.Polygon.{empty_polygon, same_point, repeated_vertex, vertices_code, code_of};
+ghost use Rattle.codes.specs.Refusals.{or_refused};
+ghost use Rattle.polygon.specs.Polygon.{empty_polygon, repeated_vertex, vertices_code, code_of};
 
 // The vertices are the first n places; the places after them belong to no vertex. Place i of the normals is for the edge from vertex i to the next.
-#[derive(Clone, Copy)]
+#[derive(Clone, Copy, Debug, PartialEq, Eq)]
 pub struct Polygon {
     pub n: usize,
     pub area_factor: u32,
@@ -25,34 +27,14 @@ impl Polygon {
     pub fn empty() -> Polygon
         ensures { result ≡ empty_polygon }
     {
-        let vertices = [GridPoint { x: 0, y: 0, z: 0 }; terms::MAX_VERTICES];
-        let normals = [Normal { x: 0, y: 0, z: 0 }; terms::MAX_VERTICES];
         Polygon {
             n: 0,
             area_factor: 0,
             bend_factor: 0,
-            vertices,
-            normals,
+            vertices: [GridPoint { x: 0, y: 0, z: 0 }; terms::MAX_VERTICES],
+            normals: [Normal::none(); terms::MAX_VERTICES],
         }
     }
-}
-
-fn same_point(p: GridPoint, q: GridPoint) -> bool
-    ensures { result ≡ same_point p q }
-{
-    let px = p.x;
-    let qx = q.x;
-    let py = p.y;
-    let qy = q.y;
-    let pz = p.z;
-    let qz = q.z;
-    if px != qx {
-        return false;
-    }
-    if py != qy {
-        return false;
-    }
-    pz == qz
 }
 
 // Do two of the first n vertices share a grid point?
@@ -60,67 +42,53 @@ pub fn has_repeated_vertex(vertices: [GridPoint; terms::MAX_VERTICES], n: usize)
     requires { n ≤ max_vertices }
     ensures { result ≡ repeated_vertex vertices n }
 {
-    for j in 0..n {
-        let q = vertices[j];
-        for i in 0..j {
-            let p = vertices[i];
-            if same_point(p, q) {
-                return true;
-            }
+    for (j, vertex) in vertices[..n].iter().enumerate() {
+        if vertices[..j].contains(vertex) {
+            return true;
         }
     }
     false
 }
 
-// The first number due on the first n vertices, one after the other: 9, then 18 for the vertex's normal; 0 where none is.
-fn vertices_code(
+// Refused by the first number due on the first n vertices, one after the other: 9, then 18 for the vertex's normal.
+fn check_vertices(
     vertices: [GridPoint; terms::MAX_VERTICES],
     normals: [Normal; terms::MAX_VERTICES],
     n: usize,
-) -> u32
+) -> Result<(), Refusal>
     requires { n ≤ max_vertices }
-    ensures { result ≡ vertices_code vertices normals n }
+    ensures { result ≡ or_refused (vertices_code vertices normals n) tt }
 {
-    for i in 0..n {
-        let p = vertices[i];
-        if !p.on_grid() {
-            return codes::OUT_OF_RANGE;
+    for (vertex, normal) in vertices[..n].iter().zip(&normals[..n]) {
+        if !vertex.on_grid() {
+            return Err(Refusal::OUT_OF_RANGE);
         }
-        let normal = normals[i];
         if !normal.in_range() {
-            return codes::NORMAL;
+            return Err(Refusal::NORMAL);
         }
     }
-    0
+    Ok(())
 }
 
-// The error code due on a polygon, which a caller may have built by hand; 0 where none is.
-pub fn polygon_code(p: Polygon) -> u32
-    ensures { result ≡ code_of p }
+// Refused by the number due on a polygon, which a caller may have built by hand.
+pub fn check(p: Polygon) -> Result<(), Refusal>
+    ensures { result ≡ or_refused (code_of p) tt }
 {
-    let n = p.n;
-    let area_factor = p.area_factor;
-    let bend_factor = p.bend_factor;
-    let vertices = p.vertices;
-    let normals = p.normals;
-    if terms::MAX_AREA_FACTOR < area_factor {
-        return codes::AREA_FACTOR;
+    if terms::MAX_AREA_FACTOR < p.area_factor {
+        return Err(Refusal::AREA_FACTOR);
     }
-    if terms::MAX_BEND_FACTOR < bend_factor {
-        return codes::AREA_FACTOR;
+    if terms::MAX_BEND_FACTOR < p.bend_factor {
+        return Err(Refusal::AREA_FACTOR);
     }
-    if terms::MAX_VERTICES < n {
-        return codes::TOO_MANY_VERTICES;
+    if terms::MAX_VERTICES < p.n {
+        return Err(Refusal::TOO_MANY_VERTICES);
     }
-    let code = vertices_code(vertices, normals, n);
-    if code != 0 {
-        return code;
+    check_vertices(p.vertices, p.normals, p.n)?;
+    if p.n < terms::MIN_VERTICES {
+        return Err(Refusal::TOO_FEW_VERTICES);
     }
-    if n < terms::MIN_VERTICES {
-        return codes::TOO_FEW_VERTICES;
+    if has_repeated_vertex(p.vertices, p.n) {
+        return Err(Refusal::VERTEX_REPEATED);
     }
-    if has_repeated_vertex(vertices, n) {
-        return codes::VERTEX_REPEATED;
-    }
-    0
+    Ok(())
 }

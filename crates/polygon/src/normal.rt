@@ -23,25 +23,13 @@ impl Normal {
     pub fn is_none(self) -> bool
         ensures { result ≡ is_none self }
     {
-        let x = self.x;
-        let y = self.y;
-        let z = self.z;
-        if x != 0 {
-            return false;
-        }
-        if y != 0 {
-            return false;
-        }
-        z == 0
+        self == Normal::none()
     }
 
     // Is each number from -1000 to 1000, as the coordinates of a grid point are?
     pub fn in_range(self) -> bool
         ensures { result ≡ normal_in_range self }
     {
-        let x = self.x as i64;
-        let y = self.y as i64;
-        let z = self.z as i64;
-        GridPoint::coordinates_on_grid(x, y, z)
+        GridPoint::coordinates_on_grid(i64::from(self.x), i64::from(self.y), i64::from(self.z))
     }
 }

@@ -5,7 +5,8 @@ use mathlib.Core.Logic.{◌≢◌}
 use mathlib.Core.List.{List}
 use native.Mathlib.Omega.{arith}
 use lib.ListN.{length, replicate}
-use Rattle.codes.specs.Refusals.{refusal}
+use Rattle.std.proofs.Common.{Some, None, Ok, Err}
+use Rattle.codes.specs.Refusals.{refusal, number_of}
 use Rattle.lists.specs.Lists.{filled}
 use Rattle.terms.specs.Order.{NoneDue}
 use Rattle.terms.proofs.Order.{none_first, first_unique}
@@ -20,8 +21,7 @@ use Rattle.jobs.specs.Due.{Accepted, JobCallPlace}
 use Rattle.jobs.specs.Due as job-due
 use Rattle.jobs.proofs.Acceptance.{at_most_17}
 use Rattle.jobs.proofs.Calls.{ordered}
-use Rattle.triangulator.specs.declared.Outcome.TheVariants.{Patch, None, Refused}
-use Rattle.triangulator.specs.Call.{number_of, total_of, part_of, Result, result_of, settled}
+use Rattle.triangulator.specs.Call.{Outcome, patch_with, total_of, part_of, Result, result_of, settled}
 use Rattle.triangulator.specs.Demands.{stated, Taken, a_patch, a_none, Handed, RestLeft}
 use Rattle.triangulator.proofs.Demands.{never_refused, settled_states, settled_handed, settled_rest, refused_handed}
 use Rattle.pricing.specs.Patch.{patched_at}
@@ -85,39 +85,39 @@ module _ (job : Job) (agreed : ℕ) (triangles work : List ℕ) where
 
   -- every other call gets the first number due; one of the job changes no table (rule 4.30), 23 the work table alone (rule 4.23)
   pub refused_first : (k : ℕ) → job-due.FirstDue job (length triangles) (length work) k →
-      patched_at job agreed triangles work ≡ result_of (Refused (refusal k)) triangles work
+      patched_at job agreed triangles work ≡ result_of (Err (refusal k)) triangles work
   refused_first k f = by end
     where
-      by : End → call ≡ result_of (Refused (refusal k)) triangles work
+      by : End → call ≡ result_of (Err (refusal k)) triangles work
       by (in_refusal j g e) =
-          e ∙ ap (λ (i : ℕ). result_of (Refused (refusal i)) triangles work)
+          e ∙ ap (λ (i : ℕ). result_of (Err (refusal i)) triangles work)
           (first_unique ordered (first_of_job job agreed triangles work g) (first_of_job job agreed triangles work f))
       by (in_23 ok least h d e) = absurd (none_first ok f)
       by (in_none ok h b e) = absurd (none_first ok f)
       by (in_patch ok h l b e) = absurd (none_first ok f)
 
   pub first_given : (k : ℕ) → FirstDue job agreed (length triangles) (length work) k →
-      (patched_at job agreed triangles work).outcome ≡ Refused (refusal k)
+      (patched_at job agreed triangles work).outcome ≡ Err (refusal k)
   first_given k f = by end
     where
-      refused_with : {j : ℕ} {t w : List ℕ} → call ≡ result_of (Refused (refusal j)) t w → FirstDue job agreed (length triangles) (length work) j
-          → call.outcome ≡ Refused (refusal k)
-      refused_with e g = outcome_of e ∙ ap (λ (i : ℕ). Refused (refusal i)) (first_unique ordered g f)
+      refused_with : {j : ℕ} {t w : List ℕ} → call ≡ result_of (Err (refusal j)) t w → FirstDue job agreed (length triangles) (length work) j
+          → call.outcome ≡ Err (refusal k)
+      refused_with e g = outcome_of e ∙ ap (λ (i : ℕ). Err (refusal i)) (first_unique ordered g f)
 
-      taken : {r : Result} → call ≡ r → Taken r.outcome → call.outcome ≡ Refused (refusal k)
+      taken : {r : Result} → call ≡ r → Taken r.outcome → call.outcome ≡ Err (refusal k)
       taken e t = absurd (none_first (taken_only_when (subst (λ (r : Result). Taken r.outcome) (sym e) t)) f)
 
-      by : End → call.outcome ≡ Refused (refusal k)
+      by : End → call.outcome ≡ Err (refusal k)
       by (in_refusal j g e) = refused_with e (first_of_job job agreed triangles work g)
       by (in_23 ok least h d e) = refused_with e (first_23 job agreed triangles work ok least h d)
       by (in_none ok h b e) = taken e a_none
       by (in_patch ok h l b e) = taken e a_patch
 
-  pub given_first : (k : ℕ) → (patched_at job agreed triangles work).outcome ≡ Refused (refusal k) →
+  pub given_first : (k : ℕ) → (patched_at job agreed triangles work).outcome ≡ Err (refusal k) →
       FirstDue job agreed (length triangles) (length work) k
   given_first k q = by end
     where
-      numbered : {j : ℕ} {t w : List ℕ} → call ≡ result_of (Refused (refusal j)) t w → j ≡ k
+      numbered : {j : ℕ} {t w : List ℕ} → call ≡ result_of (Err (refusal j)) t w → j ≡ k
       numbered e = ap number_of (sym (outcome_of e) ∙ q)
 
       by : End → FirstDue job agreed (length triangles) (length work) k
@@ -128,16 +128,16 @@ module _ (job : Job) (agreed : ℕ) (triangles work : List ℕ) where
 
   -- 23 exactly when the job is accepted, has a tiling, and the agreed total is not the least (rules 4.23, 4.37)
   pub gives_23 : Accepted job (length triangles) (length work) → HasTiling (problem_of job) → (Least (problem_of job) agreed → ⊥) →
-      patched_at job agreed triangles work ≡ result_of (Refused (refusal 23)) triangles (filled (replicate (length job.candidates) 0) work)
+      patched_at job agreed triangles work ≡ result_of (Err (refusal 23)) triangles (filled (replicate (length job.candidates) 0) work)
   gives_23 ok t n = by end
     where
-      by : End → call ≡ result_of (Refused (refusal 23)) triangles cleared
+      by : End → call ≡ result_of (Err (refusal 23)) triangles cleared
       by (in_refusal k f e) = absurd (none_first ok f)
       by (in_23 _ least h d e) = e
       by (in_none _ h b e) = absurd (h t.0 t.1)
       by (in_patch _ h l b e) = absurd (n h)
 
-  pub given_23 : (patched_at job agreed triangles work).outcome ≡ Refused (refusal 23) →
+  pub given_23 : (patched_at job agreed triangles work).outcome ≡ Err (refusal 23) →
       Accepted job (length triangles) (length work) × HasTiling (problem_of job) × (Least (problem_of job) agreed → ⊥)
   given_23 q = by end
     where
@@ -161,17 +161,17 @@ module _ (job : Job) (agreed : ℕ) (triangles work : List ℕ) where
 
   -- 'none' before the agreed total is looked at (rule 4.37)
   pub none_whatever : Accepted job (length triangles) (length work) → NoTiling (problem_of job) →
-      patched_at job agreed triangles work ≡ result_of None triangles (filled (replicate (length job.candidates) 0) work)
+      patched_at job agreed triangles work ≡ result_of (Ok None) triangles (filled (replicate (length job.candidates) 0) work)
   none_whatever ok n = by end
     where
-      by : End → call ≡ result_of None triangles cleared
+      by : End → call ≡ result_of (Ok None) triangles cleared
       by (in_refusal k f e) = absurd (none_first ok f)
       by (in_23 _ least h d e) = absurd (n h.set h.tiles)
       by (in_none _ h b e) = e
       by (in_patch _ h l b e) = absurd (n h.set h.tiles)
 
   -- ---- demand 3 in full, but where 23 is due (rules 3.7, 3.8)
-  pub right : Accepted job (length triangles) (length work) → (patched_at job agreed triangles work).outcome ≢ Refused (refusal 23) →
+  pub right : Accepted job (length triangles) (length work) → (patched_at job agreed triangles work).outcome ≢ Err (refusal 23) →
       Demand3 (problem_of job) (stated (patched_at job agreed triangles work).outcome (patched_at job agreed triangles work).triangles)
   right ok n = by end
     where
@@ -188,17 +188,17 @@ module _ (job : Job) (agreed : ℕ) (triangles work : List ℕ) where
 
   -- a patch has the agreed total; and it is given where that is the least (rules 4.23, 5.12)
   pub patch_at : Accepted job (length triangles) (length work) → Least (problem_of job) agreed →
-      (patched_at job agreed triangles work).outcome ≡ Patch (job.n - 2) agreed
+      (patched_at job agreed triangles work).outcome ≡ Ok (Some (patch_with (job.n - 2) agreed))
   patch_at ok least = by end
     where
-      by : End → call.outcome ≡ Patch (job.n - 2) agreed
+      by : End → call.outcome ≡ Ok (Some (patch_with (job.n - 2) agreed))
       by (in_refusal k f e) = absurd (none_first ok f)
       by (in_23 _ x h d e) = absurd (d (least_unique least h))
       by (in_none _ h b e) = absurd (h least.set least.tiles)
       by (in_patch _ h l b e) =
-          outcome_of e ∙ ap (λ (c : ℕ). Patch c agreed) (best_length problem (job_valid job agreed triangles work ok) agreed l b)
+          outcome_of e ∙ ap (λ (c : ℕ). Ok (Some (patch_with c agreed))) (best_length problem (job_valid job agreed triangles work ok) agreed l b)
 
-  pub total_agreed : (number total : ℕ) → (patched_at job agreed triangles work).outcome ≡ Patch number total → total ≡ agreed
+  pub total_agreed : (number total : ℕ) → (patched_at job agreed triangles work).outcome ≡ Ok (Some (patch_with number total)) → total ≡ agreed
   total_agreed number total q = by end
     where
       by : End → total ≡ agreed
@@ -206,7 +206,7 @@ module _ (job : Job) (agreed : ℕ) (triangles work : List ℕ) where
       by (in_23 ok least h d e) = absurd (never_refused (sym q ∙ outcome_of e) a_patch)
       by (in_none ok h b e) = absurd (no_patch (sym q ∙ outcome_of e))
         where
-          no_patch : Patch number total ≡ None → ⊥
+          no_patch : ◌≡◌ {A = Outcome} (Ok (Some (patch_with number total))) (Ok None) → ⊥
           no_patch x = let z : ◌≡◌ {A = ℕ} 0 1 = cc in omega arith
       by (in_patch ok h l b e) = ap total_of (sym q ∙ outcome_of e)
 

@@ -5,6 +5,7 @@ use mathlib.Core.List.{List}
 use native.Mathlib.Omega.{arith}
 use lib.ListN.{length, replicate, length-replicate}
 use borrow.Author.Tests.{eq-eqb}
+use Rattle.std.proofs.Common.{Some, Ok, Err}
 use Rattle.codes.specs.Refusals.{refusal}
 use Rattle.lists.specs.Lists.{filled}
 use Rattle.lists.proofs.Choice.{yes}
@@ -18,14 +19,11 @@ use Rattle.jobs.specs.Job.{Job, job_code, code_without_triangles}
 use Rattle.jobs.specs.Due.{Accepted}
 use Rattle.jobs.proofs.First.{long_enough}
 use Rattle.jobs.proofs.Acceptance.{fitting}
-use Rattle.triangulator.specs.declared.Outcome.{Outcome}
-use Rattle.triangulator.specs.declared.Outcome.TheVariants.{Patch, Refused}
-use Rattle.triangulator.specs.Call.{values, part_of, Result, result_of, settled}
-use Rattle.triangulator.specs.Call as tiler
+use Rattle.triangulator.specs.Call.{Outcome, patch_with, total_of, values, values_of, part_of, Result, result_of, settled}
 use Rattle.triangulator.specs.Demands.{Handed}
 use Rattle.triangulator.proofs.Accepting.{accepted_well_formed}
 use Rattle.triangulator.proofs.Demands.{patch_handed}
-use Rattle.pricing.specs.Quote.{total_of, values_of, quote_of, priced}
+use Rattle.pricing.specs.Quote.{quote_of, priced}
 use Rattle.pricing.specs.Quote as price
 use Rattle.pricing.specs.Patch.{refused_or, settled_at, patched_at, triangulated}
 use Rattle.pricing.proofs.Patching.{settled_call, refused_call}
@@ -56,7 +54,7 @@ module _ (job : Job) (triangles work : List ℕ) (room : job.n - 2 ≤ length tr
   unfolding triangulated
   single_accepted e = ap (λ (k : ℕ). refused_or k triangles work (settled answer count triangles work)) (code_is ∙ e)
 
-  single_refused : (k : ℕ) → code ≡ suc k → triangulated job triangles work ≡ result_of (Refused (refusal (suc k))) triangles work
+  single_refused : (k : ℕ) → code ≡ suc k → triangulated job triangles work ≡ result_of (Err (refusal (suc k))) triangles work
   unfolding triangulated
   single_refused k e = ap (λ (j : ℕ). refused_or j triangles work (settled answer count triangles work)) (code_is ∙ e)
 
@@ -70,7 +68,7 @@ module _ (job : Job) (triangles work : List ℕ) (room : job.n - 2 ≤ length tr
   again none = ap (result_of _ triangles) (filled_over (replicate count 0) (replicate count 0) work refl)
   again (patch total l) =
       yes _ _ (eq-eqb total total refl)
-      ∙ ap (result_of (Patch (length l) total) (filled l triangles)) (filled_over (replicate count 0) (replicate count 0) work refl)
+      ∙ ap (result_of (Ok (Some (patch_with (length l) total))) (filled l triangles)) (filled_over (replicate count 0) (replicate count 0) work refl)
 
   -- the two in turn on one job give what the single call gives, in the answer and in every place (rule 5.13)
   pub in_turn : patched_at job (total_of (priced job work).quote) triangles (priced job work).work ≡ triangulated job triangles work
@@ -88,26 +86,26 @@ module _ (job : Job) (triangles work : List ℕ) (room : job.n - 2 ≤ length tr
       by (suc k) e = after e ∙ refused_call job 0 triangles work k (code_is ∙ e) ∙ sym (single_refused k e)
 
   -- and the price has its number, its triangle count and its total
-  pub in_turn_values : values_of (priced job work).quote ≡ tiler.values_of (triangulated job triangles work).outcome
+  pub in_turn_values : values_of (priced job work).quote ≡ values_of (triangulated job triangles work).outcome
   in_turn_values = by code refl
     where
-      answered : code ≡ 0 → (a : Answer) → answer ≡ a → values_of (quote_of job.n a) ≡ tiler.values_of (settled a count triangles work).outcome
+      answered : code ≡ 0 → (a : Answer) → answer ≡ a → values_of (quote_of job.n a) ≡ values_of (settled a count triangles work).outcome
       answered e none b = refl
       answered e (patch total l) b =
           let v = (accepted_well_formed job (job.n - 2) (length work) e).0.valid in
           ap (λ (c : ℕ). values 0 c total) (sym (best_length (problem_of job) v total l b))
 
-      by : (k : ℕ) → code ≡ k → values_of (priced job work).quote ≡ tiler.values_of (triangulated job triangles work).outcome
+      by : (k : ℕ) → code ≡ k → values_of (priced job work).quote ≡ values_of (triangulated job triangles work).outcome
       by zero e =
           ap (λ (r : price.Result). values_of r.quote) (price_is e) ∙ answered e answer refl
-          ∙ ap (λ (r : Result). tiler.values_of r.outcome) (sym (single_accepted e))
+          ∙ ap (λ (r : Result). values_of r.outcome) (sym (single_accepted e))
       by (suc k) e =
-          ap (λ (r : price.Result). values_of r.quote) (price_is e) ∙ ap (λ (r : Result). tiler.values_of r.outcome) (sym (single_refused k e))
+          ap (λ (r : price.Result). values_of r.quote) (price_is e) ∙ ap (λ (r : Result). values_of r.outcome) (sym (single_refused k e))
 
 -- a patch at the least total is the best one of the job that is handed over with it, whatever was priced before (rules 3.7, 5.12)
 pub best_at : (job : Job) (agreed : ℕ) (triangles work : List ℕ) → Accepted job (length triangles) (length work) → Least (problem_of job) agreed
-    → ((patched_at job agreed triangles work).outcome ≡ Patch (job.n - 2) agreed)
-    × HandedBack (problem_of job) agreed (part_of (Patch (job.n - 2) agreed) (patched_at job agreed triangles work).triangles)
+    → ((patched_at job agreed triangles work).outcome ≡ Ok (Some (patch_with (job.n - 2) agreed)))
+    × HandedBack (problem_of job) agreed (part_of (Ok (Some (patch_with (job.n - 2) agreed))) (patched_at job agreed triangles work).triangles)
 best_at job agreed triangles work ok least =
     let e = patch_at job agreed triangles work ok least in (
       e,

@@ -1,3 +1,4 @@
+pub mod Accepted
 pub mod Settling
 pub mod Pricing
 pub mod Patching

@@ -7,6 +7,7 @@ use native.Mathlib.Omega.{arith}
 use lib.Dec.{eqb}
 use lib.ListN.{length, replicate}
 use borrow.Author.Tests.{eqb-true, eqb-false}
+use Rattle.std.proofs.Common.{Err}
 use Rattle.codes.specs.Refusals.{refusal}
 use Rattle.lists.specs.Lists.{filled}
 use Rattle.lists.proofs.Choice.{Truth, truth, holds, fails, yes, no}
@@ -20,7 +21,6 @@ use Rattle.jobs.specs.Due.{JobPlace, JobDue, Accepted, JobCallPlace, job_at, aft
 use Rattle.jobs.specs.Due as job-due
 use Rattle.jobs.proofs.Acceptance.{accepted_zero, zero_accepted, code_due}
 use Rattle.jobs.proofs.Calls.{job_first}
-use Rattle.triangulator.specs.declared.Outcome.TheVariants.{Refused}
 use Rattle.triangulator.specs.Call.{Result, result_of, settled}
 use Rattle.triangulator.proofs.Accepting.{accepted_well_formed}
 use Rattle.pricing.specs.Patch.{refused_or, settled_at, patched_at}
@@ -45,11 +45,11 @@ module _ (job : Job) (agreed : ℕ) (triangles work : List ℕ) where
   -- how a call ends
   pub data PatchEnd (r : Result) : Type 0 where
     in_refusal : (k : ℕ) → job-due.FirstDue job (length triangles) (length work) (suc k)
-        → r ≡ result_of (Refused (refusal (suc k))) triangles work → PatchEnd r
+        → r ≡ result_of (Err (refusal (suc k))) triangles work → PatchEnd r
     in_none : Accepted job (length triangles) (length work) → NoTiling (problem_of job) → best (problem_of job) ≡ none
         → r ≡ settled none (length job.candidates) triangles work → PatchEnd r
     in_23 : Accepted job (length triangles) (length work) → (least : ℕ) → Least (problem_of job) least → agreed ≢ least
-        → r ≡ result_of (Refused (refusal 23)) triangles (filled (replicate (length job.candidates) 0) work) → PatchEnd r
+        → r ≡ result_of (Err (refusal 23)) triangles (filled (replicate (length job.candidates) 0) work) → PatchEnd r
     in_patch : Accepted job (length triangles) (length work) → Least (problem_of job) agreed → (l : List ℕ) → best (problem_of job) ≡ patch agreed l
         → r ≡ settled (patch agreed l) (length job.candidates) triangles work → PatchEnd r
 
@@ -72,7 +72,7 @@ module _ (job : Job) (agreed : ℕ) (triangles work : List ℕ) where
       ap (λ (k : ℕ). refused_or k triangles work (settled_at agreed (best (problem_of job)) (length job.candidates) triangles work)) e
 
   pub refused_call : (k : ℕ) → job_code job (length triangles) (length work) ≡ suc k
-      → patched_at job agreed triangles work ≡ result_of (Refused (refusal (suc k))) triangles work
+      → patched_at job agreed triangles work ≡ result_of (Err (refusal (suc k))) triangles work
   unfolding patched_at
   refused_call k e =
       ap (λ (j : ℕ). refused_or j triangles work (settled_at agreed (best (problem_of job)) (length job.candidates) triangles work)) e

@@ -1,133 +1,73 @@
 -- What the two calls answer and leave, from what the dynamic programme returns and leaves. Assumes nothing.
-use Prim.Native.Nat.{ℕ, zero, suc, ◌-◌, ◌≤◌, ◌<◌}
+use Prim.Native.Nat.{ℕ, ◌-◌}
 use mathlib.Core.Path.{◌≡◌, refl, sym, ap, ap₂, ◌∙◌}
-use mathlib.Core.Logic.{◌≢◌, ◌⊎◌, inl, inr}
+use mathlib.Core.Logic.{inl}
 use mathlib.Core.List.{List, [], ◌∷◌}
-use native.Mathlib.Omega.{arith}
 use lib.ListN.{length, replicate}
-use borrow.Author.Tests.{eq-eqb, ne_eqb}
-use Rattle.codes.specs.declared.Refusal.{Refusal}
-use Rattle.codes.specs.Refusals.{refusal}
+use borrow.Author.Tests.{eq-eqb}
+use Rattle.std.proofs.Common.{Some, None, Ok}
 use Rattle.lists.specs.Lists.{filled}
-use Rattle.lists.proofs.Choice.{yes, no}
-use Rattle.triangulation.specs.Triangulations.{Answer, answer_of}
-use Rattle.triangulation.specs.Recursion.{cost_of, rest_of, no_total}
-use Rattle.triangulator.specs.declared.Outcome.{Outcome}
-use Rattle.triangulator.specs.declared.Outcome.TheVariants as outcome
+use Rattle.lists.proofs.Choice.{yes}
+use Rattle.triangulation.specs.Triangulations.{answer_of}
+use Rattle.triangulation.specs.Recursion.{cost_of, key_total, rest_of}
 use Rattle.triangulator.specs.Call as tiler
-use Rattle.triangulator.specs.Call.{values, due_values}
-use Rattle.pricing.specs.declared.Quote.TheVariants.{Total, None, Refused}
-use Rattle.pricing.specs.Quote.{values_of, result_of, quote_of, settled}
+use Rattle.triangulator.specs.Call.{Outcome, patch_with, values, values_of, due_values}
+use Rattle.pricing.specs.Quote.{result_of, quote_of, settled}
 use Rattle.pricing.specs.Patch.{refused_or, settled_at, values_at, due_values_at}
-use Rattle.triangulator.specs.declared.solver.Figure.TheVariants.{Agreed}
 use Rattle.triangulator.specs.Steps.{listed_by}
+use Rattle.minimum_weight.proofs.Answer.{without_key, with_key}
 use Rattle.triangulator.proofs.Settling.{listed, not_listed}
 
 -- ---- the price, by the exits of the code
 module _ (n count number : ℕ) (work : List ℕ) where
-  pub quote_refused : {r : Refusal} (k : ℕ) (a : Answer) → r ≡ refusal k → k ≡ number → k ≢ 0
-      → (result_of (Refused r) work ≡ settled number (quote_of n a) count work) × (values_of (Refused r) ≡ due_values number n a)
-  quote_refused {r} k a m e d = by number e
-    where
-      by : (j : ℕ) → k ≡ j → (result_of (Refused r) work ≡ settled j (quote_of n a) count work) × (values_of (Refused r) ≡ due_values j n a)
-      by zero e = absurd (d e)
-      by (suc j) e =
-          let q = m ∙ ap refusal e in
-          (ap (λ (x : Refusal). result_of (Refused x) work) q, ap (λ (x : Refusal). values_of (Refused x)) q)
-
   module _ (z : number ≡ 0) (k : List ℕ) {left : List ℕ} (f : left ≡ filled (replicate count 0) work) where
-    pub quote_none : no_total ≤ cost_of k → (k ≡ []) ⊎ (cost_of k < no_total)
-        → (result_of None left ≡ settled number (quote_of n (answer_of k)) count work) × (values_of None ≡ due_values number n (answer_of k))
-    quote_none h (inr q) = absurd (omega arith)
-    quote_none h (inl q) = (
-      ap (result_of None) f ∙ ap₂ (λ (j : ℕ) (l : List ℕ). settled j (quote_of n (answer_of l)) count work) (sym z) (sym q),
+    pub quote_none : None ≡ key_total k
+        → (result_of (Ok None) left ≡ settled number (quote_of n (answer_of k)) count work) × (values_of (Ok None) ≡ due_values number n (answer_of k))
+    quote_none h = let q = without_key k h in (
+      ap (result_of (Ok None)) f ∙ ap₂ (λ (j : ℕ) (l : List ℕ). settled j (quote_of n (answer_of l)) count work) (sym z) (sym q),
       ap₂ (λ (j : ℕ) (l : List ℕ). due_values j n (answer_of l)) (sym z) (sym q),
     )
 
-    pub quote_total : (total : ℕ) → total ≡ cost_of k → total < no_total
-        → (result_of (Total (n - 2) total) left ≡ settled number (quote_of n (answer_of k)) count work)
-        × (values_of (Total (n - 2) total) ≡ due_values number n (answer_of k))
-    quote_total total e h = by k e
-      where
-        by : (k : List ℕ) → total ≡ cost_of k
-            → (result_of (Total (n - 2) total) left ≡ settled number (quote_of n (answer_of k)) count work)
-            × (values_of (Total (n - 2) total) ≡ due_values number n (answer_of k))
-        by [] e = absurd (omega arith)
-        by (x ∷ l) e = (
-          ap₂ (λ (t : ℕ) (w : List ℕ). result_of (Total (n - 2) t) w) e f ∙ ap (λ (j : ℕ). settled j (Total (n - 2) x) count work) (sym z),
-          ap (values 0 (n - 2)) e ∙ ap (λ (j : ℕ). due_values j n (answer_of (x ∷ l))) (sym z),
-        )
-
 -- ---- the patch, by the exits of the code
--- a number of the job
-pub patch_refused : {r : Refusal} (k number agreed n : ℕ) (a : Answer) (triangles work : List ℕ) (x : tiler.Result)
-    → r ≡ refusal k → k ≡ number → k ≢ 0
-    → (tiler.result_of (outcome.Refused r) triangles work ≡ refused_or number triangles work x)
-    × (tiler.values_of (outcome.Refused r) ≡ due_values_at number agreed n a)
-patch_refused {r} k number agreed n a triangles work x m e d = by number e
-  where
-    by : (j : ℕ) → k ≡ j → (tiler.result_of (outcome.Refused r) triangles work ≡ refused_or j triangles work x)
-        × (tiler.values_of (outcome.Refused r) ≡ due_values_at j agreed n a)
-    by zero e = absurd (d e)
-    by (suc j) e =
-        let q = m ∙ ap refusal e in (
-          ap (λ (y : Refusal). tiler.result_of (outcome.Refused y) triangles work) q,
-          ap (λ (y : Refusal). tiler.values_of (outcome.Refused y)) q,
-        )
-
--- what a key with a total says, where the agreed total is another, and where it is the same
+-- what a key with a total says, where the agreed total is the same
 module _ (n count agreed : ℕ) (triangles work : List ℕ) where
-  other_total : (k : List ℕ) → cost_of k < no_total → agreed ≢ cost_of k
-      → (settled_at agreed (answer_of k) count triangles work ≡ tiler.result_of (outcome.Refused (refusal 23)) triangles (filled (replicate count 0) work))
-      × (values_at agreed n (answer_of k) ≡ values 23 0 0)
-  other_total [] h d = absurd (omega arith)
-  other_total (x ∷ l) h d = (no _ _ (ne_eqb agreed x d), no _ _ (ne_eqb agreed x d))
-
-  same_total : (k : List ℕ) → cost_of k < no_total → agreed ≡ cost_of k → ((x : ℕ) (l : List ℕ) → k ≡ x ∷ l → length l ≡ n - 2)
+  same_total : (k : List ℕ) → Some agreed ≡ key_total k → ((x : ℕ) (l : List ℕ) → k ≡ x ∷ l → length l ≡ n - 2)
       → (settled_at agreed (answer_of k) count triangles work
-      ≡ tiler.result_of (outcome.Patch (n - 2) (cost_of k)) (filled (rest_of k) triangles) (filled (replicate count 0) work))
+      ≡ tiler.result_of (Ok (Some (patch_with (n - 2) (cost_of k)))) (filled (rest_of k) triangles) (filled (replicate count 0) work))
       × (values_at agreed n (answer_of k) ≡ values 0 (n - 2) (cost_of k))
-  same_total [] h e m = absurd (omega arith)
-  same_total (x ∷ l) h e m = (
-    yes _ _ (eq-eqb agreed x e) ∙ ap (λ (c : ℕ). tiler.result_of (outcome.Patch c x) (filled l triangles) (filled (replicate count 0) work)) (m x l refl),
+  same_total [] h m = cc
+  same_total (x ∷ l) h m = let e : agreed ≡ x = cc in (
+    yes _ _ (eq-eqb agreed x e) ∙ ap (λ (c : ℕ). tiler.result_of (Ok (Some (patch_with c x))) (filled l triangles) (filled (replicate count 0) work)) (m x l refl),
     yes _ _ (eq-eqb agreed x e),
   )
 
 -- no number of the job: what the totals say
 module _ (n count number agreed : ℕ) (z : number ≡ 0) (triangles work k : List ℕ) {Listed-in cleared-in : List ℕ}
-    (e : Listed-in ≡ listed_by (Agreed agreed) k triangles) (f : cleared-in ≡ filled (replicate count 0) work) where
+    (e : Listed-in ≡ listed_by (Some agreed) k triangles) (f : cleared-in ≡ filled (replicate count 0) work) where
   abbrev Right : Outcome → Type 0
   Right o = (tiler.result_of o Listed-in cleared-in ≡ refused_or number triangles work (settled_at agreed (answer_of k) count triangles work))
-      × (tiler.values_of o ≡ due_values_at number agreed n (answer_of k))
+      × (values_of o ≡ due_values_at number agreed n (answer_of k))
 
   -- it is enough to know the answer
   accepted : (o : Outcome) → tiler.result_of o Listed-in cleared-in ≡ settled_at agreed (answer_of k) count triangles work
-      → tiler.values_of o ≡ values_at agreed n (answer_of k) → Right o
+      → values_of o ≡ values_at agreed n (answer_of k) → Right o
   accepted o g h = (
     g ∙ ap (λ (j : ℕ). refused_or j triangles work (settled_at agreed (answer_of k) count triangles work)) (sym z),
     h ∙ ap (λ (j : ℕ). due_values_at j agreed n (answer_of k)) (sym z),
   )
 
-  pub patch_none : no_total ≤ cost_of k → (k ≡ []) ⊎ (cost_of k < no_total) → Right outcome.None
-  patch_none h (inr q) = absurd (omega arith)
-  patch_none h (inl q) = accepted outcome.None
-      (ap₂ (tiler.result_of outcome.None) (e ∙ sym (not_listed (Agreed agreed) k triangles (inl q))) f
+  pub patch_none : None ≡ key_total k → Right (Ok None)
+  patch_none h = let q = without_key k h in accepted (Ok None)
+      (ap₂ (tiler.result_of (Ok None)) (e ∙ sym (not_listed (Some agreed) k triangles (inl q))) f
       ∙ ap (λ (l : List ℕ). settled_at agreed (answer_of l) count triangles work) (sym q))
       (ap (λ (l : List ℕ). values_at agreed n (answer_of l)) (sym q))
 
-  pub patch_not_least : {r : Refusal} → r ≡ refusal 23 → cost_of k < no_total → agreed ≢ cost_of k → Right (outcome.Refused r)
-  patch_not_least {r} m h d =
-      let o = other_total n count agreed triangles work k h d in
-      accepted (outcome.Refused r)
-      (ap₂ (tiler.result_of (outcome.Refused r)) (e ∙ sym (not_listed (Agreed agreed) k triangles (inr (ne_eqb agreed (cost_of k) d)))) f
-      ∙ ap (λ (y : Refusal). tiler.result_of (outcome.Refused y) triangles (filled (replicate count 0) work)) m ∙ sym o.0)
-      (ap (λ (y : Refusal). tiler.values_of (outcome.Refused y)) m ∙ sym o.1)
-
-  pub patch_whole : (total : ℕ) → total ≡ cost_of k → total < no_total → agreed ≡ total
-      → ((x : ℕ) (l : List ℕ) → k ≡ x ∷ l → length l ≡ n - 2) → Right (outcome.Patch (n - 2) total)
-  patch_whole total g h a m =
-      let o = same_total n count agreed triangles work k (omega (arith, g)) (a ∙ g) m in
-      accepted (outcome.Patch (n - 2) total)
-      (ap₂ (tiler.result_of (outcome.Patch (n - 2) total)) (e ∙ sym (listed (Agreed agreed) k triangles (eq-eqb agreed (cost_of k) (a ∙ g)))) f
-      ∙ ap (λ (t : ℕ). tiler.result_of (outcome.Patch (n - 2) t) (filled (rest_of k) triangles) (filled (replicate count 0) work)) g ∙ sym o.0)
+  pub patch_whole : (total : ℕ) → Some total ≡ key_total k → agreed ≡ total
+      → ((x : ℕ) (l : List ℕ) → k ≡ x ∷ l → length l ≡ n - 2) → Right (Ok (Some (patch_with (n - 2) total)))
+  patch_whole total h a m =
+      let g = with_key k h in
+      let o = same_total n count agreed triangles work k (ap Some a ∙ h) m in
+      accepted (Ok (Some (patch_with (n - 2) total)))
+      (ap₂ (tiler.result_of (Ok (Some (patch_with (n - 2) total)))) (e ∙ sym (listed (Some agreed) k triangles (eq-eqb agreed (cost_of k) (a ∙ g)))) f
+      ∙ ap (λ (t : ℕ). tiler.result_of (Ok (Some (patch_with (n - 2) t))) (filled (rest_of k) triangles) (filled (replicate count 0) work)) g ∙ sym o.0)
       (ap (values 0 (n - 2)) g ∙ sym o.1)

@@ -25,11 +25,11 @@ unfolding same_values
 same_values_lem v = rw (eq-eqb v.number _ refl, eq-eqb v.triangles _ refl, eq-eqb v.total _ refl)
 
 same_price : price.Result → price.Result → Bool
-same_price r s = both (same_values (price.values_of r.quote) (price.values_of s.quote)) (same_list r.work s.work)
+same_price r s = both (same_values (values_of r.quote) (values_of s.quote)) (same_list r.work s.work)
 
 same_price_lem : (r : price.Result) → same_price r r ≡ true
 unfolding same_price
-same_price_lem r = rw (same_values_lem (price.values_of r.quote), same_list_lem r.work)
+same_price_lem r = rw (same_values_lem (values_of r.quote), same_list_lem r.work)
 
 same_patch : Result → Result → Bool
 same_patch r s =

@@ -1,24 +1,23 @@
 -- What the call that patches a direct job at an agreed total answers, and what it leaves in every place of its tables. Definitions only.
-use Rattle.std.specs.Prelude.{ℕ, zero, suc, cond, List, length, replicate, eqb}
+use Rattle.std.specs.Prelude.{ℕ, zero, suc, cond, List, length, replicate, eqb, Err}
 use Rattle.codes.specs.Refusals.{refusal}
 use Rattle.lists.specs.Lists.{filled}
 use Rattle.triangulation.specs.Triangulations.{Answer, none, patch, best}
 use Rattle.triangulation.specs.Problems.{problem_of}
 use Rattle.jobs.specs.Job.{Job, job_code}
-use Rattle.triangulator.specs.declared.Outcome.TheVariants.{Refused}
 use Rattle.triangulator.specs.Call.{Values, values, answer_values, Result, result_of, settled}
 
 -- a refusal changes no table (rule 4.30), and comes before a patch and 'none' (rule 4.33)
 abbrev pub refused_or : ℕ → List ℕ → List ℕ → Result → Result
 refused_or zero triangles work otherwise = otherwise
-refused_or (suc k) triangles work otherwise = result_of (Refused (refusal (suc k))) triangles work
+refused_or (suc k) triangles work otherwise = result_of (Err (refusal (suc k))) triangles work
 
 -- an answer where a total was agreed (rules 4.23, 4.37): 'none' whatever it was; where it is not the least total 23, which writes no triangle and leaves the
 -- work table as 'none' does; else the patch
 abbrev pub settled_at : ℕ → Answer → ℕ → List ℕ → List ℕ → Result
 settled_at agreed none count triangles work = settled none count triangles work
 settled_at agreed (patch total l) count triangles work =
-    cond (eqb agreed total) (settled (patch total l) count triangles work) (result_of (Refused (refusal 23)) triangles (filled (replicate count 0) work))
+    cond (eqb agreed total) (settled (patch total l) count triangles work) (result_of (Err (refusal 23)) triangles (filled (replicate count 0) work))
 
 -- the call, by the first number due on the job (rules 4.32, 4.37)
 unfoldable pub patched_at : Job → ℕ → List ℕ → List ℕ → Result

@@ -2,123 +2,53 @@
 #![tactic(auto)]
 
 ghost use Rattle.std.specs.Prelude.{◌≡◌, length};
-ghost use Rattle.jobs.specs.Job.{job_of};
+ghost use Rattle.jobs.specs.Job.{job_in};
 ghost use Rattle.triangulator.specs.Call as tiler;
-ghost use Rattle.pricing.specs.Quote.{number_of, triangles_of, total_of, values_of, result_of, priced_values, priced};
+ghost use Rattle.pricing.specs.Quote.{result_of, priced_values, priced};
 ghost use Rattle.pricing.specs.Patch.{patched_at_values, patched_at};
 
 use codes::Refusal;
-use minimum_weight::NONE;
-use triangulator::solver::Figure;
-use triangulator::{Outcome, solver};
+use jobs::Job;
+use triangulator::{Patch, solver};
 
-// The least total with the number of triangles of its patch, 'none', or a refusal.
-#[derive(Clone, Copy)]
-pub enum Quote {
-    Total { triangles: usize, total: u64 },
-    None,
-    Refused(Refusal),
-}
-
-impl Quote {
-    // The number of a refusal; 0 for a total and for 'none'.
-    pub fn number(self) -> u32
-        ensures { result ≡ number_of self }
-    {
-        match self {
-            Quote::Total {
-                triangles: _,
-                total: _,
-            } => 0,
-            Quote::None => 0,
-            Quote::Refused(refusal) => refusal.number,
-        }
-    }
-
-    // How many triangles the patch has, which are the places that it needs in the triangle table.
-    pub fn triangles(self) -> usize
-        ensures { result ≡ triangles_of self }
-    {
-        match self {
-            Quote::Total {
-                triangles,
-                total: _,
-            } => triangles,
-            Quote::None => 0,
-            Quote::Refused(_) => 0,
-        }
-    }
-
-    // The least total, else 0.
-    pub fn total(self) -> u64
-        ensures { result ≡ total_of self }
-    {
-        match self {
-            Quote::Total {
-                triangles: _,
-                total,
-            } => total,
-            Quote::None => 0,
-            Quote::Refused(_) => 0,
-        }
-    }
-}
-
-// 14, 13, 15, 16 and 17 with no triangle table, then the least total.
-pub fn price(
-    n: usize,
-    candidates: &[[u8; 3]],
-    weights: &[u32],
-    rows: &[[u32; 3]],
-    work: &mut [u64],
-) -> Quote
-    ensures tables { result_of result work.new
-        ≡ priced (job_of n candidates.now weights.now rows.now) work.old }
-    ensures values { values_of result
-        ≡ priced_values (job_of n candidates.now weights.now rows.now) (length work.old) }
+// 14, 13, 15, 16 and 17 with no triangle table, then the least total with the number of triangles of its patch.
+#[tactic(auto, unfolding(crate::specs::Quote::priced))]
+pub fn price(job: &Job, work: &mut [u64]) -> Result<Option<Patch>, Refusal>
+    ensures tables { result_of result work.new ≡ priced (job_in job.now) work.old }
+    ensures values { tiler.values_of result ≡ priced_values (job_in job.now) (length work.old) }
 {
-    let due = jobs::code_without_triangles(n, candidates, weights, rows, work.len());
-    if due != 0 {
-        return Quote::Refused(Refusal::new(due));
-    }
-    let total = solver::least(n, candidates, weights, rows, work);
-    if NONE <= total {
-        return Quote::None;
-    }
-    let triangles = n - 2;
-    Quote::Total { triangles, total }
+    job.check_without_triangles(work.len())?;
+    let found = solver::least(job, work);
+    let Some(total) = found else {
+        return Ok(None);
+    };
+    let triangles = job.n - 2;
+    Ok(Some(Patch { triangles, total }))
 }
 
 // 14, 13, 15, 16 and 17; 'none', whatever was agreed; 23 where the least total is not the agreed one; else the best triangulation.
+#[tactic(auto, unfolding(crate::specs::Patch::patched_at))]
 pub fn patch(
-    n: usize,
-    candidates: &[[u8; 3]],
-    weights: &[u32],
-    rows: &[[u32; 3]],
+    job: &Job,
     agreed: u64,
     triangles: &mut [u16],
     work: &mut [u64],
-) -> Outcome
+) -> Result<Option<Patch>, Refusal>
     ensures tables { tiler.result_of result triangles.new work.new
-        ≡ patched_at (job_of n candidates.now weights.now rows.now) agreed triangles.old work.old }
+        ≡ patched_at (job_in job.now) agreed triangles.old work.old }
     ensures values { tiler.values_of result
-        ≡ patched_at_values (job_of n candidates.now weights.now rows.now) agreed
-        (length triangles.old) (length work.old) }
+        ≡ patched_at_values (job_in job.now) agreed (length triangles.old) (length work.old) }
 {
-    let number = jobs::job_code(n, candidates, weights, rows, triangles.len(), work.len());
-    if number != 0 {
-        return Outcome::Refused(Refusal::new(number));
-    }
-    let figure = Figure::Agreed(agreed);
-    let least = solver::solve(n, candidates, weights, rows, figure, triangles, work);
-    if NONE <= least {
-        return Outcome::None;
-    }
+    job.check(triangles.len(), work.len())?;
+    let found = solver::solve(job, Some(agreed), triangles, work);
+    let Some(least) = found else {
+        return Ok(None);
+    };
     if least != agreed {
-        return Outcome::Refused(Refusal::new(codes::NOT_LEAST));
+        return Err(Refusal::NOT_LEAST);
     }
-    Outcome::Patch {
-        triangles: n - 2,
+    Ok(Some(Patch {
+        triangles: job.n - 2,
         total: least,
-    }
+    }))
 }

@@ -1,7 +1,7 @@
 -- What is promised of rim files: the reader's call, editions and the converter's call, the half step, limits. A part of the page (Promises.antt).
 -- Definitions only.
 use Rattle.std.specs.Prelude.{◌≡◌, not, true, false, List, ℕ, suc, ◌≤◌, ◌<◌, ℤ, Float, length}
-use Rattle.codes.specs.Refusals.{refusal}
+use Rattle.codes.specs.Refusals.{refusal, number_of}
 use Rattle.terms.specs.Limits.{min_vertices, max_vertices, trim_vertices, count_fits}
 use Rattle.terms.specs.Order.{NoneDue}
 use Rattle.lists.specs.Lists.{filled}
@@ -18,7 +18,6 @@ use Rattle.reader.specs.Order.{First}
 use Rattle.reader.specs.Due.{FileDue, HasRecords, HasVertex, HasNormal, ChainAtMost}
 use Rattle.reader.specs.Rounded.{Rounded}
 use Rattle.reader.specs.Reading.{reading_of, refused_reading, status_number}
-use Rattle.triangulator.specs.Call.{number_of}
 use Rattle.conversion.specs.Converted.{converted, other_edition}
 use Rattle.converter.specs.declared.Conversion.TheVariants as conversion
 use Rattle.converter.specs.Call.{converting, convert_call, handed_over}

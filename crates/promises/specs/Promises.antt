@@ -5,7 +5,7 @@
 -- `patch_polygon` is `patch_polygon`. On direct jobs: `price` is `priced`, `patch` is `patched_at`, `judge` is `judged`; `triangulated` is the single call
 -- that the first two replace, and nothing makes it. `Bytes file` says that the places of a file are bytes, as those of every `&[u8]` are. What the
 -- statements rest on stands at the end.
-use Rattle.std.specs.Prelude.{◌≡◌, List, ℕ}
+use Rattle.std.specs.Prelude.{◌≡◌, List, ℕ, None, Ok, Err}
 use Rattle.codes.specs.Refusals.{refusal}
 use Rattle.polygon.specs.declared.Polygon.{Polygon}
 use Rattle.polygon.specs.Due.{PolygonBefore}
@@ -14,11 +14,8 @@ use Rattle.reader.specs.Order.{FileBefore}
 use Rattle.finder.specs.Finding.{find_call}
 use Rattle.jobs.specs.Job.{Job}
 use Rattle.triangulation.specs.Triangulations.{Problem}
-use Rattle.triangulator.specs.declared.Outcome.TheVariants.{None, Refused}
 use Rattle.triangulator.specs.Call.{values, values_of}
-use Rattle.pricing.specs.declared.Quote.TheVariants as quote
 use Rattle.pricing.specs.Quote.{priced}
-use Rattle.pricing.specs.Quote as price
 use Rattle.pricing.specs.Patch.{patched_at}
 use Rattle.pipeline.specs.Finding.{find_file}
 use Rattle.pipeline.specs.Patching.{Tables, patch_polygon, patch_file}
@@ -59,10 +56,10 @@ pub record Promises : Type 0 where
   pub own_patches : OwnPatches
   pub printing : (limit : ℕ) (file : List ℕ) → Printing limit file
   -- a refusal states its number, no triangles and the total 0; 'none' three zeros (rules 5.2, 5.11)
-  pub refusal_values : (k : ℕ) → values_of (Refused (refusal k)) ≡ values k 0 0
-  pub none_values : values_of None ≡ values 0 0 0
-  pub refused_quote : (k : ℕ) → price.values_of (quote.Refused (refusal k)) ≡ values k 0 0
-  pub none_quote : price.values_of quote.None ≡ values 0 0 0
+  pub refusal_values : (k : ℕ) → values_of (Err (refusal k)) ≡ values k 0 0
+  pub none_values : values_of (Ok None) ≡ values 0 0 0
+  pub refused_quote : (k : ℕ) → values_of (Err (refusal k)) ≡ values k 0 0
+  pub none_quote : values_of (Ok None) ≡ values 0 0 0
 
 -- ---- what the page rests on, beside the calls' own definitions; `crate/File` is crates/CRATE/specs/FILE.antt, docs/ARCHITECTURE.md has the rest
 -- numbers that are due: reader/Due `FileDue`, demands/Demand1 `CallDue`, `TooShort`, demands/Finding `FindFileDue`, demands/Polygons `FindDue`, `PatchDue`,
@@ -75,7 +72,7 @@ pub record Promises : Type 0 where
 --   `QuartersLeft`, `RightOfTables`, `HandedOfTables`, `RestOfTables`, demands/Quarters `InQuarters`, `IsNormal`, geometry/Quarters `IsLength`,
 --   `IsBendBetween`, `LongerByQuarter`, integers/Rounding `IsFloorRoot`, planar/Planes `OnOneLine`, planar/Circles `collinear`, weights/Weights `own_weight`
 -- tilings and answers: jobs/Job `Job`, triangulation/Triangulations `Problem`, `total_weight`, `preorder`, Problems `problem_of`, Tiling `Tiling`, Demand3
---   `Demand3`, `HandedBack`, LeastTotal `HasTiling`, `NoTiling`, `Least`, triangulator/Demands `Taken`, `Handed`, `RestLeft`, pricing/Demands `Quoted`,
+--   `Demand3`, `HandedBack`, LeastTotal `HasTiling`, `NoTiling`, `Least`, triangulator/Demands `Taken`, `Handed`, `RestLeft`,
 --   preorder/Preorder `TurnByTurn`, judge/Demands `IsTiling`, `Acceptable`, `SameNumbers`, `Excess`
 -- answers alike: demands/Base `base_file`, Conversion `SameAnswers`, OnePatch `SamePatch`, `LongEnough`, Limits `OneAnswer`
 -- lines: patch_program/Run `empty_tables`, Demands `LinesHold`

@@ -1,7 +1,8 @@
 -- What is promised of rims, built by hand or in rim files: the finder's call, the one call, their sizes, flat rims, lengths, what is printed. A part of the
 -- page (Promises.antt). Definitions only.
-use Rattle.std.specs.Prelude.{◌≡◌, ◌≢◌, false, List, ℕ, suc, ◌+◌, ◌*◌, ◌≤◌, ◌<◌, pos, nat_abs, take}
-use Rattle.codes.specs.Refusals.{refusal}
+use Rattle.triangulator.specs.Call.{patch_with}
+use Rattle.std.specs.Prelude.{◌≡◌, ◌≢◌, false, List, ℕ, suc, ◌+◌, ◌*◌, ◌≤◌, ◌<◌, pos, nat_abs, take, Ok, Err, Some, None}
+use Rattle.codes.specs.Refusals.{refusal, number_of}
 use Rattle.terms.specs.Entries.{triple}
 use Rattle.terms.specs.Order.{NoneDue}
 use Rattle.terms.specs.Order as order
@@ -18,15 +19,11 @@ use Rattle.planar.specs.Planes.{OnOneLine}
 use Rattle.planar.specs.Circles.{collinear}
 use Rattle.polygon.specs.Polygon.{vertex}
 use Rattle.weights.specs.Weights.{own_weight}
-use Rattle.finder.specs.declared.Found.TheVariants as found
 use Rattle.finder.specs.declared.Places.{Places}
-use Rattle.finder.specs.declared.Sizes.TheVariants as sizes
-use Rattle.finder.specs.Finding.{Finding, finding}
-use Rattle.finder.specs.Finding as finder
+use Rattle.finder.specs.Finding.{counts, Finding, finding}
+use Rattle.codes.specs.Refusals as codes
 use Rattle.finder.specs.Sizes.{places_of, sizes_of}
 use Rattle.triangulation.specs.Triangulations.{ValidProblem}
-use Rattle.triangulator.specs.declared.Outcome.TheVariants.{Patch, None, Refused}
-use Rattle.triangulator.specs.Call.{number_of}
 use Rattle.triangulator.specs.Demands.{Taken}
 use Rattle.pipeline.specs.Patching.{Tables, Patching, refused, patch_file}
 use Rattle.pipeline.specs.Sizes.{sizes_file}
@@ -44,11 +41,11 @@ use Rattle.patch_program.specs.Demands.{LinesHold}
 pub record Finds {Place : Type 0} (Before : Place → Place → Type 0) (Due : Place → ℕ → Type 0) (p : Polygon)
     (candidates : List (List ℕ)) (weights : List ℕ) (rows : List (List ℕ)) (f : Finding) : Type 0 where
   -- the lists are found exactly when no number is due (rules 4.31, 4.33, 4.34)
-  pub found_when : NoneDue Due → f.answer ≡ found.Lists (places_of p).candidates (places_of p).rows
-  pub found_only_when : (count row_count : ℕ) → f.answer ≡ found.Lists count row_count → NoneDue Due
+  pub found_when : NoneDue Due → f.answer ≡ Ok (counts (places_of p).candidates (places_of p).rows)
+  pub found_only_when : (count row_count : ℕ) → f.answer ≡ Ok (counts count row_count) → NoneDue Due
   -- every other call gets the first number due, and no table is changed (rules 4.30, 4.31, 4.34)
-  pub refused_first : (k : ℕ) → order.First Before Due k → f ≡ finding (found.Refused (refusal k)) candidates weights rows
-  pub given_first : (k : ℕ) → finder.number_of f.answer ≡ suc k → order.First Before Due (suc k)
+  pub refused_first : (k : ℕ) → order.First Before Due k → f ≡ finding (Err (refusal k)) candidates weights rows
+  pub given_first : (k : ℕ) → codes.number_of f.answer ≡ suc k → order.First Before Due (suc k)
   -- demand 2: a triangle is listed exactly when it is a candidate, every weight is the defined one, no pair lacks its row (rules 2.3 to 2.19)
   pub lists : NoneDue Due → TablesHold p (places_of p).candidates (places_of p).rows candidates weights rows f.candidates f.weights f.rows
   -- the lengths in these weights and rows, those of normals outside too, are whole parts of four times the root (rules 2.7, 2.8, 2.10 to 2.15)
@@ -57,9 +54,9 @@ pub record Finds {Place : Type 0} (Before : Place → Place → Type 0) (Due : P
 
 -- the places that the tables of a polygon need are told in the same way, before any is lent (rule 5.5)
 pub record TellsSizes (p : Polygon) : Type 0 where
-  pub known_when : NoneDue (SizesDue p) → sizes_of p ≡ sizes.Known (places_of p)
-  pub refused_first : (k : ℕ) → polygon-due.First (SizesDue p) k → sizes_of p ≡ sizes.Refused (refusal k)
-  pub given_first : (k : ℕ) → sizes_of p ≡ sizes.Refused (refusal k) → polygon-due.First (SizesDue p) k
+  pub known_when : NoneDue (SizesDue p) → sizes_of p ≡ Ok (places_of p)
+  pub refused_first : (k : ℕ) → polygon-due.First (SizesDue p) k → sizes_of p ≡ Err (refusal k)
+  pub given_first : (k : ℕ) → sizes_of p ≡ Err (refusal k) → polygon-due.First (SizesDue p) k
 
 -- ---- patches, of a call that takes a polygon through finding and tiling: by the numbers due on it, the polygon, the tables, and what it answered and left
 pub record Closes {Place : Type 0} (Before : Place → Place → Type 0) (Due : Place → ℕ → Type 0)
@@ -71,7 +68,7 @@ pub record Closes {Place : Type 0} (Before : Place → Place → Type 0) (Due : 
   pub refused_first : (k : ℕ) → order.First Before Due k → x ≡ refused k t
   pub given_first : (k : ℕ) → number_of x.outcome ≡ suc k → order.First Before Due (suc k)
   -- no total was agreed, so never 23 (rules 4.23, 5.1)
-  pub never_23 : x.outcome ≡ Refused (refusal 23) → ⊥
+  pub never_23 : x.outcome ≡ Err (refusal 23) → ⊥
   -- demand 2, of the lists in the first places of the tables (rules 2.3 to 2.19, 3.9)
   pub lists : NoneDue Due → ListsLeft p t x.left
   -- with lengths that are whole parts of four times the root (rules 2.7, 2.8, 2.10 to 2.15)
@@ -88,9 +85,9 @@ pub record Closes {Place : Type 0} (Before : Place → Place → Type 0) (Due : 
 
 -- the sizing call on a rim file: the one call gives its number, and 13 exactly where a table has fewer places than it says (rules 4.13, 5.5)
 pub record TellsFileSizes (limit : ℕ) (file : List ℕ) (t : Tables) : Type 0 where
-  pub sizes_refused : (k : ℕ) → sizes_file limit file ≡ sizes.Refused (refusal k) → patch_file limit file t ≡ refused k t
-  pub shorter_13 : {needed : Places} → sizes_file limit file ≡ sizes.Known needed → TooShort needed t → patch_file limit file t ≡ refused 13 t
-  pub enough_taken : {needed : Places} → sizes_file limit file ≡ sizes.Known needed → (TooShort needed t → ⊥) →
+  pub sizes_refused : (k : ℕ) → sizes_file limit file ≡ Err (refusal k) → patch_file limit file t ≡ refused k t
+  pub shorter_13 : {needed : Places} → sizes_file limit file ≡ Ok needed → TooShort needed t → patch_file limit file t ≡ refused 13 t
+  pub enough_taken : {needed : Places} → sizes_file limit file ≡ Ok needed → (TooShort needed t → ⊥) →
       Taken (patch_file limit file t).outcome
 
 -- ---- flat rims
@@ -105,11 +102,11 @@ pub record FlatRims : Type 0 where
       Flat (polygon_in limit file) → Cocircular (polygon_in limit file)
   -- a rim with all vertices on one line gets 'none', and every other triangle itself (rule 2.19)
   pub line_gets_none : (limit : ℕ) (file : List ℕ) → Bytes file → (t : Tables) → NoneDue (CallDue limit file t) →
-      OnOneLine (vertex (polygon_in limit file)) (polygon_in limit file).n → (patch_file limit file t).outcome ≡ None
+      OnOneLine (vertex (polygon_in limit file)) (polygon_in limit file).n → (patch_file limit file t).outcome ≡ Ok None
   pub triangle_gets_patch : (limit : ℕ) (file : List ℕ) → Bytes file → (t : Tables) → NoneDue (CallDue limit file t) →
       (polygon_in limit file).n ≡ 3 →
       collinear (vertex (polygon_in limit file) 0) (vertex (polygon_in limit file) 1) (vertex (polygon_in limit file) 2) ≡ false →
-      (patch_file limit file t).outcome ≡ Patch 1 (own_weight (polygon_in limit file) (triple 0 1 2))
+      (patch_file limit file t).outcome ≡ Ok (Some (patch_with 1 (own_weight (polygon_in limit file) (triple 0 1 2))))
 
 -- ---- lengths in quarters, of every normal of a triangle and of a surface outside
 pub record Lengths : Type 0 where

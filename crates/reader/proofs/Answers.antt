@@ -6,23 +6,22 @@ use Prim.Native.Nat.{ℕ, zero, suc, ◌+◌, ◌≤◌, ◌<◌}
 use native.Mathlib.Omega.{arith}
 use borrow.Author.Tests.{le-ltb, lt-ltb, le-leb, eqb-true, eqb-false, leb-true, leb-false}
 use lib.Dec.{ltb, leb, eqb}
+use Rattle.std.specs.Prelude.{Result, Ok, Err}
+use Rattle.codes.specs.declared.Refusal.{Refusal}
+use Rattle.codes.specs.Refusals.{refusal, number_of, or_refused}
+use Rattle.codes.proofs.Refusals.{number_answered, due_refused, none_answered, refused_answered}
 use Rattle.lists.proofs.Choice.{yes, no, both_right}
-use Rattle.grid.specs.declared.GridPoint.{GridPoint}
 use Rattle.terms.specs.Limits.{max_vertices, count_fits}
 use Rattle.polygon.specs.Polygon.{repeated_vertex}
 use Rattle.terms.specs.Numbers.{first_due}
 use Rattle.terms.proofs.Numbers.{due_neither}
-use Rattle.polygon.specs.declared.Polygon.{Polygon}
-use Rattle.polygon.specs.declared.normal.Normal.{Normal}
 use Rattle.rim_file.specs.File.{area_factor_of, bend_factor_of, record_count, length_wrong}
 use Rattle.reader.specs.Chain.{met_before, over_limit, link_code, record_code, position_code}
-use Rattle.reader.specs.Chain.{code_from, end_from, chain_code, vertex_count, vertices_of, normals_of}
+use Rattle.reader.specs.Chain.{code_from, end_from, chain_code, vertex_count, vertices_of}
 use Rattle.reader.specs.Chain as chain
-use Rattle.reader.specs.Steps.{walked, chain_of}
-use Rattle.reader.specs.Reading.{file_code, number_due, polygon_of, refused_reading, answer, reading_of, status_number}
+use Rattle.reader.specs.Steps.{chain_of}
+use Rattle.reader.specs.Reading.{Reading, file_code, number_due, polygon_of, reading_of}
 use Rattle.reader.specs.declared.Chain.{Chain}
-use Rattle.reader.specs.declared.Reading.{Reading}
-use Rattle.reader.specs.declared.Status.TheVariants.{Complete}
 
 -- ---- a chain in which no number is due has at most as many vertices as the limit
 -- the number of a record that is one too many is 5 or more
@@ -94,35 +93,19 @@ module _ (limit : ℕ) (small : limit ≤ max_vertices) (s : List ℕ) where
   pub count_within : chain_code limit s ≡ 0 → vertex_count s ≤ limit
   count_within e = end_within 0 (suc max_vertices) refl (omega arith) e
 
--- ---- the chain as it was followed
-walked_code : (k n : ℕ) (s : List ℕ) → (walked k n s).code ≡ k
-walked_code zero n s = refl
-walked_code (suc k) n s = refl
+-- ---- the chain as it was followed, on which no number is due
+module _ (limit : ℕ) (s : List ℕ) {r : Chain} (e : Ok r ≡ or_refused (chain_code limit s) (chain_of s)) where
+  pub followed_none : chain_code limit s ≡ 0
+  followed_none = (none_answered (chain_code limit s) e).0
 
-module _ (limit : ℕ) (s : List ℕ) {r : Chain} (e : r ≡ chain_of limit s) where
-  pub followed_code : r.code ≡ chain_code limit s
-  followed_code = ap (λ (x : Chain). x.code) e ∙ walked_code (chain_code limit s) (vertex_count s) s
+  pub followed : r ≡ chain_of s
+  followed = (none_answered (chain_code limit s) e).1
 
-  module _ (none : r.code ≡ 0) where
-    followed : r ≡ walked 0 (vertex_count s) s
-    followed = e ∙ ap (λ (k : ℕ). walked k (vertex_count s) s) (sym followed_code ∙ none)
+  pub followed_within : limit ≤ max_vertices → r.n ≤ max_vertices
+  followed_within small = omega (arith, ap (λ (x : Chain). x.n) followed, count_within limit small s followed_none)
 
-    pub followed_count : r.n ≡ vertex_count s
-    followed_count = ap (λ (x : Chain). x.n) followed
-
-    pub followed_vertices : r.vertices ≡ vertices_of s (vertex_count s)
-    followed_vertices = ap (λ (x : Chain). x.vertices) followed
-
-    pub followed_normals : r.normals ≡ normals_of s (vertex_count s)
-    followed_normals = ap (λ (x : Chain). x.normals) followed
-
-    pub followed_within : limit ≤ max_vertices → r.n ≤ max_vertices
-    followed_within small = omega (arith, followed_count, count_within limit small s (sym followed_code ∙ none))
-
-    pub repeated_as_found : {b : Bool} → b ≡ repeated_vertex r.vertices r.n → repeated_vertex (vertices_of s (vertex_count s)) (vertex_count s) ≡ b
-    repeated_as_found f =
-        sym (f ∙ ap (λ (l : List GridPoint). repeated_vertex l r.n) followed_vertices
-        ∙ ap (λ (m : ℕ). repeated_vertex (vertices_of s (vertex_count s)) m) followed_count)
+  pub repeated_as_found : {b : Bool} → b ≡ repeated_vertex r.vertices r.n → repeated_vertex (vertices_of s (vertex_count s)) (vertex_count s) ≡ b
+  repeated_as_found f = sym (f ∙ ap (λ (x : Chain). repeated_vertex x.vertices x.n) followed)
 
 -- ---- the answer
 -- a limit from 3 to 64
@@ -131,9 +114,8 @@ limit_most limit f = leb-true limit max_vertices (both_right (leb 3 limit) (leb 
 
 module _ (limit : ℕ) (s : List ℕ) where
   -- a number that is due is the answer
-  pub answer_refused : (k : ℕ) → 0 < k → number_due limit s ≡ k → refused_reading k ≡ reading_of limit s
-  answer_refused zero h e = absurd (omega arith)
-  answer_refused (suc k) h e = sym (ap (λ (j : ℕ). answer j (polygon_of s)) e)
+  pub answer_refused : (k : ℕ) → 0 < k → number_due limit s ≡ k → ◌≡◌ {A = Reading} (Err (refusal k)) (reading_of limit s)
+  answer_refused k h e = due_refused k (polygon_of s) h ∙ ap (λ (j : ℕ). or_refused j (polygon_of s)) (sym e)
 
   pub limit_due : count_fits limit ≡ false → number_due limit s ≡ 14
   unfolding number_due
@@ -161,9 +143,15 @@ module _ (limit : ℕ) (s : List ℕ) where
         unfolding file_code rest
         chain_then = file_then ∙ no 1 _ right ∙ no 2 _ (le-ltb 16 (area_factor_of s) area)
 
-        pub chain_due : (k : ℕ) → 0 < k → chain_code limit s ≡ k → number_due limit s ≡ k
+        chain_due : (k : ℕ) → 0 < k → chain_code limit s ≡ k → number_due limit s ≡ k
         chain_due zero h e = absurd (omega arith)
         chain_due (suc k) h e = chain_then ∙ ap (λ (j : ℕ). first_due j rest) e
+
+        pub chain_refused : {r : Refusal} → ◌≡◌ {A = Result Chain Refusal} (Err r) (or_refused (chain_code limit s) (chain_of s)) →
+            ◌≡◌ {A = Reading} (Err r) (reading_of limit s)
+        chain_refused e =
+            let p = refused_answered (chain_code limit s) (chain_of s) e in
+            rw p.1 (answer_refused (chain_code limit s) p.0 (chain_due (chain_code limit s) p.0 refl))
 
         module _ (none : chain_code limit s ≡ 0) where
           chain_passed : number_due limit s ≡ rest
@@ -183,23 +171,14 @@ module _ (limit : ℕ) (s : List ℕ) where
             none_due h = chain_passed ∙ no 10 _ (le-ltb (vertex_count s) 3 enough) ∙ no 11 _ h
 
 -- no number is due: the answer is the polygon
-pub answer_complete : (limit : ℕ) (s : List ℕ) {n area bend : ℕ} {vertices : List GridPoint} {normals : List Normal} → number_due limit s ≡ 0 →
-    n ≡ vertex_count s → area ≡ area_factor_of s → bend ≡ bend_factor_of s → vertices ≡ vertices_of s (vertex_count s) → normals
-    ≡ normals_of s (vertex_count s) →
+pub answer_complete : (limit : ℕ) (s : List ℕ) {area bend : ℕ} {r : Chain} → number_due limit s ≡ 0 → r ≡ chain_of s → area ≡ area_factor_of s →
+    bend ≡ bend_factor_of s →
     ◌≡◌ {A = Reading}
-    (record { status = Complete; polygon = record { n = n; area_factor = area; bend_factor = bend; vertices = vertices; normals = normals } })
-    (reading_of limit s)
-answer_complete limit s {n} {area} {bend} {vertices} {normals} e a b c d f = same ∙ sym (ap (λ (j : ℕ). answer j (polygon_of s)) e)
-  where
-    same : ◌≡◌ {A = Reading}
-        (record { status = Complete; polygon = record { n = n; area_factor = area; bend_factor = bend; vertices = vertices; normals = normals } })
-        (answer 0 (polygon_of s))
-    same = λ i. record { status = Complete; polygon = record { n = a i; area_factor = b i; bend_factor = c i; vertices = d i; normals = f i } }
-
-pub answer_number : (k : ℕ) (p : Polygon) → status_number (answer k p).status ≡ k
-answer_number zero p = refl
-answer_number (suc k) p = refl
+    (Ok (record { n = r.n; area_factor = area; bend_factor = bend; vertices = r.vertices; normals = r.normals })) (reading_of limit s)
+answer_complete limit s e c a b =
+    (λ i. Ok (record { n = (c i).n; area_factor = a i; bend_factor = b i; vertices = (c i).vertices; normals = (c i).normals }))
+    ∙ ap (λ (j : ℕ). or_refused j (polygon_of s)) (sym e)
 
 -- the whole promise from the answer
-pub promised : (limit : ℕ) (s : List ℕ) {r : Reading} → r ≡ reading_of limit s → (r ≡ reading_of limit s) × (status_number r.status ≡ number_due limit s)
-promised limit s e = (e, ap (λ (r : Reading). status_number r.status) e ∙ answer_number (number_due limit s) (polygon_of s))
+pub promised : (limit : ℕ) (s : List ℕ) {r : Reading} → r ≡ reading_of limit s → (r ≡ reading_of limit s) × (number_of r ≡ number_due limit s)
+promised limit s e = (e, ap number_of e ∙ number_answered (number_due limit s) (polygon_of s))

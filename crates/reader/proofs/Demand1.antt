@@ -5,30 +5,25 @@ use mathlib.Core.Bool.{false}
 use mathlib.Core.List.{List}
 use mathlib.Core.Logic.{◌⊎◌}
 use Prim.Native.Nat.{ℕ, zero, suc}
-use native.Mathlib.Omega.{arith}
+use Rattle.std.specs.Prelude.{Err, IsOk, is_ok}
+use Rattle.codes.specs.Refusals.{refusal, number_of, or_refused}
+use Rattle.codes.proofs.Refusals.{number_answered, ok_answered}
 use Rattle.polygon.specs.Polygon.{empty_polygon}
 use Rattle.rim_file.specs.File.{is_edition2}
 use Rattle.reader.specs.Order.{First, NoneDue}
 use Rattle.reader.specs.Due.{FileDue}
-use Rattle.reader.specs.declared.Reading.{Reading}
-use Rattle.reader.specs.Reading.{number_due, polygon_of, refused_reading, answer, reading_of, status_number}
-use Rattle.reader.specs.declared.Status.TheVariants.{Complete}
+use Rattle.reader.specs.Reading.{number_due, polygon_of, reading_of, polygon_in}
 use Rattle.reader.proofs.Normals.{no_18_in_edition_1}
-use Rattle.reader.proofs.Answers.{answer_number}
 use Rattle.reader.proofs.Order.{none_first, Verdict, first_due_lem, none_due, verdict_either, verdict_first, verdict_given, verdict_zero, verdict_none}
 use Rattle.reader.proofs.FirstNumber.{Read, number_first, no_number_read, read_none}
 
 module _ (limit : ℕ) (s : List ℕ) where
   -- the answer's number is that of the tests
-  pub number_is : status_number (reading_of limit s).status ≡ number_due limit s
-  number_is = answer_number (number_due limit s) (polygon_of s)
+  pub number_is : number_of (reading_of limit s) ≡ number_due limit s
+  number_is = number_answered (number_due limit s) (polygon_of s)
 
-  complete_zero : (k : ℕ) → (answer k (polygon_of s)).status ≡ Complete → k ≡ 0
-  complete_zero zero e = refl
-  complete_zero (suc k) e = absurd (let z : ◌≡◌ {A = ℕ} 0 1 = cc in omega arith)
-
-  pub complete_read : (reading_of limit s).status ≡ Complete → Read limit s
-  complete_read e = no_number_read limit s (complete_zero (number_due limit s) e)
+  pub complete_read : IsOk (reading_of limit s) → Read limit s
+  complete_read e = no_number_read limit s (ok_answered (number_due limit s) (polygon_of s) e)
 
   pub verdict : Verdict (FileDue limit s) (number_due limit s)
   verdict = by (number_due limit s) refl
@@ -42,27 +37,27 @@ module _ (limit : ℕ) (s : List ℕ) where
   first_or_none = verdict_either verdict
 
   -- the file is read exactly when no number is due
-  pub read_when : NoneDue (FileDue limit s) → (reading_of limit s).status ≡ Complete
-  read_when none = ap (λ (k : ℕ). (answer k (polygon_of s)).status) (verdict_zero verdict none)
+  pub read_when : NoneDue (FileDue limit s) → IsOk (reading_of limit s)
+  read_when none = ap (λ (k : ℕ). is_ok (or_refused k (polygon_of s))) (verdict_zero verdict none)
 
-  pub read_only_when : (reading_of limit s).status ≡ Complete → NoneDue (FileDue limit s)
+  pub read_only_when : IsOk (reading_of limit s) → NoneDue (FileDue limit s)
   read_only_when e = read_none limit s (complete_read e)
 
   -- the number that is given is exactly the first that is due; the polygon is then the empty one
-  pub given_first : (k : ℕ) → status_number (reading_of limit s).status ≡ suc k → First (FileDue limit s) (suc k)
+  pub given_first : (k : ℕ) → number_of (reading_of limit s) ≡ suc k → First (FileDue limit s) (suc k)
   given_first k e = verdict_given verdict (sym number_is ∙ e)
 
   -- 18 is given to no file of edition 1 (rule 4.18)
-  pub edition_1_not_18 : is_edition2 s ≡ false → status_number (reading_of limit s).status ≡ 18 → ⊥
+  pub edition_1_not_18 : is_edition2 s ≡ false → number_of (reading_of limit s) ≡ 18 → ⊥
   edition_1_not_18 e d = let f = given_first 17 d in no_18_in_edition_1 limit s e f.place f.is_due
 
-  pub first_given : (k : ℕ) → First (FileDue limit s) k → status_number (reading_of limit s).status ≡ k
+  pub first_given : (k : ℕ) → First (FileDue limit s) k → number_of (reading_of limit s) ≡ k
   first_given k f = number_is ∙ verdict_first verdict f
 
   -- as an answer without a polygon
-  pub first_refused : (k : ℕ) → First (FileDue limit s) k → reading_of limit s ≡ refused_reading k
+  pub first_refused : (k : ℕ) → First (FileDue limit s) k → reading_of limit s ≡ Err (refusal k)
   first_refused zero f = absurd (none_first (verdict_none verdict (verdict_first verdict f)) f)
-  first_refused (suc k) f = ap (λ (i : ℕ). answer i (polygon_of s)) (verdict_first verdict f)
+  first_refused (suc k) f = ap (λ (i : ℕ). or_refused i (polygon_of s)) (verdict_first verdict f)
 
-  pub refused_empty : (k : ℕ) → First (FileDue limit s) k → (reading_of limit s).polygon ≡ empty_polygon
-  refused_empty k f = ap (λ (r : Reading). r.polygon) (first_refused k f)
+  pub refused_empty : (k : ℕ) → First (FileDue limit s) k → polygon_in (reading_of limit s) ≡ empty_polygon
+  refused_empty k f = ap polygon_in (first_refused k f)

@@ -13,15 +13,16 @@ use Rattle.polygon.specs.Normal.{no_normal, normal_code}
 use Rattle.polygon.specs.Polygon.{origin, repeated_vertex}
 use Rattle.terms.specs.Numbers.{first_due}
 use Rattle.rim_file.specs.File.{offset, next_record, kind, third_number}
-use Rattle.rim_file.specs.Record.{known, height_of, record_at, vertex_of, number_of, point_of, normal_in}
+use Rattle.rim_file.specs.Record.{Height, known, height_of, record_at, vertex_of, number_of, point_of, normal_in}
 use Rattle.rim_file.specs.Editions.{SameRim}
-use Rattle.rim_file.specs.declared.Height.{Height}
-use Rattle.rim_file.specs.declared.Height.TheVariants.{Known}
+use Rattle.std.proofs.Common.{Some, Result}
+use Rattle.codes.specs.declared.Refusal.{Refusal}
 use Rattle.rim_file.specs.declared.Record.{Record}
 use Rattle.rim_file.proofs.Editions.{normal_agree, next_agree, kind_agree, float_agree, record_agree}
 use Rattle.reader.specs.Chain.{link, met_before, height_before, vertex_at_position, normal_at_position, over_limit}
 use Rattle.reader.specs.Chain.{link_code, position_code, code_from, end_from, vertex_count, vertices_of, normals_of}
-use Rattle.reader.specs.Reading.{file_code, number_due, polygon_of, answer, reading_of}
+use Rattle.codes.specs.Refusals.{or_refused}
+use Rattle.reader.specs.Reading.{file_code, number_due, polygon_of, reading_of}
 
 module _ {s t : List ℕ} (same : SameRim s t) where
   -- ---- position by position
@@ -44,11 +45,11 @@ module _ {s t : List ℕ} (same : SameRim s t) where
   height_agree : (i : ℕ) → height_before s i ≡ height_before t i
   unfolding height_before
   height_agree zero = refl
-  height_agree (suc i) = let m = kind_at i in let z = third_at i in let h = height_agree i in λ j. cond (eqb (m j) 1) (Known (round_eighths (z j))) (h j)
+  height_agree (suc i) = let m = kind_at i in let z = third_at i in let h = height_agree i in λ j. cond (eqb (m j) 1) (Some (round_eighths (z j))) (h j)
 
   vertex_agree : (i : ℕ) → vertex_at_position s i ≡ vertex_at_position t i
   vertex_agree i =
-      ap (λ (r : Record). vertex_of r (height_of (height_before s i))) (record_agree same (link s i) (known (height_before s i)))
+      ap (λ (r : Result Record Refusal). vertex_of r (height_of (height_before s i))) (record_agree same (link s i) (known (height_before s i)))
       ∙ ap (λ (k : ℕ). vertex_of (record_at t (offset t k) (known (height_before s i))) (height_of (height_before s i))) (link_agree i)
       ∙ ap (λ (h : Height). vertex_of (record_at t (offset t (link t i)) (known h)) (height_of h)) (height_agree i)
 
@@ -115,4 +116,4 @@ module _ {s t : List ℕ} (same : SameRim s t) where
 
   -- so the answer is
   pub reading_same : (limit : ℕ) → reading_of limit s ≡ reading_of limit t
-  reading_same limit = λ j. answer (number_same limit j) (polygon_same j)
+  reading_same limit = λ j. or_refused (number_same limit j) (polygon_same j)

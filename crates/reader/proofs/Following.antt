@@ -2,12 +2,16 @@
 use mathlib.Core.Path.{◌≡◌, refl, sym, ap, ◌∙◌}
 use mathlib.Core.Bool.{Bool, true, false, cond}
 use mathlib.Core.List.{List}
-use Prim.Native.Nat.{ℕ, zero, suc, ◌+◌, ◌-◌, ◌≤◌, ◌<◌}
+use Prim.Native.Nat.{ℕ, suc, ◌+◌, ◌-◌, ◌≤◌, ◌<◌}
 use native.Mathlib.Numerals.{add-one}
 use native.Mathlib.Omega.{arith}
 use borrow.Author.Tests.{eq-eqb, ne_eqb, leb-true, leb-false}
 use lib.ListN.{set, replicate}
 use lib.Dec.{leb, eqb}
+use Rattle.std.specs.Prelude.{Result, Ok, Err}
+use Rattle.codes.specs.declared.Refusal.{Refusal}
+use Rattle.codes.specs.Refusals.{or_refused}
+use Rattle.codes.proofs.Refusals.{due_refused}
 use Rattle.lists.specs.Lists.{up_from}
 use Rattle.lists.proofs.Choice.{yes, no}
 use Rattle.terms.specs.Limits.{max_vertices}
@@ -18,7 +22,8 @@ use Rattle.grid.specs.declared.GridPoint.{GridPoint}
 use Rattle.rim_file.specs.Record.{point_of}
 use Rattle.reader.specs.Chain.{link, vertex_at_position, normal_at_position, position_code, code_from}
 use Rattle.reader.specs.Chain.{end_from, chain_code, vertex_count, vertices_of, normals_of}
-use Rattle.reader.specs.Steps.{Walking, Stepped, stopped_at, walked, chain_of}
+use Rattle.reader.specs.Steps.{Walking, Stepped, Stopped, chain_of}
+use Rattle.reader.specs.declared.Chain.{Chain}
 use Rattle.reader.specs.declared.Progress.{Progress}
 use Rattle.reader.proofs.Tables.{table_next}
 use Rattle.reader.proofs.Answers.{code_step, end_step, past_limit}
@@ -32,14 +37,14 @@ pub record Following (limit : ℕ) (s : List ℕ) (vertices : List GridPoint) (n
   pub code_left : code_from limit s w.n (suc max_vertices - w.n) ≡ chain_code limit s
   pub end_left : end_from s w.n (suc max_vertices - w.n) ≡ vertex_count s
 
-pub following_start : {limit : ℕ} {s : List ℕ} {w : Progress} → limit ≤ max_vertices → Walking limit s w → w.n ≡ 0 →
-    Following limit s (replicate max_vertices origin) (replicate max_vertices no_normal) w
+pub following_start : {limit : ℕ} {s : List ℕ} {w : Progress} {q : Normal} → limit ≤ max_vertices → Walking limit s w → w.n ≡ 0 → q ≡ no_normal →
+    Following limit s (replicate max_vertices origin) (replicate max_vertices q) w
 unfolding up_from
-following_start {limit} {s} {w} h v e = record {
+following_start {limit} {s} {w} h v e d = record {
   small = h;
   walking = v;
   listed = sym (ap (λ (n : ℕ). vertices_of s n) e);
-  listed_normals = sym (ap (λ (n : ℕ). normals_of s n) e);
+  listed_normals = ap (λ (x : Normal). replicate max_vertices x) d ∙ sym (ap (λ (n : ℕ). normals_of s n) e);
   code_left = ap (λ (n : ℕ). code_from limit s n (suc max_vertices - n)) e;
   end_left = ap (λ (n : ℕ). end_from s n (suc max_vertices - n)) e;
 }
@@ -59,64 +64,58 @@ module _ {limit : ℕ} {s : List ℕ} {vertices : List GridPoint} {normals : Lis
       ap (λ (k : ℕ). end_from s w.n k) e ∙ end_step s w.n (max_vertices - w.n)
 
   -- the chain ends here
-  pub following_end : w.link ≡ 0 → record { code = 0; n = w.n; vertices = vertices; normals = normals } ≡ chain_of limit s
+  pub following_end : w.link ≡ 0 →
+      ◌≡◌ {A = Result Chain Refusal} (Ok (record { n = w.n; vertices = vertices; normals = normals })) (or_refused (chain_code limit s) (chain_of s))
   following_end z =
       let e : eqb (link s w.n) 0 ≡ true = eq-eqb (link s w.n) 0 (sym f.walking.here ∙ z) in
       let c : chain_code limit s ≡ 0 = sym f.code_left ∙ code_here ∙ yes 0 _ e in
       let v : vertex_count s ≡ w.n = sym f.end_left ∙ end_here ∙ yes w.n _ e in
-      (λ i. record { code = 0; n = w.n; vertices = f.listed i; normals = f.listed_normals i })
-      ∙ sym (ap (λ (k : ℕ). walked k (vertex_count s) s) c ∙ ap (λ (m : ℕ). walked 0 m s) v)
+      (λ i. Ok (record { n = w.n; vertices = f.listed i; normals = f.listed_normals i }))
+      ∙ (λ i. or_refused (sym c i) (record { n = sym v i; vertices = vertices_of s (sym v i); normals = normals_of s (sym v i) }))
 
-  module _ (nonzero : w.link ≡ 0 → ⊥) {r : Progress} (step : Stepped limit s w r) where
+  module _ (nonzero : w.link ≡ 0 → ⊥) where
     not_ended : eqb (link s w.n) 0 ≡ false
     not_ended = ne_eqb (link s w.n) 0 (λ e. nonzero (f.walking.here ∙ e))
 
     -- a number stops the walk
-    pub following_stopped : (r.code ≡ 0 → ⊥) → stopped_at r.code ≡ chain_of limit s
-    following_stopped some = by r.code refl
-      where
-        by : (k : ℕ) → r.code ≡ k → stopped_at r.code ≡ chain_of limit s
-        by zero e = absurd (some e)
-        by (suc k) e =
-            let d : eqb (position_code limit s w.n) 0 ≡ false = ne_eqb (position_code limit s w.n) 0 (λ z. some (step.number ∙ z)) in
-            let c : chain_code limit s ≡ suc k = sym f.code_left ∙ code_here ∙ no 0 _ not_ended ∙ no _ _ d ∙ sym step.number ∙ e in
-            ap stopped_at e ∙ sym (ap (λ (k : ℕ). walked k (vertex_count s) s) c)
+    pub following_stopped : {r : Refusal} → Stopped limit s w r → ◌≡◌ {A = Result Chain Refusal} (Err r) (or_refused (chain_code limit s) (chain_of s))
+    following_stopped {r} h =
+        let d : eqb (position_code limit s w.n) 0 ≡ false = ne_eqb (position_code limit s w.n) 0 (λ z. omega (arith, h.some, h.number)) in
+        let c : chain_code limit s ≡ r.number = sym f.code_left ∙ code_here ∙ no 0 _ not_ended ∙ no _ _ d ∙ sym h.number in
+        due_refused r.number (chain_of s) h.some ∙ ap (λ (k : ℕ). or_refused k (chain_of s)) (sym c)
 
     -- the walk goes on
-    module _ (none : r.code ≡ 0) where
-      here_none : position_code limit s w.n ≡ 0
-      here_none = sym step.number ∙ none
-
+    module _ {r : Progress} (step : Stepped limit s w r) where
       pub room : w.n < max_vertices
       room = by (leb limit w.n) refl
         where
           by : (b : Bool) → leb limit w.n ≡ b → w.n < max_vertices
-          by true e = absurd (past_limit limit s w.n (leb-true limit w.n e) here_none)
+          by true e = absurd (past_limit limit s w.n (leb-true limit w.n e) step.none)
           by false e = omega (arith, leb-false limit w.n e, f.small)
 
       listed_next : set vertices w.n r.vertex ≡ vertices_of s (w.n + 1)
       listed_next =
           ap (λ (l : List GridPoint). set l w.n r.vertex) f.listed
-          ∙ table_next (λ i. point_of (vertex_at_position s i)) origin w.n r.vertex room (ap point_of (sym (step.vertex_is none)))
+          ∙ table_next (λ i. point_of (vertex_at_position s i)) origin w.n r.vertex room (ap point_of (sym step.vertex_is))
 
       normals_next : set normals w.n r.normal ≡ normals_of s (w.n + 1)
       normals_next =
           ap (λ (l : List Normal). set l w.n r.normal) f.listed_normals
-          ∙ table_next (λ i. normal_at_position s i) no_normal w.n r.normal room (step.normal_is none)
+          ∙ table_next (λ i. normal_at_position s i) no_normal w.n r.normal room step.normal_is
 
       pub following_next : Following limit s (set vertices w.n r.vertex) (set normals w.n r.normal) r
       following_next =
-          let n = step.next none in
+          let n = step.next in
           let left : suc max_vertices - r.n ≡ max_vertices - w.n = omega arith in
           let at : r.n ≡ suc w.n = n ∙ add-one w.n in
           record {
             small = f.small;
-            walking = step.walking none;
+            walking = step.walking;
             listed = listed_next ∙ ap (λ (m : ℕ). vertices_of s m) (sym n);
             listed_normals = normals_next ∙ ap (λ (m : ℕ). normals_of s m) (sym n);
             code_left =
                 ap (λ (i : ℕ). code_from limit s i (suc max_vertices - r.n)) at ∙ ap (λ (k : ℕ). code_from limit s (suc w.n) k) left
-                ∙ sym (code_here ∙ no 0 _ not_ended ∙ yes _ _ (eq-eqb (position_code limit s w.n) 0 here_none))
+                ∙ sym (code_here ∙ no 0 _ not_ended ∙ yes _ _ (eq-eqb (position_code limit s w.n) 0 step.none))
                 ∙ f.code_left;
             end_left =
                 ap (λ (i : ℕ). end_from s i (suc max_vertices - r.n)) at ∙ ap (λ (k : ℕ). end_from s (suc w.n) k) left

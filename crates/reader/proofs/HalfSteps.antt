@@ -17,10 +17,10 @@ use Rattle.grid.proofs.Unique.{one_number}
 use Rattle.polygon.specs.Polygon as polygon
 use Rattle.rim_file.specs.File.{first_number, second_number, third_number}
 use Rattle.reader.specs.Due.{kind_at, floats_at, OnGridAt, HasVertex, a_point, a_level_point}
-use Rattle.reader.specs.Reading.{reading_of}
+use Rattle.std.specs.Prelude.{IsOk}
+use Rattle.reader.specs.Reading.{reading_of, polygon_in}
 use Rattle.reader.specs.Due.{record_start}
 use Rattle.reader.specs.Rounded.{RoundsTo, Rounded}
-use Rattle.reader.specs.declared.Status.TheVariants.{Complete}
 use Rattle.reader.proofs.RecordNumbers.{point_floats, level_floats}
 use Rattle.reader.proofs.Accepted.{read_vertices}
 
@@ -60,9 +60,9 @@ module _ (s : List ℕ) where
   }
 
   -- rules 1.6 to 1.10, of every vertex of every file that is read
-  pub vertices_rounded : (limit : ℕ) → (reading_of limit s).status ≡ Complete → (i : ℕ) → i < (reading_of limit s).polygon.n →
-      Rounded s i (polygon.vertex_at (reading_of limit s).polygon.vertices i)
-  vertices_rounded limit e i h = rounded i (polygon.vertex_at (reading_of limit s).polygon.vertices i) (read_vertices limit s e i h)
+  pub vertices_rounded : (limit : ℕ) → IsOk (reading_of limit s) → (i : ℕ) → i < (polygon_in (reading_of limit s)).n →
+      Rounded s i (polygon.vertex_at (polygon_in (reading_of limit s)).vertices i)
+  vertices_rounded limit e i h = rounded i (polygon.vertex_at (polygon_in (reading_of limit s)).vertices i) (read_vertices limit s e i h)
 
   -- ---- nothing is left free
   rounds_once : {v : Float} {g h : ℤ} → RoundsTo v g → RoundsTo v h → g ≡ h
@@ -79,6 +79,6 @@ module _ (s : List ℕ) where
       λ i. point (rounds_once a.x b.x i) (rounds_once a.y b.y i) (z i)
 
   -- rules 1.6 to 1.10 allow one vertex at each position, the one that is read
-  pub vertices_fixed : (limit : ℕ) → (reading_of limit s).status ≡ Complete → (i : ℕ) → i < (reading_of limit s).polygon.n → (p : GridPoint) → Rounded s i p →
-      p ≡ polygon.vertex_at (reading_of limit s).polygon.vertices i
+  pub vertices_fixed : (limit : ℕ) → IsOk (reading_of limit s) → (i : ℕ) → i < (polygon_in (reading_of limit s)).n → (p : GridPoint) → Rounded s i p →
+      p ≡ polygon.vertex_at (polygon_in (reading_of limit s)).vertices i
   vertices_fixed limit e i h p a = rounded_once a (vertices_rounded limit e i h)

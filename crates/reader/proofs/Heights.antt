@@ -9,13 +9,13 @@ use borrow.Author.Tests.{eqb-true, eqb-false, eq-eqb, ne_eqb}
 use lib.Dec.{eqb}
 use Rattle.lists.proofs.Choice.{yes, no, true_not_false, below_or_same}
 use Rattle.rim_file.specs.Record.{known}
-use Rattle.rim_file.specs.declared.Height.TheVariants.{Known}
+use Rattle.std.proofs.Common.{Some}
 use Rattle.reader.specs.Chain.{height_before}
 use Rattle.reader.specs.Due.{kind_at, height_at, LastPoint}
 
 module _ (s : List ℕ) where
   -- one position back
-  height_here : (i : ℕ) → kind_at s i ≡ 1 → height_before s (suc i) ≡ Known (height_at s i)
+  height_here : (i : ℕ) → kind_at s i ≡ 1 → height_before s (suc i) ≡ Some (height_at s i)
   unfolding height_before
   height_here i k = yes _ _ (eq-eqb (kind_at s i) 1 k)
 
@@ -24,7 +24,7 @@ module _ (s : List ℕ) where
   height_past i k = no _ _ (ne_eqb (kind_at s i) 1 k)
 
   -- the height is that of the last point before
-  pub height_of_last : (i j : ℕ) → LastPoint s j i → height_before s i ≡ Known (height_at s j)
+  pub height_of_last : (i j : ℕ) → LastPoint s j i → height_before s i ≡ Some (height_at s j)
   height_of_last zero j l = absurd (omega (arith, l.before))
   height_of_last (suc i) j l =
       ⊎_elim

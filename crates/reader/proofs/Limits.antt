@@ -15,8 +15,9 @@ use Rattle.reader.specs.Order.{FilePlace, link_to, request_link, header_link, li
 use Rattle.reader.specs.Due.{HasRecords, ChainAtMost, FileDue, limit_wrong, wrong_length, area_factor}
 use Rattle.reader.specs.Due.{link_over, met_again, too_many, above_limit, kind_unknown, no_height, not_finite}
 use Rattle.reader.specs.Due.{tail_not_zero, out_of_range, normal_out_of_range, too_few, vertex_repeated}
-use Rattle.reader.specs.Reading.{number_due, polygon_of, answer, reading_of, status_number}
-use Rattle.reader.specs.declared.Status.TheVariants.{Complete}
+use Rattle.std.specs.Prelude.{IsOk}
+use Rattle.codes.specs.Refusals.{number_of, or_refused}
+use Rattle.reader.specs.Reading.{number_due, polygon_of, reading_of, polygon_in}
 use Rattle.reader.proofs.Order.{verdict_first, verdict_zero}
 use Rattle.reader.proofs.Positions.{shorter}
 use Rattle.reader.proofs.FirstNumber.{read_end}
@@ -71,10 +72,10 @@ module _ {small large : ℕ} (least : min_vertices ≤ small) (below : small ≤
         by (inr n) = verdict_zero (verdict small s) n ∙ sym (verdict_zero (verdict large s) (record { none = λ p k d. n.none p k (back d) }))
 
     pub reading_alike : reading_of small s ≡ reading_of large s
-    reading_alike = ap (λ (k : ℕ). answer k (polygon_of s)) number_alike
+    reading_alike = ap (λ (k : ℕ). or_refused k (polygon_of s)) number_alike
 
   -- ---- 20 where a rim that the larger limit takes has more vertices
-  module _ (complete : (reading_of large s).status ≡ Complete) (more : small < (reading_of large s).polygon.n) where
+  module _ (complete : IsOk (reading_of large s)) (more : small < (polygon_in (reading_of large s)).n) where
     smaller : small < max_vertices
     smaller = omega (arith, within_limit large s complete)
 
@@ -104,7 +105,7 @@ module _ {small large : ℕ} (least : min_vertices ≤ small) (below : small ≤
     number_over = verdict_first (verdict small s) first_20
 
 -- a rim that is read has no more records than vertices
-pub read_at_most : (limit : ℕ) (s : List ℕ) → (reading_of limit s).status ≡ Complete → {m : ℕ} → (reading_of limit s).polygon.n ≤ m → ChainAtMost s m
+pub read_at_most : (limit : ℕ) (s : List ℕ) → IsOk (reading_of limit s) → {m : ℕ} → (polygon_in (reading_of limit s)).n ≤ m → ChainAtMost s m
 read_at_most limit s complete {m} h has =
     let end = read_end limit s (complete_read limit s complete) in
     let l : vertex_count s ≤ m = subst (λ p. p.n ≤ m) (complete_polygon limit s complete) h in
@@ -119,9 +120,9 @@ module _ (limit : ℕ) (s : List ℕ) where
   due_20 (above_limit has m) = (has, m)
 
   -- 5 is given with the largest limit alone, to a chain that has a record more
-  pub gives_5 : status_number (reading_of limit s).status ≡ 5 → HasRecords s (suc limit) × (limit ≡ max_vertices)
+  pub gives_5 : number_of (reading_of limit s) ≡ 5 → HasRecords s (suc limit) × (limit ≡ max_vertices)
   gives_5 e = due_5 (given_first limit s 4 e).is_due
 
   -- 20 is given with every smaller limit, to a chain that has a record more
-  pub gives_20 : status_number (reading_of limit s).status ≡ 20 → HasRecords s (suc limit) × (limit < max_vertices)
+  pub gives_20 : number_of (reading_of limit s) ≡ 20 → HasRecords s (suc limit) × (limit < max_vertices)
   gives_20 e = due_20 (given_first limit s 19 e).is_due

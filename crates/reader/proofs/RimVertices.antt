@@ -18,7 +18,8 @@ use Rattle.polygon.specs.Polygon as polygon
 use Rattle.polygon.proofs.Points.{point_equal}
 use Rattle.polygon.proofs.Validity.{repeated_none}
 use Rattle.rim_file.specs.File.{offset, first_number, second_number, third_number}
-use Rattle.rim_file.specs.Record.{known, height_of, numbers_code, vertex_unless, number_of, point_of}
+use Rattle.codes.specs.Refusals.{or_refused}
+use Rattle.rim_file.specs.Record.{known, height_of, numbers_code, number_of, point_of}
 use Rattle.rim_file.proofs.Vertices.{shape, shape_is, numbers_fine, tests}
 use Rattle.rim_file.proofs.Floats.{all_of_at, all_of_each, fine_code}
 use Rattle.reader.specs.Chain.{height_before, vertex_at_position, vertices_of}
@@ -47,13 +48,13 @@ module _ (s : List ℕ) where
   vertex_is _ _ (a_point i k g) =
       let one : eqb (kind_at s i) 1 ≡ true = eq-eqb (kind_at s i) 1 k in
       ap point_of (vertex_shape i true (eqb (kind_at s i) 2) (known (height_before s i)) (tail_zero_at s i) one refl refl refl)
-      ∙ ap (λ (c : ℕ). point_of (vertex_unless c (point (x_at s i) (y_at s i) (height_at s i)))) (grid_code i (point_floats s i) (yes _ _ one) g)
+      ∙ ap (λ (c : ℕ). point_of (or_refused c (point (x_at s i) (y_at s i) (height_at s i)))) (grid_code i (point_floats s i) (yes _ _ one) g)
   vertex_is _ _ (a_level_point i j k t g l h) =
       let one : eqb (kind_at s i) 1 ≡ false = ne_eqb (kind_at s i) 1 (λ e. omega arith) in
       let two : eqb (kind_at s i) 2 ≡ true = eq-eqb (kind_at s i) 2 k in
       let height = height_of_last s i j l in
       ap point_of (vertex_shape i false true true true one two (ap known height) t)
-      ∙ ap (λ (c : ℕ). point_of (vertex_unless c (point (x_at s i) (y_at s i) (height_of (height_before s i)))))
+      ∙ ap (λ (c : ℕ). point_of (or_refused c (point (x_at s i) (y_at s i) (height_of (height_before s i)))))
       (grid_code i (level_floats s i) (no _ _ one ∙ yes _ _ two) g)
       ∙ ap (λ z. point (x_at s i) (y_at s i) (height_of z)) height
 

@@ -9,10 +9,8 @@ use Rattle.terms.specs.Numbers.{first_due}
 use Rattle.polygon.specs.declared.normal.Normal.{Normal}
 use Rattle.grid.specs.declared.GridPoint.{GridPoint}
 use Rattle.rim_file.specs.File.{first_record, record_count, offset, next_record, kind, third_number}
-use Rattle.rim_file.specs.Record.{known, height_of, record_at, vertex_of, number_of, point_of, normal_in}
-use Rattle.rim_file.specs.declared.Height.{Height}
-use Rattle.rim_file.specs.declared.Height.TheVariants.{Unknown, Known}
-use Rattle.rim_file.specs.declared.Vertex.{Vertex}
+use Rattle.rim_file.specs.Record.{Height, Vertex, known, height_of, record_at, vertex_of, number_of, point_of, normal_in}
+use Rattle.std.specs.Prelude.{None, Some}
 
 -- the link that leads to position i (rule 1.5): the header's first record, or the next record of the one before
 unfoldable pub link : List ℕ → ℕ → ℕ
@@ -26,9 +24,9 @@ met_before s (suc i) k = either (eqb (link s i) k) (met_before s i k)
 
 -- the grid height of the last point before position i (rule 1.7)
 unfoldable pub height_before : List ℕ → ℕ → Height
-height_before s zero = Unknown
+height_before s zero = None
 height_before s (suc i) =
-    cond (eqb (kind s (offset s (link s i))) 1) (Known (round_eighths (third_number s (offset s (link s i))))) (height_before s i)
+    cond (eqb (kind s (offset s (link s i))) 1) (Some (round_eighths (third_number s (offset s (link s i))))) (height_before s i)
 
 -- the vertex at position i, or the first number due on its record (rule 1.8)
 abbrev pub vertex_at_position : List ℕ → ℕ → Vertex

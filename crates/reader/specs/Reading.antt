@@ -1,15 +1,13 @@
 -- The reader's answer: the polygon, or the first number due of 1 to 11, 14, 18 and 20. Definitions only.
-use Rattle.std.specs.Prelude.{ℕ, zero, suc, cond, List, ltb}
-use Rattle.codes.specs.Refusals.{refusal}
+use Rattle.std.specs.Prelude.{ℕ, cond, List, Result, Ok, Err, ltb}
+use Rattle.codes.specs.Refusals.{or_refused}
+use Rattle.codes.specs.declared.Refusal.{Refusal}
 use Rattle.terms.specs.Limits.{min_vertices, max_area_factor, count_fits}
 use Rattle.polygon.specs.Polygon.{empty_polygon, repeated_vertex}
 use Rattle.terms.specs.Numbers.{first_due}
 use Rattle.polygon.specs.declared.Polygon.{Polygon}
 use Rattle.rim_file.specs.File.{area_factor_of, bend_factor_of, length_wrong}
 use Rattle.reader.specs.Chain.{chain_code, vertex_count, vertices_of, normals_of}
-use Rattle.reader.specs.declared.Status.{Status}
-use Rattle.reader.specs.declared.Status.TheVariants.{Complete, Refused}
-use Rattle.reader.specs.declared.Reading.{Reading}
 
 -- the first number due on a file, 0 where none is (rule 4.31): of 1 to 11, 18 and 20
 unfoldable pub file_code : ℕ → List ℕ → ℕ
@@ -35,19 +33,15 @@ polygon_of s = record {
   normals = normals_of s (vertex_count s);
 }
 
--- the number of each case of the answer (rule 5.2)
-abbrev pub status_number : Status → ℕ
-status_number Complete = 0
-status_number (Refused r) = r.number
+-- what the reader answers (rules 4.30, 5.1): a polygon, or a refusal
+abbrev pub Reading : Type 0
+Reading = Result Polygon Refusal
 
--- the answer that gives a number (rule 4.30): with no polygon
-abbrev pub refused_reading : ℕ → Reading
-refused_reading k = record { status = Refused (refusal k); polygon = empty_polygon }
-
--- the answer with a number that is due, and with none (rule 5.1)
-abbrev pub answer : ℕ → Polygon → Reading
-answer zero p = record { status = Complete; polygon = p }
-answer (suc k) p = refused_reading (suc k)
-
+-- the polygon where no number is due, else the refusal with the first number due (rule 4.31)
 abbrev pub reading_of : ℕ → List ℕ → Reading
-reading_of limit s = answer (number_due limit s) (polygon_of s)
+reading_of limit s = or_refused (number_due limit s) (polygon_of s)
+
+-- the polygon of an answer (rule 4.30): with a refusal the empty one
+abbrev pub polygon_in : Reading → Polygon
+polygon_in (Ok p) = p
+polygon_in (Err r) = empty_polygon

@@ -1,14 +1,12 @@
 -- What the reader's private functions return, in terms of the definitions beside this file. What functions say to each other; nobody has to believe it.
-use Rattle.std.specs.Prelude.{◌≡◌, ℕ, zero, suc, ◌+◌, ◌≤◌, ◌<◌, false, List, length, get_or, replicate}
+use Rattle.std.specs.Prelude.{◌≡◌, ℕ, ◌+◌, ◌≤◌, ◌<◌, false, List, length, get_or}
+use Rattle.codes.specs.declared.Refusal.{Refusal}
 use Rattle.grid.specs.Point.{OnGrid}
-use Rattle.terms.specs.Limits.{max_vertices}
-use Rattle.polygon.specs.Normal.{no_normal}
-use Rattle.polygon.specs.Polygon.{origin}
 use Rattle.rim_file.specs.File.{record_numbers}
 use Rattle.rim_file.specs.Record.{height_of}
-use Rattle.rim_file.specs.declared.Vertex.TheVariants.{At}
+use Rattle.std.specs.Prelude.{Ok}
 use Rattle.reader.specs.Chain.{link, met_before, height_before, vertex_at_position, normal_at_position}
-use Rattle.reader.specs.Chain.{position_code, chain_code, vertex_count, vertices_of, normals_of}
+use Rattle.reader.specs.Chain.{position_code, vertex_count, vertices_of, normals_of}
 use Rattle.reader.specs.declared.Chain.{Chain}
 use Rattle.reader.specs.declared.Progress.{Progress}
 
@@ -21,21 +19,19 @@ pub record Walking (limit : ℕ) (s : List ℕ) (w : Progress) : Type 0 where
   pub on_grid : OnGrid (height_of w.height)
   pub within : w.n ≤ limit
 
--- the walk after one position: stopped by the number due there, or past its vertex and its normal
+-- the walk after one position, on which no number is due: past its vertex and its normal
 pub record Stepped (limit : ℕ) (s : List ℕ) (w r : Progress) : Type 0 where
-  pub number : r.code ≡ position_code limit s w.n
-  pub walking : r.code ≡ 0 → Walking limit s r
-  pub next : r.code ≡ 0 → r.n ≡ w.n + 1
-  pub vertex_is : r.code ≡ 0 → vertex_at_position s w.n ≡ At r.vertex
-  pub normal_is : r.code ≡ 0 → r.normal ≡ normal_at_position s w.n
+  pub none : position_code limit s w.n ≡ 0
+  pub walking : Walking limit s r
+  pub next : r.n ≡ w.n + 1
+  pub vertex_is : vertex_at_position s w.n ≡ Ok r.vertex
+  pub normal_is : r.normal ≡ normal_at_position s w.n
 
--- what the loop over the steps returns
-abbrev pub stopped_at : ℕ → Chain
-stopped_at k = record { code = k; n = 0; vertices = replicate max_vertices origin; normals = replicate max_vertices no_normal }
+-- the walk is stopped by the number due at a position
+pub record Stopped (limit : ℕ) (s : List ℕ) (w : Progress) (r : Refusal) : Type 0 where
+  pub some : 0 < r.number
+  pub number : r.number ≡ position_code limit s w.n
 
-abbrev pub walked : ℕ → ℕ → List ℕ → Chain
-walked zero n s = record { code = 0; n = n; vertices = vertices_of s n; normals = normals_of s n }
-walked (suc k) n s = stopped_at (suc k)
-
-abbrev pub chain_of : ℕ → List ℕ → Chain
-chain_of limit s = walked (chain_code limit s) (vertex_count s) s
+-- what the loop over the steps returns where no number is due
+abbrev pub chain_of : List ℕ → Chain
+chain_of s = record { n = vertex_count s; vertices = vertices_of s (vertex_count s); normals = normals_of s (vertex_count s) }

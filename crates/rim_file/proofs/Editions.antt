@@ -13,7 +13,9 @@ use Rattle.polygon.specs.Normal.{normal, no_normal}
 use Rattle.rim_file.specs.File.{u16_at, u32_at, signed16, i16_at, is_edition2, record_size1, record_size_of, record_count, offset, next_record, kind}
 use Rattle.rim_file.specs.Record.{record_at, normal_in}
 use Rattle.rim_file.specs.Editions.{SameRim}
-use Rattle.rim_file.specs.declared.Record.TheVariants.{Point, Level, Refused}
+use Rattle.rim_file.specs.declared.Record.TheVariants.{Point, Level}
+use Rattle.std.proofs.Common.{Ok, Err}
+use Rattle.codes.specs.Refusals.{refusal}
 use Rattle.rim_file.proofs.Lengths.{Whole, whole}
 use Rattle.rim_file.proofs.Normals.{normal_1, normal_2}
 
@@ -101,9 +103,9 @@ module _ {s t : List ℕ} (same : SameRim s t) where
       let u = u32_agree k 12 (omega arith) in
       λ i.
       cond (eqb (m i) 1)
-      (Point (record { x = x i; y = y i; z = z i }))
+      (Ok (Point (record { x = x i; y = y i; z = z i })))
       (cond (eqb (m i) 2)
       (cond kn
-      (cond (eqb (u i) 0) (Level (x i) (y i)) (Refused 8))
-      (Refused 7))
-      (Refused 6))
+      (cond (eqb (u i) 0) (Ok (Level (x i) (y i))) (Err (refusal 8)))
+      (Err (refusal 7)))
+      (Err (refusal 6)))

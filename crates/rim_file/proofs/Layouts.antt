@@ -1,10 +1,10 @@
 -- Where the numbers of a file stand, in each edition. Assumes nothing.
 use mathlib.Core.Path.{◌≡◌, refl, sym, ap, ◌∙◌}
-use mathlib.Core.Bool.{Bool, true, false, not}
+use mathlib.Core.Bool.{Bool, true, false, not, cond}
 use mathlib.Core.List.{List}
 use Prim.Native.Nat.{ℕ, zero, suc, ◌+◌, ◌-◌, ◌*◌, ◌≤◌, ◌<◌}
 use native.Mathlib.Omega.{arith}
-use native.Mathlib.Nat.{mul-le-mul_right, mul-le-mul_left}
+use native.Mathlib.Nat.{mul-le-mul_left}
 use borrow.Author.Tests.{eq-eqb, ne_eqb}
 use lib.Dec.{ltb, eqb}
 use lib.ListN.{length}
@@ -13,7 +13,10 @@ use Rattle.lists.proofs.Choice.{yes, no, not_true_false, not_false_true}
 use Rattle.rim_file.specs.File.{u16_at, is_edition2, marker, marker_size, header_size, record_size1, record_size2, layout1}
 use Rattle.rim_file.specs.File.{layout2, layout_of, header_start, record_size_of, record_count, max_records, length_wrong, offset}
 use Rattle.rim_file.specs.Layouts.{Edition1, Edition2}
+use Rattle.rim_file.specs.File.{edition_of, layout_in}
 use Rattle.rim_file.specs.declared.Layout.{Layout}
+use Rattle.rim_file.specs.declared.edition.Edition.{Edition}
+use Rattle.rim_file.specs.declared.edition.Edition.TheVariants.{One, Two}
 use Rattle.rim_file.proofs.Normals.{normal_1, normal_2}
 
 module _ (s : List ℕ) where
@@ -62,10 +65,38 @@ module _ (s : List ℕ) where
   record_end zero h = absurd (omega arith)
   record_end (suc k) h = let e : suc k - 1 ≡ k = omega arith in rw e (omega arith)
 
+  -- where one record more would start, a file that has all R ends
+  pub last_end : {r : ℕ} → r ≡ record_count s → offset s (r + 1) ≡ header_start s + header_size + record_size_of s * record_count s
+  last_end {r} c =
+      ap (λ (k : ℕ). header_start s + header_size + record_size_of s * k) (one_less r)
+      ∙ ap (λ (k : ℕ). header_start s + header_size + record_size_of s * k) c
+    where
+      one_less : (r : ℕ) → r + 1 - 1 ≡ r
+      one_less r = omega arith
+
   -- record k of R ends within a file that has all R
   pub record_within : (k : ℕ) → 0 < k → k ≤ record_count s → length s ≡ header_start s + header_size + record_size_of s * record_count s →
       offset s k + record_size_of s ≤ length s
   record_within k h l e = omega (arith, record_end k h, mul-le-mul_left (record_size_of s) l)
+
+-- ---- the edition by its name
+in_edition : (b : Bool) → layout_in (cond b Two One) ≡ cond b layout2 layout1
+in_edition true = refl
+in_edition false = refl
+
+two_differ : One ≡ Two → ⊥
+two_differ e = let z : ◌≡◌ {A = ℕ} 0 1 = cc in omega arith
+
+module _ (s : List ℕ) {e : Edition} (h : e ≡ edition_of s) where
+  pub layout_is : layout_in e ≡ layout_of s
+  unfolding layout_of
+  layout_is = ap layout_in h ∙ in_edition (is_edition2 s)
+
+  pub is_one : e ≡ One → is_edition2 s ≡ false
+  is_one o = not_true_false (is_edition2 s) (λ t. two_differ (sym o ∙ h ∙ ap (λ (b : Bool). cond b Two One) t))
+
+  pub is_two : e ≡ Two → is_edition2 s ≡ true
+  is_two o = not_false_true (is_edition2 s) (λ f. two_differ (sym (sym o ∙ h ∙ ap (λ (b : Bool). cond b Two One) f)))
 
 -- ---- the layout as it is handed on
 module _ (s : List ℕ) {l : Layout} (e : l ≡ layout_of s) where
@@ -79,24 +110,8 @@ module _ (s : List ℕ) {l : Layout} (e : l ≡ layout_of s) where
   pub number_as : (j : ℕ) → u16_at s (l.header + j) ≡ u16_at s (header_start s + j)
   number_as j = ap (λ (h : ℕ). u16_at s (h + j)) header_as
 
-  -- so many records take at most so many bytes
-  pub records_size : (k : ℕ) → l.record_size * k ≤ record_size2 * k
-  records_size k = mul-le-mul_right k (omega (arith, size_as, (bounds s).most))
-
   pub start_as : (k : ℕ) → l.header + header_size + l.record_size * (k - 1) ≡ offset s k
   start_as k = ap (λ (m : Layout). m.header + header_size + m.record_size * (k - 1)) e
-
-  pub length_as : {r : ℕ} → r ≡ record_count s → l.header + header_size + l.record_size * r ≡ header_start s + header_size + record_size_of s * record_count s
-  length_as {r} c =
-      ap (λ (m : Layout). m.header + header_size + m.record_size * r) e
-      ∙ ap (λ (k : ℕ). header_start s + header_size + record_size_of s * k) c
-
-  -- its record size tells the edition
-  pub size_edition1 : l.record_size ≡ record_size1 → is_edition2 s ≡ false
-  size_edition1 d = not_true_false (is_edition2 s) (λ t. omega (arith, d, size_as, size_2 s t))
-
-  pub size_edition2 : (l.record_size ≡ record_size1 → ⊥) → is_edition2 s ≡ true
-  size_edition2 d = not_false_true (is_edition2 s) (λ f. d (size_as ∙ size_1 s f))
 
   -- the test of the length
   wrong_as : length_wrong s ≡

@@ -2,16 +2,15 @@
 use mathlib.Core.Path.{◌≡◌}
 use mathlib.Core.Bool.{true, false, not}
 use mathlib.Core.List.{List}
-use Prim.Native.Nat.{ℕ, ◌+◌, ◌-◌, ◌*◌, ◌≤◌, ◌<◌}
+use Prim.Native.Nat.{ℕ, ◌+◌, ◌*◌, ◌≤◌, ◌<◌}
 use native.Mathlib.Omega.{arith}
 use borrow.Author.Tests.{ltb-false, lt-ltb, le-ltb, eqb-true, not-false}
 use lib.ListN.{length}
 use lib.Dec.{ltb, eqb}
 use Rattle.lists.specs.Lists.{either}
 use Rattle.lists.proofs.Choice.{true_not_false, either_left, either_right, either_neither, not_true_false}
-use Rattle.rim_file.specs.declared.Layout.{Layout}
-use Rattle.rim_file.proofs.Layouts.{start_as, record_within}
-use Rattle.rim_file.specs.File.{header_size, layout_of, header_start, record_size_of, record_count, max_records, length_wrong}
+use Rattle.rim_file.proofs.Layouts.{bounds, record_within}
+use Rattle.rim_file.specs.File.{header_size, record_size1, offset, header_start, record_size_of, record_count, max_records, length_wrong}
 
 -- the file has its header and all its records
 pub record Whole (s : List ℕ) : Type 0 where
@@ -52,6 +51,11 @@ module _ (s : List ℕ) where
     by_records h = rw (le-ltb (length s) (header_start s + header_size) long, le-ltb max_records (record_count s) h)
 
 -- the record where a link leads is in the file, to its last byte
-pub record_held : (s : List ℕ) {l : Layout} → l ≡ layout_of s → Whole s → (k : ℕ) → 0 < k → k ≤ record_count s →
-    l.header + header_size + l.record_size * (k - 1) + record_size_of s ≤ length s
-record_held s e w k h m = omega (arith, start_as s e k, record_within s k h m w.records)
+pub record Held (s : List ℕ) (at : ℕ) : Type 0 where
+  pub whole : at + record_size_of s ≤ length s
+  pub start : at + record_size1 ≤ length s
+
+pub held : (s : List ℕ) → length_wrong s ≡ false → {k n at : ℕ} → (k ≡ 0 → ⊥) → n ≡ record_count s → k ≤ n → at ≡ offset s k → Held s at
+held s e {k} {n} {at} z c l a =
+    let w = record_within s k (omega (arith, z)) (omega (arith, c, l)) (whole s e).records in
+    record { whole = omega (arith, w, a); start = omega (arith, w, a, (bounds s).least) }

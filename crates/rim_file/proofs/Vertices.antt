@@ -15,11 +15,9 @@ use Rattle.grid.specs.Point.{point, OnGrid, PointOnGrid}
 use Rattle.grid.proofs.HalfStep.{in_range_on_grid}
 use Rattle.rim_file.specs.File.{kind, first_number, second_number, third_number, tail_zero}
 use Rattle.lists.specs.Sums.{all_of}
-use Rattle.rim_file.specs.Record.{known, height_of, record_at, numbers_code, vertex_unless, vertex_of, number_of}
-use Rattle.rim_file.specs.declared.Height.{Height}
-use Rattle.rim_file.specs.declared.Height.TheVariants.{Unknown, Known}
-use Rattle.rim_file.specs.declared.Vertex.{Vertex}
-use Rattle.rim_file.specs.declared.Vertex.TheVariants.{At, Refused}
+use Rattle.rim_file.specs.Record.{known, height_of, record_at, Height, Vertex, numbers_code, vertex_of, number_of}
+use Rattle.std.proofs.Common.{None, Some, Ok, Err}
+use Rattle.codes.specs.Refusals.{refusal, or_refused}
 
 -- the number of no due number is 0, and then all numbers are finite and in range
 code_none : (f r : Bool) → ◌≡◌ {A = ℕ} (cond f (cond r 0 9) 8) 0 → (f ≡ true) × (r ≡ true)
@@ -32,24 +30,24 @@ unfolding numbers_code
 numbers_fine vs e = code_none (all_of finite vs) (all_of in_range vs) e
 
 -- a vertex where a number could be due
-vertex_unless_lem : (k : ℕ) (p q : GridPoint) → vertex_unless k p ≡ At q → (k ≡ 0) × (p ≡ q)
-vertex_unless_lem zero p q e = (refl, cc)
-vertex_unless_lem (suc k) p q e = absurd (let z : ◌≡◌ {A = ℕ} 0 1 = cc in omega arith)
+or_refused_lem : (k : ℕ) (p q : GridPoint) → or_refused k p ≡ Ok q → (k ≡ 0) × (p ≡ q)
+or_refused_lem zero p q e = (refl, cc)
+or_refused_lem (suc k) p q e = absurd (let z : ◌≡◌ {A = ℕ} 0 1 = cc in omega arith)
 
-unless_positive : (k j : ℕ) (p : GridPoint) → vertex_unless k p ≡ Refused j → 0 < j
+unless_positive : (k j : ℕ) (p : GridPoint) → or_refused k p ≡ Err (refusal j) → 0 < j
 unless_positive zero j p e = absurd (let z : ◌≡◌ {A = ℕ} 0 1 = cc in omega arith)
-unless_positive (suc k) j p e = let z : suc k ≡ j = cc in omega arith
+unless_positive (suc k) j p e = let z : suc k ≡ j = ap (number_of {A = GridPoint}) e in omega arith
 
 -- what is known of a record that has a vertex, at the height h before it
 pub record Vertexed (s : List ℕ) (i : ℕ) (h : Height) (p : GridPoint) : Type 0 where
   pub on_grid : PointOnGrid p
-  pub height_after : cond (eqb (kind s i) 1) (Known (round_eighths (third_number s i))) h ≡ Known p.z
+  pub height_after : cond (eqb (kind s i) 1) (Some (round_eighths (third_number s i))) h ≡ Some p.z
 
 point_vertexed : (x y z : Float) (p : GridPoint) →
-    vertex_unless (numbers_code (x ∷ y ∷ z ∷ [])) (point (round_eighths x) (round_eighths y) (round_eighths z)) ≡ At p →
+    or_refused (numbers_code (x ∷ y ∷ z ∷ [])) (point (round_eighths x) (round_eighths y) (round_eighths z)) ≡ Ok p →
     PointOnGrid p × (round_eighths z ≡ p.z)
 point_vertexed x y z p e =
-    let d = vertex_unless_lem (numbers_code (x ∷ y ∷ z ∷ [])) (point (round_eighths x) (round_eighths y) (round_eighths z)) p e in
+    let d = or_refused_lem (numbers_code (x ∷ y ∷ z ∷ [])) (point (round_eighths x) (round_eighths y) (round_eighths z)) p e in
     let r = (numbers_fine (x ∷ y ∷ z ∷ []) d.0).1 in
     let yz = both_right (in_range x) (both (in_range y) (both (in_range z) true)) r in
     let zt = both_right (in_range y) (both (in_range z) true) yz in (
@@ -62,10 +60,10 @@ point_vertexed x y z p e =
     )
 
 level_vertexed : (x y : Float) (h : ℤ) (p : GridPoint) → OnGrid h
-    → vertex_unless (numbers_code (x ∷ y ∷ [])) (point (round_eighths x) (round_eighths y) h) ≡ At p →
+    → or_refused (numbers_code (x ∷ y ∷ [])) (point (round_eighths x) (round_eighths y) h) ≡ Ok p →
     PointOnGrid p × (h ≡ p.z)
 level_vertexed x y h p g e =
-    let d = vertex_unless_lem (numbers_code (x ∷ y ∷ [])) (point (round_eighths x) (round_eighths y) h) p e in
+    let d = or_refused_lem (numbers_code (x ∷ y ∷ [])) (point (round_eighths x) (round_eighths y) h) p e in
     let r = (numbers_fine (x ∷ y ∷ []) d.0).1 in
     let yt = both_right (in_range x) (both (in_range y) true) r in (
       subst PointOnGrid d.1 (record {
@@ -76,16 +74,16 @@ level_vertexed x y h p g e =
       ap (λ (q : GridPoint). q.z) d.1,
     )
 
-known_is : (h : Height) → known h ≡ true → h ≡ Known (height_of h)
-known_is Unknown e = absurd (let z : ◌≡◌ {A = ℕ} 1 0 = ap (λ (b : Bool). cond b 0 1) e in omega arith)
-known_is (Known z) e = refl
+known_is : (h : Height) → known h ≡ true → h ≡ Some (height_of h)
+known_is None e = absurd (let z : ◌≡◌ {A = ℕ} 1 0 = ap (λ (b : Bool). cond b 0 1) e in omega arith)
+known_is (Some z) e = refl
 
 -- the record by its tests
 unfoldable pub shape : (one two known tail : Bool) (x y z : Float) (h : ℤ) → Vertex
 shape one two known tail x y z h =
-    cond one (vertex_unless (numbers_code (x ∷ y ∷ z ∷ [])) (point (round_eighths x) (round_eighths y) (round_eighths z)))
-    (cond two (cond known (cond tail (vertex_unless (numbers_code (x ∷ y ∷ [])) (point (round_eighths x) (round_eighths y) h)) (Refused 8)) (Refused 7))
-    (Refused 6))
+    cond one (or_refused (numbers_code (x ∷ y ∷ z ∷ [])) (point (round_eighths x) (round_eighths y) (round_eighths z)))
+    (cond two (cond known (cond tail (or_refused (numbers_code (x ∷ y ∷ [])) (point (round_eighths x) (round_eighths y) h)) (Err (refusal 8))) (Err (refusal 7)))
+    (Err (refusal 6)))
 
 pub shape_is : (one two known tail : Bool) (s : List ℕ) (i : ℕ) (h : ℤ) → eqb (kind s i) 1 ≡ one → eqb (kind s i) 2 ≡ two → tail_zero s i ≡ tail →
     vertex_of (record_at s i known) h ≡ shape one two known tail (first_number s i) (second_number s i) (third_number s i) h
@@ -97,40 +95,40 @@ shape_is false true false tail s i h a b c = rw (a, b)
 shape_is false false known tail s i h a b c = rw (a, b)
 
 vertexed_by : (one two kn tail : Bool) (s : List ℕ) (i : ℕ) (h : Height) (p : GridPoint) → eqb (kind s i) 1 ≡ one → known h ≡ kn → OnGrid (height_of h) →
-    shape one two kn tail (first_number s i) (second_number s i) (third_number s i) (height_of h) ≡ At p → Vertexed s i h p
+    shape one two kn tail (first_number s i) (second_number s i) (third_number s i) (height_of h) ≡ Ok p → Vertexed s i h p
 unfolding shape
 vertexed_by true two kn tail s i h p a k g e =
     let d = point_vertexed (first_number s i) (second_number s i) (third_number s i) p e in
-    record { on_grid = d.0; height_after = rw a (ap Known d.1) }
+    record { on_grid = d.0; height_after = rw a (ap Some d.1) }
 vertexed_by false true true true s i h p a k g e =
     let d = level_vertexed (first_number s i) (second_number s i) (height_of h) p g e in
-    record { on_grid = d.0; height_after = rw a (known_is h k ∙ ap Known d.1) }
+    record { on_grid = d.0; height_after = rw a (known_is h k ∙ ap Some d.1) }
 vertexed_by false true true false s i h p a k g e = absurd (let z : ◌≡◌ {A = ℕ} 0 1 = cc in omega arith)
 vertexed_by false true false tail s i h p a k g e = absurd (let z : ◌≡◌ {A = ℕ} 0 1 = cc in omega arith)
 vertexed_by false false kn tail s i h p a k g e = absurd (let z : ◌≡◌ {A = ℕ} 0 1 = cc in omega arith)
 
 pub vertexed : (s : List ℕ) (i : ℕ) (h : Height) (p : GridPoint) → OnGrid (height_of h) →
-    vertex_of (record_at s i (known h)) (height_of h) ≡ At p → Vertexed s i h p
+    vertex_of (record_at s i (known h)) (height_of h) ≡ Ok p → Vertexed s i h p
 vertexed s i h p g e =
     vertexed_by (eqb (kind s i) 1) (eqb (kind s i) 2) (known h) (tail_zero s i) s i h p refl refl g
     (sym (shape_is (eqb (kind s i) 1) (eqb (kind s i) 2) (known h) (tail_zero s i) s i (height_of h) refl refl refl) ∙ e)
 
 -- a record is never refused with 0
-refused_by : (one two kn tail : Bool) (x y z : Float) (h : ℤ) (k : ℕ) → shape one two kn tail x y z h ≡ Refused k → 0 < k
+refused_by : (one two kn tail : Bool) (x y z : Float) (h : ℤ) (k : ℕ) → shape one two kn tail x y z h ≡ Err (refusal k) → 0 < k
 unfolding shape
 refused_by true two kn tail x y z h k e = unless_positive (numbers_code (x ∷ y ∷ z ∷ [])) k (point (round_eighths x) (round_eighths y) (round_eighths z)) e
 refused_by false true true true x y z h k e = unless_positive (numbers_code (x ∷ y ∷ [])) k (point (round_eighths x) (round_eighths y) h) e
-refused_by false true true false x y z h k e = let d : ◌≡◌ {A = ℕ} 8 k = cc in omega arith
-refused_by false true false tail x y z h k e = let d : ◌≡◌ {A = ℕ} 7 k = cc in omega arith
-refused_by false false kn tail x y z h k e = let d : ◌≡◌ {A = ℕ} 6 k = cc in omega arith
+refused_by false true true false x y z h k e = let d : ◌≡◌ {A = ℕ} 8 k = ap (number_of {A = GridPoint}) e in omega arith
+refused_by false true false tail x y z h k e = let d : ◌≡◌ {A = ℕ} 7 k = ap (number_of {A = GridPoint}) e in omega arith
+refused_by false false kn tail x y z h k e = let d : ◌≡◌ {A = ℕ} 6 k = ap (number_of {A = GridPoint}) e in omega arith
 
-pub refused_positive : (s : List ℕ) (i : ℕ) (kn : Bool) (h : ℤ) (k : ℕ) → vertex_of (record_at s i kn) h ≡ Refused k → 0 < k
+pub refused_positive : (s : List ℕ) (i : ℕ) (kn : Bool) (h : ℤ) (k : ℕ) → vertex_of (record_at s i kn) h ≡ Err (refusal k) → 0 < k
 refused_positive s i kn h k e =
     refused_by (eqb (kind s i) 1) (eqb (kind s i) 2) kn (tail_zero s i) (first_number s i) (second_number s i) (third_number s i) h k
     (sym (shape_is (eqb (kind s i) 1) (eqb (kind s i) 2) kn (tail_zero s i) s i h refl refl refl) ∙ e)
 
 -- ---- the number of a record
-number_unless : (k : ℕ) (p : GridPoint) → number_of (vertex_unless k p) ≡ k
+number_unless : (k : ℕ) (p : GridPoint) → number_of (or_refused k p) ≡ k
 number_unless zero p = refl
 number_unless (suc k) p = refl
 

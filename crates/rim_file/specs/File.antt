@@ -4,6 +4,8 @@ use Rattle.std.specs.Float.{binary32}
 use Rattle.std.specs.Float.Ieee.{of_bits}
 use Rattle.lists.specs.Lists.{either}
 use Rattle.rim_file.specs.declared.Layout.{Layout}
+use Rattle.rim_file.specs.declared.edition.Edition.{Edition}
+use Rattle.rim_file.specs.declared.edition.Edition.TheVariants.{One, Two}
 
 -- the places of a file are bytes
 abbrev pub Bytes : List ℕ → Type 0
@@ -52,6 +54,18 @@ layout2 = record { header = marker_size; record_size = record_size2 }
 
 unfoldable pub layout_of : List ℕ → Layout
 layout_of s = cond (is_edition2 s) layout2 layout1
+
+-- the two editions by name (rule 1.12): that of a file, and the number and the layout of each
+abbrev pub edition_of : List ℕ → Edition
+edition_of s = cond (is_edition2 s) Two One
+
+abbrev pub edition_number : Edition → ℕ
+edition_number One = 1
+edition_number Two = 2
+
+abbrev pub layout_in : Edition → Layout
+layout_in One = layout1
+layout_in Two = layout2
 
 abbrev pub header_start : List ℕ → ℕ
 header_start s = (layout_of s).header

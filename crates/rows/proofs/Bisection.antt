@@ -1,4 +1,4 @@
--- Bisection over rows that ascend. Assumes nothing.
+-- Where rows that ascend turn from those before a pair to the others. Assumes nothing.
 use Prim.Native.Nat.{ℕ, zero, suc, ◌+◌, ◌≤◌, ◌<◌}
 use mathlib.Core.Path.{◌≡◌, refl, sym, ap, ◌∙◌}
 use mathlib.Core.Bool.{Bool, true, false, cond}
@@ -76,11 +76,8 @@ module _ (o i : ℕ) where
     inner_at : ℕ → ℕ
     inner_at k = inner (entry_at rows k)
 
-    pub cut_start : Cut rows o i 0 (length rows)
-    cut_start = record { order = omega arith; within = omega arith; left = λ k h. absurd (omega arith); right = λ k h l. absurd (omega arith) }
-
     module _ (sorted : RowsAscend rows) where
-      before_trans : (k l : ℕ) → k < l → l < length rows → row_is_before (get_or rows l []) o i ≡ true → row_is_before (entry_at rows k) o i ≡ true
+      pub before_trans : (k l : ℕ) → k < l → l < length rows → row_is_before (get_or rows l []) o i ≡ true → row_is_before (entry_at rows k) o i ≡ true
       unfolding outer_at inner_at
       before_trans k l h m e = is_before (outer_at k) (inner_at k) o i
           (go (before_true (outer_at k) (inner_at k) (outer_at l) (inner_at l) (sorted.up k l h m)) (before_true (outer_at l) (inner_at l) o i e))
@@ -91,15 +88,6 @@ module _ (o i : ℕ) where
           go (inl a) (inr b) = inl (omega arith)
           go (inr a) (inl b) = inl (omega arith)
           go (inr a) (inr b) = inr (a.0 ∙ b.0, omega arith)
-
-      pub cut_up : {low high : ℕ} (middle : ℕ) → Cut rows o i low high → low ≤ middle → middle < high → row_is_before (get_or rows middle []) o i ≡ true →
-          Cut rows o i (middle + 1) high
-      cut_up middle c h l e = record {
-        order = omega arith;
-        within = c.within;
-        left = λ k m. ⊎_elim (λ q. rw q e) (λ q. before_trans k middle q (omega (arith, c.within)) e) (eq-or-lt_of_le (let z : k ≤ middle = omega arith in z));
-        right = c.right;
-      }
 
       pub cut_down : {low high : ℕ} (middle : ℕ) → Cut rows o i low high → low ≤ middle → middle < high →
           row_is_before (get_or rows middle []) o i ≡ false → Cut rows o i low middle

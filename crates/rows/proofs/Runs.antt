@@ -8,12 +8,14 @@ use native.Mathlib.Omega.{arith}
 use lib.ListN.{length, take, drop, get_or, length-drop}
 use lib.Seq.{get_or-take, get_or-drop, length-take-le}
 use lib.Dec.{eqb}
+use Rattle.std.specs.List.{prefix_len}
 use Rattle.lists.specs.Lists.{both}
 use Rattle.lists.proofs.Choice.{true_not_false}
+use Rattle.lists.proofs.Points.{prefix_count}
 use Rattle.terms.specs.Entries.{entry_at, outer, inner, row_weight}
 use Rattle.triangulation.specs.Problems.{pair_weight}
 use Rattle.rows.specs.Search.{RowsAscend, Run, row_is_before, rows_before}
-use Rattle.rows.proofs.Bisection.{Cut, cut_of, before_true, before_false, is_before, names_false, skip, none}
+use Rattle.rows.proofs.Bisection.{Cut, cut_of, before_trans, before_true, before_false, is_before, names_false, skip, none}
 
 -- the rows of later outers do not matter
 front : (o i m : ℕ) (rows : List (List ℕ))
@@ -40,6 +42,14 @@ run_start {rows} {t} c = record {
   left = λ k h. is_before (outer (entry_at rows k)) (inner (entry_at rows k)) (t + 1) 0 (inl (let l = below rows t k (c.left k h) in omega arith));
   right = λ k h l. absurd (omega arith);
 }
+
+-- so a run ends after as many rows as are before (t + 1, 0) from its start on
+-- so the run of t ends after as many rows as are before (t + 1, 0) from its start on
+pub run_count : (rows : List (List ℕ)) (t start : ℕ) → RowsAscend rows → start ≡ rows_before rows t 0
+    → start + prefix_len (λ r. row_is_before r (t + 1) 0) (drop start rows) ≡ rows_before rows (t + 1) 0
+run_count rows t start sorted e =
+    let c = cut_of t 0 rows sorted e in
+    prefix_count (λ r. row_is_before r (t + 1) 0) rows [] start (run_start c).left (before_trans (t + 1) 0 rows sorted) c.within
 
 module _ {rows : List (List ℕ)} (t : ℕ) {first last : ℕ} (sorted : RowsAscend rows) (start : first ≡ rows_before rows t 0)
     (end : last ≡ rows_before rows (t + 1) 0) where

@@ -24,8 +24,5 @@ pub const MAX_WEIGHT: u32 = 2_000_000_000;
 pub fn count_fits(n: usize) -> bool
     ensures { result ≡ count_fits n }
 {
-    if n < MIN_VERTICES {
-        return false;
-    }
-    n <= MAX_VERTICES
+    (MIN_VERTICES..=MAX_VERTICES).contains(&n)
 }

@@ -1,5 +1,5 @@
 -- The recursion that the dynamic programme computes; that it gives the answer is proved. What functions say to each other; nobody has to believe it.
-use Rattle.std.specs.Prelude.{ℕ, zero, suc, ◌+◌, ◌*◌, ◌^◌, cond, List, [], ◌∷◌, ◌++◌, map, eqb}
+use Rattle.std.specs.Prelude.{ℕ, zero, suc, ◌+◌, ◌*◌, ◌^◌, cond, Option, None, Some, List, [], ◌∷◌, ◌++◌, map, eqb}
 use Rattle.terms.specs.Limits.{max_vertices, max_weight}
 use Rattle.lists.specs.Sums.{keep, numbers_from}
 use Rattle.triangulation.specs.Triangulations.{Problem, least, long_edge}
@@ -27,6 +27,11 @@ no_total = 2 ^ 63
 abbrev pub cost_of : List ℕ → ℕ
 cost_of [] = no_total
 cost_of (x ∷ l) = x
+
+-- the same as it is answered: none where there is no key
+abbrev pub key_total : List ℕ → Option ℕ
+key_total [] = None
+key_total (x ∷ l) = Some x
 
 -- a key's triangles
 abbrev pub rest_of : List ℕ → List ℕ

@@ -5,15 +5,14 @@ use mathlib.Core.List.{List}
 use native.Mathlib.Omega.{arith}
 use lib.ListN.{length, take, drop, replicate, length-replicate}
 use lib.Seq.{drop_at}
+use Rattle.std.proofs.Common.{Some, None, Ok, Err}
 use Rattle.codes.specs.Refusals.{refusal}
 use Rattle.lists.specs.Lists.{filled}
 use Rattle.lists.proofs.Writing.{filled_take}
 use Rattle.triangulation.specs.Triangulations.{Problem, ValidProblem, Answer, none, patch, best}
 use Rattle.triangulation.specs.Demand3.{Optimal, HandedBack}
 use Rattle.triangulation.proofs.Demand3.{demand3, handed_back_lem}
-use Rattle.triangulator.specs.declared.Outcome.{Outcome}
-use Rattle.triangulator.specs.declared.Outcome.TheVariants.{Patch, None, Refused}
-use Rattle.triangulator.specs.Call.{settled, part_of}
+use Rattle.triangulator.specs.Call.{Outcome, patch_with, settled, part_of}
 use Rattle.triangulator.specs.Demands.{stated, Taken, a_patch, a_none, Handed, with_patch, with_none, with_refusal, RestLeft}
 use Rattle.triangulator.proofs.Settling.{part_patch, part_empty}
 
@@ -28,7 +27,7 @@ settled_taken none count triangles work = a_none
 settled_taken (patch total l) count triangles work = a_patch
 
 -- a patch and 'none' are no refusals
-pub never_refused : {o : Outcome} {k : ℕ} → o ≡ Refused (refusal k) → Taken o → ⊥
+pub never_refused : {o : Outcome} {k : ℕ} → o ≡ Err (refusal k) → Taken o → ⊥
 never_refused e a_patch = let z : ◌≡◌ {A = ℕ} 0 1 = cc in omega arith
 never_refused e a_none = let z : ◌≡◌ {A = ℕ} 0 1 = cc in omega arith
 
@@ -40,10 +39,10 @@ settled_handed job good count triangles work = go (best job) (demand3 job good).
   where
     go : (a : Answer) → ((total : ℕ) (l : List ℕ) → a ≡ patch total l → Optimal job total l) → Handed job
         (part_of (settled a count triangles work).outcome (settled a count triangles work).triangles) (settled a count triangles work).outcome
-    go none h = with_none (part_empty None triangles refl)
+    go none h = with_none (part_empty (Ok None) triangles refl)
     go (patch total l) h =
         let b = handed_back_lem job good total l (h total l refl) in
-        with_patch {total = total} b.count (rw (part_patch l triangles total) b)
+        with_patch {p = patch_with (length l) total} b.count (rw (part_patch l triangles total) b)
 
 -- and so is what it leaves beside the patch
 pub settled_rest : (a : Answer) (count : ℕ) (triangles work : List ℕ) → RestLeft count triangles work (settled a count triangles work)
@@ -66,9 +65,9 @@ settled_rest a count triangles work = by a
     by (patch total l) =
         record { zeros = zeros_first; further_work = then_kept; further_triangles = drop_at l (drop (length l) triangles) (length l) refl }
 
-pub refused_handed : (job : Problem) (number : ℕ) (triangles : List ℕ) → Handed job (part_of (Refused (refusal number)) triangles) (Refused (refusal number))
-refused_handed job number triangles = with_refusal (part_empty (Refused (refusal number)) triangles refl)
+pub refused_handed : (job : Problem) (number : ℕ) (triangles : List ℕ) → Handed job (part_of (Err (refusal number)) triangles) (Err (refusal number))
+refused_handed job number triangles = with_refusal (part_empty (Err (refusal number)) triangles refl)
 
 -- what is handed back with a patch
-pub patch_handed : {job : Problem} {part : List ℕ} {count total : ℕ} → Handed job part (Patch count total) → HandedBack job total part
+pub patch_handed : {job : Problem} {part : List ℕ} {count total : ℕ} → Handed job part (Ok (Some (patch_with count total))) → HandedBack job total part
 patch_handed (with_patch c h) = h

@@ -1,25 +1,29 @@
 -- What a call that patches answers, and what it leaves in every place of the triangle and work tables. Definitions only.
-use Rattle.std.specs.Prelude.{ℕ, zero, suc, ◌-◌, List, length, replicate}
+use Rattle.std.specs.Prelude.{ℕ, zero, suc, ◌-◌, List, length, replicate, Option, Some, None, Ok, Err}
+use Rattle.codes.specs.declared.Refusal.{Refusal}
+use Rattle.codes.specs.Refusals.{number_of}
 use Rattle.lists.specs.Lists.{filled, first_places}
 use Rattle.triangulation.specs.Triangulations.{Answer, none, patch}
-use Rattle.triangulator.specs.declared.Outcome.{Outcome}
-use Rattle.triangulator.specs.declared.Outcome.TheVariants.{Patch, None, Refused}
+use Rattle.triangulator.specs.declared.Patch.{Patch}
 
--- the number, the triangle count and the total of each case of an outcome (rule 5.2)
-abbrev pub number_of : Outcome → ℕ
-number_of (Patch count total) = 0
-number_of None = 0
-number_of (Refused r) = r.number
+-- what a call answers: a patch, 'none', or a refusal (rule 4.33)
+abbrev pub Outcome : Type 0
+Outcome = Rattle.std.specs.Prelude.Result (Option Patch) Refusal
 
+-- the patch with so many triangles and this total (rule 5.2)
+abbrev pub patch_with : ℕ → ℕ → Patch
+patch_with count total = record { triangles = count; total = total }
+
+-- the triangle count and the total of each case of an outcome; its number is `number_of` (rule 5.2)
 abbrev pub triangles_of : Outcome → ℕ
-triangles_of (Patch count total) = count
-triangles_of None = 0
-triangles_of (Refused r) = 0
+triangles_of (Ok (Some p)) = p.triangles
+triangles_of (Ok None) = 0
+triangles_of (Err r) = 0
 
 abbrev pub total_of : Outcome → ℕ
-total_of (Patch count total) = total
-total_of None = 0
-total_of (Refused r) = 0
+total_of (Ok (Some p)) = p.total
+total_of (Ok None) = 0
+total_of (Err r) = 0
 
 -- the three together (rule 5.2)
 pub record Values : Type 0 where
@@ -58,5 +62,5 @@ result_of o t w = record { outcome = o; triangles = t; work = w }
 -- after a patch the first places of the triangle table hold it in walk order, after 'none' the table is as it was (rule 3.8); the work table holds
 -- 0 in a place for each candidate, and every further place keeps what it held (rule 3.9)
 abbrev pub settled : Answer → ℕ → List ℕ → List ℕ → Result
-settled none count triangles work = result_of None triangles (filled (replicate count 0) work)
-settled (patch total l) count triangles work = result_of (Patch (length l) total) (filled l triangles) (filled (replicate count 0) work)
+settled none count triangles work = result_of (Ok None) triangles (filled (replicate count 0) work)
+settled (patch total l) count triangles work = result_of (Ok (Some (patch_with (length l) total))) (filled l triangles) (filled (replicate count 0) work)

@@ -1,78 +1,59 @@
 // The triangulation of least total in three steps: the totals, the triangles, and zeros in the work table.
 ghost use Rattle.std.specs.Prelude.{◌≡◌, ◌+◌, ◌≤◌, length, replicate};
 ghost use Rattle.lists.specs.Lists.{filled};
+ghost use Rattle.jobs.specs.Job.{job_in};
 ghost use Rattle.triangulation.specs.Triangulations.{best_key};
-ghost use Rattle.triangulation.specs.Problems.{problem_from};
-ghost use Rattle.triangulation.specs.Recursion.{cost_of};
+ghost use Rattle.triangulation.specs.Problems.{problem_of};
+ghost use Rattle.triangulation.specs.Recursion.{key_total};
 ghost use Rattle.minimum_weight.specs.Tables.{WellFormed};
 ghost use Rattle.triangulator.specs.Steps.{lists, listed_by};
 
-use minimum_weight::{NONE, clear, least_total};
+use jobs::Job;
+use minimum_weight::{clear, least_total};
 use preorder::write_preorder;
 
-// At which least total the triangles are listed: at any, or at the agreed one alone.
-#[derive(Clone, Copy)]
-pub enum Figure {
-    Any,
-    Agreed(u64),
-}
-
-impl Figure {
-    pub fn lists(self, total: u64) -> bool
-        ensures { result ≡ lists self total }
-    {
-        match self {
-            Figure::Any => true,
-            Figure::Agreed(agreed) => agreed == total,
-        }
-    }
-}
-
-// The least total, or NONE. Where the figure lists it, the triangles of the first triangulation with that total are written in preorder. The work table is
-// zero in one place per candidate.
-pub fn solve(
-    n: usize,
-    candidates: &[[u8; 3]],
-    weights: &[u32],
-    rows: &[[u32; 3]],
-    figure: Figure,
-    triangles: &mut [u16],
-    work: &mut [u64],
-) -> u64
-    requires { WellFormed n candidates.now weights.now rows.now × (length candidates.now ≤ length work.old)
-        × (n ≤ length triangles.old + 2) }
-    ensures total { result ≡ cost_of (best_key (problem_from n candidates.now weights.now rows.now)) }
-    ensures triangles { triangles.new
-        ≡ listed_by figure (best_key (problem_from n candidates.now weights.now rows.now)) triangles.old }
-    ensures work { work.new ≡ filled (replicate (length candidates.now) 0) work.old }
+// The triangles are listed at this least total: at the agreed one, or at any where none is agreed.
+fn is_listed(agreed: Option<u64>, total: u64) -> bool
+    ensures { result ≡ lists agreed total }
 {
-    let count = candidates.len();
+    agreed.is_none_or(|figure| figure == total)
+}
+
+// The least total, none where no triangulation is there. Where it is listed, the triangles of the first triangulation with that total are written in
+// preorder. The work table is zero in one place per candidate.
+pub fn solve(job: &Job, agreed: Option<u64>, triangles: &mut [u16], work: &mut [u64]) -> Option<u64>
+    requires { WellFormed job.now.n job.now.candidates.now job.now.weights.now job.now.rows.now
+        × (length job.now.candidates.now ≤ length work.old) × (job.now.n ≤ length triangles.old + 2) }
+    ensures total { result ≡ key_total (best_key (problem_of (job_in job.now))) }
+    ensures triangles { triangles.new ≡ listed_by agreed (best_key (problem_of (job_in job.now))) triangles.old }
+    ensures work { work.new ≡ filled (replicate (length job.now.candidates.now) 0) work.old }
+{
+    let Job {
+        n,
+        candidates,
+        weights,
+        rows,
+    } = *job;
     let starts = blocks::block_starts(candidates);
     let least = least_total(n, &starts, candidates, weights, rows, work);
-    let listed = figure.lists(least);
-    if NONE <= least || !listed {
-        clear(work, count);
-        return least;
+    if let Some(total) = least
+        && is_listed(agreed, total)
+    {
+        write_preorder(n, &starts, candidates, weights, rows, work, triangles);
     }
-    write_preorder(n, &starts, candidates, weights, rows, work, triangles);
-    clear(work, count);
+    clear(work, candidates.len());
     least
 }
 
-// The least total, or NONE, and no triangle; the work table is left as by `solve`.
-pub fn least(
-    n: usize,
-    candidates: &[[u8; 3]],
-    weights: &[u32],
-    rows: &[[u32; 3]],
-    work: &mut [u64],
-) -> u64
-    requires { WellFormed n candidates.now weights.now rows.now × (length candidates.now ≤ length work.old) }
-    ensures total { result ≡ cost_of (best_key (problem_from n candidates.now weights.now rows.now)) }
-    ensures work { work.new ≡ filled (replicate (length candidates.now) 0) work.old }
+// The least total, none where no triangulation is there, and no triangle; the work table is left as by `solve`.
+pub fn least(job: &Job, work: &mut [u64]) -> Option<u64>
+    requires { WellFormed job.now.n job.now.candidates.now job.now.weights.now job.now.rows.now
+        × (length job.now.candidates.now ≤ length work.old) }
+    ensures total { result ≡ key_total (best_key (problem_of (job_in job.now))) }
+    ensures work { work.new ≡ filled (replicate (length job.now.candidates.now) 0) work.old }
 {
-    let starts = blocks::block_starts(candidates);
-    let least = least_total(n, &starts, candidates, weights, rows, work);
-    clear(work, candidates.len());
+    let starts = blocks::block_starts(job.candidates);
+    let least = least_total(job.n, &starts, job.candidates, job.weights, job.rows, work);
+    clear(work, job.candidates.len());
     least
 }

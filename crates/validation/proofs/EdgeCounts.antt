@@ -8,10 +8,9 @@ use native.Mathlib.Omega.{arith}
 use lib.ListN.{length, get_or, set, take, replicate, length-set, length-replicate, get_or-replicate}
 use lib.Seq.{length-take-le, get_or-set_same, get_or-set_other}
 use lib.Dec.{eqb}
-use borrow.Author.Tests.{eqb-true, eqb-false, eq-eqb, ne_eqb}
+use borrow.Author.Tests.{eqb-true, eqb-false}
 use Rattle.lists.proofs.Ranges.{every_same}
-use Rattle.lists.specs.Lists.{both, either}
-use Rattle.lists.proofs.Choice.{Truth, truth, holds, fails}
+use Rattle.lists.specs.Lists.{both}
 use Rattle.lists.proofs.Members.{entry_member}
 use Rattle.terms.specs.Limits.{max_vertices}
 use Rattle.terms.specs.Entries.{entry_at, vertex_a, vertex_b, vertex_c}
@@ -22,7 +21,7 @@ use Rattle.triangulation.proofs.SetParts.{either_split}
 use Rattle.triangulation.proofs.PartsToSets.{only_le}
 use Rattle.validation.specs.Edges.{edge_at, edge_places, count_at, added, Room, Triangle, Triangles}
 use Rattle.validation.specs.Edges.{candidates_alone, between, outside, Sums, Counted, vertices_alone, edges_fit}
-use Rattle.validation.proofs.Fronts.{sum_next, sum_le}
+use Rattle.validation.proofs.Fronts.{sum_with, sum_le}
 
 -- ---- one more at one edge
 added_length : (t : List ℕ) (i j : ℕ) → length (added t i j) ≡ length t
@@ -56,8 +55,8 @@ room_kept t a b c h hb hc r = omega (
 )
 
 module _ (candidates : List (List ℕ)) (list : List ℕ) (ok : Triangles candidates list) where
-  pub triangle_at_lem : (i : ℕ) → i < length list → Triangle candidates (get_or list i 0)
-  triangle_at_lem i h = ok.each (get_or list i 0) (entry_member list 0 i h)
+  pub triangle_at_lem : (i : ℕ) → i < length list → (k : ℕ) → k ≡ get_or list i 0 → Triangle candidates k
+  triangle_at_lem i h k e = rw e (ok.each (get_or list i 0) (entry_member list 0 i h))
 
   -- what is at an edge is small
   sums_room : (g : ℕ → ℕ → ℕ → ℕ) → ((i j k : ℕ) → g i j k ≤ 1) → {t : ℕ} {table : List ℕ} → t ≤ length list →
@@ -72,63 +71,43 @@ module _ (candidates : List (List ℕ)) (list : List ℕ) (ok : Triangles candid
       (i j : ℕ) → i < max_vertices → j < max_vertices → Room table i j
   outside_room h s i j hi hj = sums_room (outside candidates) (λ i j k. only_le (short_edge (candidates_alone candidates) i j k)) h s i j hi hj
 
-  -- ---- one triangle more
-  abbrev triangle : ℕ → List ℕ
-  triangle i = entry_at candidates (get_or list i 0)
-
-  module _ {i : ℕ} {table new : List ℕ} (h : i < length list) where
-    pub between_next : Sums (between candidates) (take i list) table → new ≡ added table (vertex_a (triangle i)) (vertex_c (triangle i)) →
+  -- ---- one triangle more: the list's next, k
+  module _ {i : ℕ} (h : i < length list) (k : ℕ) (e : k ≡ get_or list i 0) where
+    pub between_next : {table new : List ℕ} → Sums (between candidates) (take i list) table → new ≡ added table (vertex_a (entry_at candidates k)) (vertex_c (entry_at candidates k)) →
         Sums (between candidates) (take (i + 1) list) new
-    between_next s e =
-        let o = triangle_at_lem i h in
+    between_next {table} s d =
+        let o = triangle_at_lem i h k e in
         record {
-          long_enough = ap length e ∙ added_length table (vertex_a (triangle i)) (vertex_c (triangle i)) ∙ s.long_enough;
+          long_enough = ap length d ∙ added_length table (vertex_a (entry_at candidates k)) (vertex_c (entry_at candidates k)) ∙ s.long_enough;
           at = λ p q hp hq.
-              ap (λ (l : List ℕ). count_at l p q) e
-              ∙ added_at table (vertex_a (triangle i)) (vertex_c (triangle i)) (omega (arith, o.ab, o.bc, o.few)) o.few s.long_enough p q hp hq
-              ∙ ap (λ x. x + only (both (eqb (vertex_a (triangle i)) p) (eqb (vertex_c (triangle i)) q)) 1) (s.at p q hp hq)
-              ∙ sym (sum_next (between candidates p q) list i h);
+              ap (λ (l : List ℕ). count_at l p q) d
+              ∙ added_at table (vertex_a (entry_at candidates k)) (vertex_c (entry_at candidates k)) (omega (arith, o.ab, o.bc, o.few)) o.few s.long_enough p q hp hq
+              ∙ ap (λ x. x + only (both (eqb (vertex_a (entry_at candidates k)) p) (eqb (vertex_c (entry_at candidates k)) q)) 1) (s.at p q hp hq)
+              ∙ sym (sum_with (between candidates p q) list i k h e);
         }
 
-    pub outside_next : Sums (outside candidates) (take i list) table → new ≡ added (added table (vertex_a (triangle i)) (vertex_b (triangle i)))
-        (vertex_b (triangle i)) (vertex_c (triangle i)) → Sums (outside candidates) (take (i + 1) list) new
-    outside_next s e =
-        let o = triangle_at_lem i h in
-        let ha : vertex_a (triangle i) < max_vertices = omega (arith, o.ab, o.bc, o.few) in
-        let hb : vertex_b (triangle i) < max_vertices = omega (arith, o.bc, o.few) in
-        let l : length (added table (vertex_a (triangle i)) (vertex_b (triangle i))) ≡ edge_places =
-        added_length table (vertex_a (triangle i)) (vertex_b (triangle i)) ∙ s.long_enough in
+    pub outside_next : {table new : List ℕ} → Sums (outside candidates) (take i list) table → new ≡ added (added table (vertex_a (entry_at candidates k)) (vertex_b (entry_at candidates k)))
+        (vertex_b (entry_at candidates k)) (vertex_c (entry_at candidates k)) → Sums (outside candidates) (take (i + 1) list) new
+    outside_next {table} s d =
+        let o = triangle_at_lem i h k e in
+        let ha : vertex_a (entry_at candidates k) < max_vertices = omega (arith, o.ab, o.bc, o.few) in
+        let hb : vertex_b (entry_at candidates k) < max_vertices = omega (arith, o.bc, o.few) in
+        let l : length (added table (vertex_a (entry_at candidates k)) (vertex_b (entry_at candidates k))) ≡ edge_places =
+        added_length table (vertex_a (entry_at candidates k)) (vertex_b (entry_at candidates k)) ∙ s.long_enough in
         record {
-          long_enough = ap length e
-              ∙ added_length (added table (vertex_a (triangle i)) (vertex_b (triangle i))) (vertex_b (triangle i)) (vertex_c (triangle i)) ∙ l;
+          long_enough = ap length d ∙ added_length (added table (vertex_a (entry_at candidates k)) (vertex_b (entry_at candidates k))) (vertex_b (entry_at candidates k)) (vertex_c (entry_at candidates k)) ∙ l;
           at = λ p q hp hq.
-              ap (λ (l : List ℕ). count_at l p q) e
-              ∙ added_at (added table (vertex_a (triangle i)) (vertex_b (triangle i))) (vertex_b (triangle i)) (vertex_c (triangle i)) hb o.few l p q hp hq
-              ∙ ap (λ x. x + only (both (eqb (vertex_b (triangle i)) p) (eqb (vertex_c (triangle i)) q)) 1)
-              (added_at table (vertex_a (triangle i)) (vertex_b (triangle i)) ha hb s.long_enough p q hp hq)
+              ap (λ (l : List ℕ). count_at l p q) d
+              ∙ added_at (added table (vertex_a (entry_at candidates k)) (vertex_b (entry_at candidates k))) (vertex_b (entry_at candidates k)) (vertex_c (entry_at candidates k)) hb o.few l p q hp hq
+              ∙ ap (λ x. x + only (both (eqb (vertex_b (entry_at candidates k)) p) (eqb (vertex_c (entry_at candidates k)) q)) 1)
+              (added_at table (vertex_a (entry_at candidates k)) (vertex_b (entry_at candidates k)) ha hb s.long_enough p q hp hq)
               ∙ omega (
                 arith,
                 s.at p q hp hq,
-                either_split (vertex_a (triangle i)) (vertex_b (triangle i)) (vertex_c (triangle i)) p q 1 o.ab,
-                sum_next (outside candidates p q) list i h,
+                either_split (vertex_a (entry_at candidates k)) (vertex_b (entry_at candidates k)) (vertex_c (entry_at candidates k)) p q 1 o.ab,
+                sum_with (outside candidates p q) list i k h e,
               );
         }
-
--- ---- an edge inside: in no triangle, in others, and in one between
-module _ (n x y : ℕ) where
-  pub inner_unused : x + y ≡ 0 → edge_ok (vertices_alone n) false x y ≡ true
-  inner_unused e = ap (λ b. either b (both (eqb x 1) (eqb y 1))) (eq-eqb (x + y) 0 e)
-
-  pub inner_one_sided : x + y ≢ 0 → (x ≡ 1 → y ≡ 1 → ⊥) → edge_ok (vertices_alone n) false x y ≡ false
-  inner_one_sided d h = ap₂ (λ b t. either b t) (ne_eqb (x + y) 0 d) (go (truth (eqb x 1)) (truth (eqb y 1)))
-    where
-      go : Truth (eqb x 1) → Truth (eqb y 1) → both (eqb x 1) (eqb y 1) ≡ false
-      go (holds p) (holds q) = absurd (h (eqb-true x 1 p) (eqb-true y 1 q))
-      go (holds p) (fails q) = ap₂ (λ b t. both b t) p q
-      go (fails p) q = ap (λ b. both b (eqb y 1)) p
-
-  pub inner_both : x ≡ 1 → edge_ok (vertices_alone n) false x y ≡ eqb y 1
-  inner_both e = ap₂ (λ b t. either b (both t (eqb y 1))) (ne_eqb (x + y) 0 (λ (z : x + y ≡ 0). omega arith)) (eq-eqb x 1 e)
 
 -- ---- from zeros to the whole list
 pub zeros_sums : (g : ℕ → ℕ → ℕ → ℕ) (list : List ℕ) {table : List ℕ} → table ≡ replicate edge_places 0 → Sums g (take 0 list) table

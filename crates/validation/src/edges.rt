@@ -22,7 +22,7 @@ fn add(table: &mut [u8; EDGES], i: u8, j: u8)
     requires { (i < max_vertices) × (j < max_vertices) × Room table.old i j }
     ensures { table.new ≡ added table.old i j }
 {
-    let at = edge_index(i as usize, j as usize);
+    let at = edge_index(usize::from(i), usize::from(j));
     table[at] += 1;
 }
 
@@ -54,8 +54,8 @@ fn count_edges(
     requires { Triangles candidates.now list.now × (between.old ≡ replicate edge_places 0) × (outside.old ≡ replicate edge_places 0) }
     ensures { Counted candidates.now list.now between.new outside.new }
 {
-    for i in 0..list.len() {
-        let t = candidates[list[i] as usize];
+    for k in list {
+        let t = candidates[usize::from(*k)];
         add_between(between, t);
         add_outside(outside, t);
     }
@@ -66,13 +66,7 @@ fn is_boundary(n: usize, i: usize, j: usize) -> bool
     requires { (i < j) × (j < n) }
     ensures { result ≡ is_boundary (vertices_alone n) i j }
 {
-    if j == i + 1 {
-        return true;
-    }
-    if i != 0 {
-        return false;
-    }
-    j == n - 1
+    j == i + 1 || (i == 0 && j == n - 1)
 }
 
 // A rim edge is in one triangle, any other in none or in one on each side.
@@ -80,17 +74,12 @@ fn edge_fits(n: usize, i: usize, j: usize, between: u8, outside: u8) -> bool
     requires { (i < j) × (j < n) }
     ensures { result ≡ edge_ok (vertices_alone n) (is_boundary (vertices_alone n) i j) between outside }
 {
-    let triangles = between as u32 + outside as u32;
+    let triangles = u32::from(between) + u32::from(outside);
     if is_boundary(n, i, j) {
-        return triangles == 1;
+        triangles == 1
+    } else {
+        triangles == 0 || (between == 1 && outside == 1)
     }
-    if triangles == 0 {
-        return true;
-    }
-    if between != 1 {
-        return false;
-    }
-    outside == 1
 }
 
 // The edges (i, j) for one j.
@@ -98,13 +87,10 @@ fn edges_to_fit(n: usize, j: usize, between: &[u8; EDGES], outside: &[u8; EDGES]
     requires { (j < n) × (n ≤ max_vertices) }
     ensures { result ≡ every 0 j (edge_fits n between.now outside.now j) }
 {
-    for i in 0..j {
+    (0..j).all(|i| {
         let at = edge_index(i, j);
-        if !edge_fits(n, i, j, between[at], outside[at]) {
-            return false;
-        }
-    }
-    true
+        edge_fits(n, i, j, between[at], outside[at])
+    })
 }
 
 // All edges.
@@ -112,12 +98,7 @@ fn edges_fit(n: usize, between: &[u8; EDGES], outside: &[u8; EDGES]) -> bool
     requires { n ≤ max_vertices }
     ensures { result ≡ edges_fit n between.now outside.now }
 {
-    for j in 0..n {
-        if !edges_to_fit(n, j, between, outside) {
-            return false;
-        }
-    }
-    true
+    (0..n).all(|j| edges_to_fit(n, j, between, outside))
 }
 
 // The list passes the edge test as it stands.

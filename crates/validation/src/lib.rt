@@ -3,33 +3,41 @@
 
 mod edges;
 mod names;
-mod order;
 mod totals;
 
 ghost use Rattle.std.specs.Prelude.{◌≡◌, ◌≤◌, length};
+ghost use Rattle.codes.specs.Refusals.{or_refused};
 ghost use Rattle.terms.specs.Limits.{max_vertices};
+ghost use Rattle.jobs.specs.Job.{job_in};
 ghost use Rattle.triangulation.specs.Triangulations.{ValidProblem};
-ghost use Rattle.triangulation.specs.Problems.{problem_from};
+ghost use Rattle.triangulation.specs.Problems.{problem_of};
 ghost use Rattle.rows.specs.Search.{RowsAscend};
-ghost use Rattle.validation.specs.Validation.{list_code};
+ghost use Rattle.validation.specs.Validation.{is_tiling, list_code};
 
-// The first of 21 and 22 that is due on a list, or 0. That no candidate stands twice need not be tested: it would have its edges twice.
-pub fn list_code(
-    n: usize,
-    candidates: &[[u8; 3]],
-    weights: &[u32],
-    rows: &[[u32; 3]],
-    list: &[u16],
-    stated: u64,
-) -> u32
-    requires { ValidProblem (problem_from n candidates.now weights.now rows.now) × (n ≤ max_vertices)
-        × (length candidates.now ≤ length weights.now) × RowsAscend rows.now }
-    ensures { result ≡ list_code (problem_from n candidates.now weights.now rows.now) list.now stated }
+use codes::Refusal;
+use jobs::Job;
+
+// Whether the list is a tiling without repeats. That no candidate stands twice need not be tested: it would have its edges twice.
+fn is_tiling(job: &Job, list: &[u16]) -> bool
+    requires { ValidProblem (problem_of (job_in job.now)) × (job.now.n ≤ max_vertices) }
+    ensures { result ≡ is_tiling (problem_of (job_in job.now)) list.now }
 {
-    if !names::names_triangles(n, candidates.len(), list) {
-        return codes::NOT_A_TRIANGULATION;
+    names::names_triangles(job.n, job.candidates.len(), list)
+        && edges::is_triangulation(job.n, job.candidates, list)
+}
+
+// The first of 21 and 22 that is due on a list.
+#[tactic(auto, unfolding(crate::specs::Validation::list_code))]
+pub fn check_list(job: &Job, list: &[u16], stated: u64) -> Result<(), Refusal>
+    requires { ValidProblem (problem_of (job_in job.now)) × (job.now.n ≤ max_vertices)
+        × (length job.now.candidates.now ≤ length job.now.weights.now) × RowsAscend job.now.rows.now }
+    ensures { result ≡ or_refused (list_code (problem_of (job_in job.now)) list.now stated) tt }
+{
+    if !is_tiling(job, list) {
+        return Err(Refusal::NOT_A_TRIANGULATION);
     }
-    let is_tiling = edges::is_triangulation(n, candidates, list);
-    let total = totals::total(candidates, weights, rows, list);
-    order::first_number(is_tiling, stated == total)
+    if totals::total(job.candidates, job.weights, job.rows, list) != stated {
+        return Err(Refusal::WRONG_TOTAL);
+    }
+    Ok(())
 }

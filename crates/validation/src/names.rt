@@ -7,13 +7,5 @@ pub fn names_triangles(n: usize, count: usize, list: &[u16]) -> bool
     requires { 2 ≤ n }
     ensures { result ≡ names_triangles n count list.now }
 {
-    if list.len() != n - 2 {
-        return false;
-    }
-    for i in 0..list.len() {
-        if count <= list[i] as usize {
-            return false;
-        }
-    }
-    true
+    list.len() == n - 2 && list.iter().all(|k| usize::from(*k) < count)
 }

@@ -10,22 +10,21 @@ use Rattle.lists.proofs.Choice.{both_left, both_right}
 use Rattle.lists.proofs.Maps.{map_at}
 use Rattle.polygon.specs.declared.Polygon.{Polygon}
 use Rattle.polygon.specs.Polygon.{ValidPolygon}
-use Rattle.polygon.specs.Normal.{is_none, normal_at}
+use Rattle.polygon.specs.Normal.{is_none, NormalInRange}
 use Rattle.geometry.specs.declared.Vector.{Vector}
 use Rattle.geometry.specs.Faces.{length_of, area_weight_of}
 use Rattle.terms.specs.Entries.{entry_at, vertex_a, vertex_b, vertex_c}
 use Rattle.dihedrals.specs.Lists.{Corners}
 use Rattle.weights.specs.declared.outside.EdgeNormals.{EdgeNormals}
 use Rattle.weights.specs.Weights.{own_weight, weights_of}
-use Rattle.weights.specs.Edges.{edge_normals, EdgesInRange, all_none, own_weight_of}
+use Rattle.weights.specs.Edges.{edges_of, all_none, own_weight_of}
 use Rattle.weights.proofs.Surfaces.{edge_in_range, outside_none}
 
--- the edges of vertices a, b, c
-abbrev pub edges_at : Polygon → ℕ → ℕ → ℕ → EdgeNormals
-edges_at p a b c = edge_normals p.n a b c (normal_at p.normals a) (normal_at p.normals b) (normal_at p.normals c)
-
-abbrev pub edges_of : Polygon → List ℕ → EdgeNormals
-edges_of p t = edges_at p (vertex_a t) (vertex_b t) (vertex_c t)
+-- the normals outside the edges are those of a polygon
+pub record EdgesInRange (e : EdgeNormals) : Type 0 where
+  pub of_ab : NormalInRange e.ab
+  pub of_bc : NormalInRange e.bc
+  pub of_ac : NormalInRange e.ac
 
 pub edges_in_range : {p : Polygon} {t : List ℕ} → ValidPolygon p → Corners p t → EdgesInRange (edges_of p t)
 edges_in_range {p} {t} v c =

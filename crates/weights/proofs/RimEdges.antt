@@ -23,9 +23,8 @@ use Rattle.terms.specs.Entries.{vertex_a, vertex_b, vertex_c}
 use Rattle.dihedrals.specs.Dihedrals.{face_normal}
 use Rattle.dihedrals.proofs.Faces.{face_within}
 use Rattle.weights.specs.Weights.{next_vertex, is_corner, has_rim_edge, rim_bend, rim_bends, area_weight, own_weight}
-use Rattle.weights.specs.Edges.{edge_normal, outside_weight_of, own_weight_of, max_own_weight}
+use Rattle.weights.specs.Edges.{edge_normal, edges_of, outside_weight_of, own_weight_of, max_own_weight}
 use Rattle.weights.proofs.Surfaces.{of_the_next, of_the_last, not_from_0, not_to_the_last, outside_none, outside_bound}
-use Rattle.weights.proofs.Edges.{edges_of}
 
 same_or_not : (x y : ℕ) → (x ≡ y) ⊎ (x ≡ y → ⊥)
 same_or_not x y = by (eqb x y) refl

@@ -3,11 +3,12 @@ use Rattle.std.specs.Prelude.{◌≡◌, Bool, cond, List, ℕ, ◌+◌, ◌*◌
 use Rattle.lists.specs.Lists.{both}
 use Rattle.polygon.specs.declared.Polygon.{Polygon}
 use Rattle.polygon.specs.declared.normal.Normal.{Normal}
-use Rattle.polygon.specs.Normal.{no_normal, is_none, NormalInRange}
+use Rattle.polygon.specs.Normal.{no_normal, is_none, normal_at}
 use Rattle.geometry.specs.declared.Vector.{Vector}
 use Rattle.terms.specs.Limits.{max_area_factor, max_bend_factor}
 use Rattle.geometry.specs.Bounds.{max_length, max_bend}
 use Rattle.geometry.specs.Faces.{length_of, area_weight_of, bend_between, bend_weight_of}
+use Rattle.terms.specs.Entries.{vertex_a, vertex_b, vertex_c}
 use Rattle.dihedrals.specs.Dihedrals.{lengths_of}
 use Rattle.dihedrals.specs.Lists.{ProperCandidates}
 use Rattle.weights.specs.declared.outside.EdgeNormals.{EdgeNormals}
@@ -22,10 +23,12 @@ edge_normal n x y ofX ofY = cond (eqb y (x + 1)) ofX (cond (both (eqb x 0) (eqb 
 abbrev pub edge_normals : ℕ → ℕ → ℕ → ℕ → Normal → Normal → Normal → EdgeNormals
 edge_normals n a b c ofA ofB ofC = record { ab = edge_normal n a b ofA ofB; bc = edge_normal n b c ofB ofC; ac = edge_normal n a c ofA ofC }
 
-pub record EdgesInRange (e : EdgeNormals) : Type 0 where
-  pub of_ab : NormalInRange e.ab
-  pub of_bc : NormalInRange e.bc
-  pub of_ac : NormalInRange e.ac
+-- those of a candidate
+abbrev pub edges_at : Polygon → ℕ → ℕ → ℕ → EdgeNormals
+edges_at p a b c = edge_normals p.n a b c (normal_at p.normals a) (normal_at p.normals b) (normal_at p.normals c)
+
+abbrev pub edges_of : Polygon → List ℕ → EdgeNormals
+edges_of p t = edges_at p (vertex_a t) (vertex_b t) (vertex_c t)
 
 abbrev pub all_none : EdgeNormals → Bool
 all_none e = both (is_none e.ab) (both (is_none e.bc) (is_none e.ac))

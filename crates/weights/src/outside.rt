@@ -1,21 +1,25 @@
 // The surface outside an edge of a candidate: its normal, and the weight of the bend between the two.
 ghost use Rattle.std.specs.Prelude.{◌≡◌, ◌≤◌, ◌<◌};
 ghost use Rattle.terms.specs.Limits.{max_vertices, max_bend_factor};
-ghost use Rattle.polygon.specs.Normal.{NormalInRange};
-ghost use Rattle.dihedrals.specs.Lists.{Measured};
+ghost use Rattle.terms.specs.Entries.{vertex_a, vertex_b, vertex_c};
+ghost use Rattle.polygon.specs.Normal.{normal_at, NormalInRange};
 ghost use Rattle.weights.specs.Weights.{vector_of};
-ghost use Rattle.weights.specs.Edges.{edge_normal, edge_normals, all_none, outside_weight_of};
+ghost use Rattle.weights.specs.Edges.{edge_normal, edges_of, all_none, outside_weight_of};
 
+use dihedrals::MeasuredNormal;
 use geometry::{Vector, face};
+use polygon::Polygon;
 use polygon::normal::Normal;
 
+// A function: neither type is of this crate, so that it cannot have an impl of From.
 fn vector(normal: Normal) -> Vector
     ensures { result ≡ vector_of normal }
 {
-    let x = normal.x as i64;
-    let y = normal.y as i64;
-    let z = normal.z as i64;
-    Vector { x, y, z }
+    Vector {
+        x: i64::from(normal.x),
+        y: i64::from(normal.y),
+        z: i64::from(normal.z),
+    }
 }
 
 // The normals outside the three edges of a candidate.
@@ -31,64 +35,47 @@ impl EdgeNormals {
     pub(crate) fn all_none(self) -> bool
         ensures { result ≡ all_none self }
     {
-        let ab = self.ab;
-        let bc = self.bc;
-        let ac = self.ac;
-        if !ab.is_none() {
-            return false;
-        }
-        if !bc.is_none() {
-            return false;
-        }
-        ac.is_none()
+        self.ab.is_none() && self.bc.is_none() && self.ac.is_none()
     }
 }
 
-// The normal outside the edge of vertices x < y, which have the normals of_x and of_y.
-fn edge_normal(n: usize, x: usize, y: usize, of_x: Normal, of_y: Normal) -> Normal
+// The normal outside the edge of vertices x < y.
+fn edge_normal(p: &Polygon, x: usize, y: usize) -> Normal
     requires { (x < max_vertices) × (y < max_vertices) }
-    ensures { result ≡ edge_normal n x y of_x of_y }
+    ensures { result ≡ edge_normal p.now.n x y (normal_at p.now.normals x) (normal_at p.now.normals y) }
 {
     if y == x + 1 {
-        return of_x;
+        p.normals[x]
+    } else if x == 0 && y + 1 == p.n {
+        p.normals[y]
+    } else {
+        Normal::none()
     }
-    if x != 0 {
-        return Normal::none();
-    }
-    if y + 1 == n {
-        return of_y;
-    }
-    Normal::none()
 }
 
-pub(crate) fn edge_normals(
-    n: usize,
-    a: usize,
-    b: usize,
-    c: usize,
-    of_a: Normal,
-    of_b: Normal,
-    of_c: Normal,
-) -> EdgeNormals
-    requires { (a < max_vertices) × (b < max_vertices) × (c < max_vertices) }
-    ensures { result ≡ edge_normals n a b c of_a of_b of_c }
+pub(crate) fn edge_normals(p: &Polygon, t: [u8; 3]) -> EdgeNormals
+    requires { (vertex_a t < max_vertices) × (vertex_b t < max_vertices) × (vertex_c t < max_vertices) }
+    ensures { result ≡ edges_of p.now t }
 {
+    let a = usize::from(t[0]);
+    let b = usize::from(t[1]);
+    let c = usize::from(t[2]);
     EdgeNormals {
-        ab: edge_normal(n, a, b, of_a, of_b),
-        bc: edge_normal(n, b, c, of_b, of_c),
-        ac: edge_normal(n, a, c, of_a, of_c),
+        ab: edge_normal(p, a, b),
+        bc: edge_normal(p, b, c),
+        ac: edge_normal(p, a, c),
     }
 }
 
-// The weight of the bend between a triangle, by its normal and the length of this, and the surface outside.
-pub(crate) fn weight(factor: u32, normal: Vector, m: u32, outside: Normal) -> u32
-    requires { (factor ≤ max_bend_factor) × (Measured normal m) × (NormalInRange outside) }
-    ensures { result ≡ outside_weight_of factor normal outside }
+// The weight of the bend between a triangle, by its normal, and the surface outside.
+pub(crate) fn weight(factor: u32, inside: MeasuredNormal, outside: Normal) -> u32
+    requires { (factor ≤ max_bend_factor) × (NormalInRange outside) }
+    ensures { result ≡ outside_weight_of factor inside.normal outside }
 {
     if outside.is_none() {
         return 0;
     }
     let k = vector(outside);
-    let d = geometry::dot(normal, k);
-    face::bend_weight(factor, face::bend(d, m, face::normal_length(k)))
+    let d = geometry::dot(inside.normal, k);
+    face::bend_weight(factor, face::bend(d, inside.length, face::normal_length(k)))
 }

@@ -1,5 +1,10 @@
 -- `answers::find_answer` meets its contract. Assumes nothing.
+use mathlib.Core.Path.{sym, ap}
+use Rattle.answers.specs.Answers.{find_answer_of}
 use Rattle.answers.proofs.find_answer.Goals as goal
 
-pub returns : goal.returns
-returns c = λ i. record { number = c.number-number.ensures i; candidates = c.candidate_count-candidates.ensures i; rows = c.row_count-rows.ensures i }
+pub returns-in-Ok : goal.returns-in-Ok
+returns-in-Ok c = ap find_answer_of (sym c.in-Ok.is)
+
+pub returns-in-Err : goal.returns-in-Err
+returns-in-Err c = ap find_answer_of (sym c.in-Err.is)

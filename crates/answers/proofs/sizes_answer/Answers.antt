@@ -3,8 +3,8 @@ use mathlib.Core.Path.{sym, ap}
 use Rattle.answers.specs.Answers.{sizes_answer_of}
 use Rattle.answers.proofs.sizes_answer.Goals as goal
 
-pub returns-in-Known : goal.returns-in-Known
-returns-in-Known c = ap sizes_answer_of (sym c.in-Known.is)
+pub returns-in-Ok : goal.returns-in-Ok
+returns-in-Ok c = ap sizes_answer_of (sym c.in-Ok.is)
 
-pub returns-in-Refused : goal.returns-in-Refused
-returns-in-Refused c = ap sizes_answer_of (sym c.in-Refused.is)
+pub returns-in-Err : goal.returns-in-Err
+returns-in-Err c = ap sizes_answer_of (sym c.in-Err.is)

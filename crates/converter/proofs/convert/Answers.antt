@@ -1,28 +1,22 @@
 -- `converter::convert` meets its contract. Assumes nothing.
-use mathlib.Core.Path.{sym, ap, ◌∙◌}
-use Rattle.reader.specs.declared.Reading.{Reading}
-use Rattle.converter.proofs.Answers.{read_zero, right_length, promised, call_refused, call_read}
+use mathlib.Core.Path.{ap, ◌∙◌}
+use mathlib.Core.List.{List}
+use Prim.Native.Nat.{ℕ}
+use Rattle.std.proofs.lemmas.Result.{err_from_is_err_and}
+use Rattle.rim_file.specs.File.{length_wrong}
+use Rattle.converter.specs.Call.{conversion_number, convert_by}
+use Rattle.converter.proofs.Answers.{read_zero, right_length, call_refused, call_read}
 use Rattle.converter.proofs.convert.Goals as goal
 
+pub returns-in_err-_polygon-clause-tables : goal.returns-in_err-_polygon-clause-tables
+returns-in_err-_polygon-clause-tables c =
+    let p = err_from_is_err_and c.from_residual.result c.from_residual.ensures.1 in
+    rw (p.1, p.2) (call_refused c.args.file.now c.args.out.now c.in_err-_polygon.ensures.0)
+
 pub carry-requires : goal.carry-requires
-carry-requires c =
-    let s = c in
-    right_length _ _
-    (read_zero _ _ (sym (ap (λ (r : Reading). r.status) c.read_polygon-reading.ensures.0) ∙ c.in-Complete.is))
+carry-requires c = ap length_wrong c.new.ensures ∙ right_length _ _ (read_zero _ _ c.in_ok-_polygon.ensures.0)
 
-pub returns-in-Refused : goal.returns-in-Refused
-returns-in-Refused c =
-    let s = c in
-    let both = promised s.args.file.now s.args.out.now
-    (call_refused s.args.file.now s.args.out.now
-    (sym (ap (λ (r : Reading). r.status) c.read_polygon-reading.ensures.0) ∙ c.in-Refused.is)) in
-    record { tables = both.0; values = both.1 }
-
-pub returns-in-Complete : goal.returns-in-Complete
-returns-in-Complete c =
-    let s = c in
-    let told = c in
-    let none = read_zero _ s.args.file.now
-    (sym (ap (λ (r : Reading). r.status) told.read_polygon-reading.ensures.0) ∙ told.in-Complete.is) in
-    let both = promised s.args.file.now s.args.out.now (c.carry.ensures ∙ call_read s.args.file.now s.args.out.now none) in
-    record { tables = both.0; values = both.1 }
+pub returns-clause-tables : goal.returns-clause-tables
+returns-clause-tables c =
+    c.carry.ensures ∙ ap (λ (s : List ℕ). convert_by (conversion_number s c.args.out.now) s c.args.out.now) c.new.ensures
+    ∙ call_read c.args.file.now c.args.out.now (read_zero _ _ c.in_ok-_polygon.ensures.0)

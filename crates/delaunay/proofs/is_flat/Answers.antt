@@ -1,87 +1,71 @@
 -- `delaunay::is_flat` meets its contract: at each loop's head the pairs before are in one plane with vertices 0 and 1. Assumes nothing.
-use mathlib.Core.Path.{◌≡◌, sym, ◌∙◌, ap, subst}
-use mathlib.Core.List.{List}
-use Prim.Native.Nat.{ℕ, ◌+◌, ◌<◌}
+use mathlib.Core.Path.{◌≡◌, sym, ◌∙◌, ap}
+use Prim.Native.Nat.{◌+◌, ◌<◌}
 use native.Mathlib.Omega.{arith}
 use lib.IntN.{pos}
 use lib.ListN.{get_or}
 use Rattle.integers.specs.Order.{equal}
 use Rattle.integers.proofs.Order.{zero_bits, other_bits}
 use Rattle.integers.proofs.Bounds.{signed_fits}
-use Rattle.polygon.specs.declared.Polygon.{Polygon}
-use Rattle.polygon.specs.Polygon.{ValidPolygon}
-use Rattle.geometry.specs.declared.sphere.Pencil.{Pencil}
 use Rattle.geometry.specs.declared.sphere.Sphere.{Sphere}
-use Rattle.geometry.specs.Bounds.{LiftedBounds, PencilBounds, SphereBounds}
-use Rattle.geometry.specs.Lifting.{pencil_of}
-use Rattle.geometry.proofs.Spheres.{pencil_bounds, sphere_bounds}
-use Rattle.delaunay_search.specs.Search.{Lifts, unlifted}
+use Rattle.geometry.specs.Lifting.{pencil_of, sphere_of}
+use Rattle.delaunay_search.specs.Search.{unlifted}
 use Rattle.geometry.specs.declared.sphere.Lifted.{Lifted}
-use Rattle.delaunay.proofs.Flat.{coplanar_with_on, after, after_at, after_long, pair_after, coplanar_on, found_solid, all_coplanar}
-use Rattle.delaunay_search.proofs.Lifting.{lift_in}
-use Rattle.delaunay.proofs.is_flat.Goals.{In-loop-seen}
+use Rattle.delaunay.proofs.Flat.{coplanar_with_on, after, after_long, pair_after, coplanar_on, found_solid, all_coplanar}
+use Rattle.std.proofs.lemmas.List.{get_or_default}
+use Rattle.delaunay_search.proofs.Lifting.{read}
+use Rattle.delaunay.proofs.is_flat.Goals.{In-loop-seen, After-pencil_through-pencil, After-circumsphere-ball}
 use Rattle.delaunay.proofs.is_flat.Goals as goal
-
-vertex_in : {p : Polygon} {lifted : List Lifted} → ValidPolygon p → Lifts p 0 lifted → (v : ℕ) → v < p.n → LiftedBounds (get_or lifted v unlifted)
-vertex_in valid lifts = lift_in valid (omega (arith, valid.least)) lifts
-
-pencil_within : {p : Polygon} {lifted : List Lifted} {k : Pencil} → ValidPolygon p → Lifts p 0 lifted → (c : ℕ) → c < p.n →
-    k ≡ pencil_of (get_or lifted 1 unlifted) (get_or lifted c unlifted) → PencilBounds k
-pencil_within valid lifts c c<n e =
-    subst (λ (k : Pencil). PencilBounds k) (sym e) (pencil_bounds (vertex_in valid lifts 1 (omega (arith, valid.least))) (vertex_in valid lifts c c<n))
 
 -- at a vertex of the last loop
 module _ (s : goal.In-loop-seen) where
   seen<n : s.loop-c.c + 1 + s.loop-seen.seen-index < s.args.p.n
   seen<n =
-      let long = after_long s.args.p.n s.loop-c.c s.lift_vertices-lifted.result (omega (arith, s.requires.most, s.lift_vertices-lifted.ensures.long)) in
+      let long = after_long s.args.p.n s.loop-c.c s.lift_vertices-table.result (omega (arith, s.requires.most, s.lift_vertices-table.ensures.long)) in
       omega (arith, long, s.loop-seen-test.true)
 
-  seen_in : LiftedBounds (get_or (after s.args.p.n s.loop-c.c s.lift_vertices-lifted.result) s.loop-seen.seen-index unlifted)
-  seen_in =
-      subst (λ (w : Lifted). LiftedBounds w) (sym (after_at s.args.p.n s.loop-c.c s.lift_vertices-lifted.result s.loop-seen.seen-index seen<n))
-      (vertex_in s.requires s.lift_vertices-lifted.ensures (s.loop-c.c + 1 + s.loop-seen.seen-index) seen<n)
+-- the pencil and the sphere, of elements as they are read
+pencil_read : (k : goal.After-pencil_through-pencil) →
+    k.pencil_through-pencil.result ≡ pencil_of (get_or k.lift_vertices-table.result 1 unlifted) (get_or k.lift_vertices-table.result k.loop-c.c unlifted)
+pencil_read k =
+    let lifts = k.lift_vertices-table.ensures in
+    let first = read (λ (w : Lifted). w) k.requires lifts 1 (omega (arith, k.requires.least)) k.index-lifted-1.result k.index-lifted-1.is in
+    let second = read (λ (w : Lifted). w) k.requires lifts k.loop-c.c k.loop-c-test.true k.index-lifted-c.result k.index-lifted-c.is in
+    k.pencil_through-pencil.ensures ∙ (λ i. pencil_of (first i) (second i))
 
-pub pencil_through-pencil-requires : goal.pencil_through-pencil-requires
-pencil_through-pencil-requires c = (
-  vertex_in c.requires c.lift_vertices-lifted.ensures 1 (omega (arith, c.requires.least)),
-  vertex_in c.requires
-      c.lift_vertices-lifted.ensures c.loop-c.c c.loop-c-test.true,
-)
+sphere_read : (e : goal.After-circumsphere-ball) → e.circumsphere-ball.result
+    ≡ sphere_of e.pencil_through-pencil.result (get_or (after e.args.p.n e.loop-c.c e.lift_vertices-table.result) e.loop-seen.seen-index unlifted)
+sphere_read e =
+    e.circumsphere-ball.ensures
+    ∙ ap (sphere_of e.pencil_through-pencil.result)
+    (e.seen-item.is ∙ get_or_default (after e.args.p.n e.loop-c.c e.lift_vertices-table.result) e.loop-seen.seen-index e.seen-item.result unlifted
+    e.loop-seen-test.true)
 
-pub circumsphere-ball-requires : goal.circumsphere-ball-requires
-circumsphere-ball-requires c =
-    let s = (goal.at.circumsphere-ball-requires c).In-loop-seen in (
-      pencil_within c.requires c.lift_vertices-lifted.ensures c.loop-c.c c.loop-c-test.true c.pencil_through-pencil.ensures,
-      seen_in s,
-    )
+pub loop-c-init : goal.loop-c-init
+loop-c-init c = (omega arith, record { pairs = λ k l h i. absurd (omega arith) })
 
 pub returns-then-ball-ne0 : goal.returns-then-ball-ne0
 returns-then-ball-ne0 c =
     let s = (goal.at.returns-then-ball-ne0 c).In-loop-seen in
-    let e = pair_after c.args.p.n c.loop-c.c c.lift_vertices-lifted.result c.pencil_through-pencil.ensures c.loop-seen.seen-index (seen<n s) in
-    sym (found_solid c.requires c.lift_vertices-lifted.ensures c.loop-c.c (c.loop-c.c + 1 + c.loop-seen.seen-index) c.loop-c.invariant.0
-    (omega arith) (seen<n s) (sym e ∙ ap (λ (b : Sphere). equal b.orient (pos 0)) (sym c.circumsphere-ball.ensures)
-    ∙ other_bits c.circumsphere-ball.result.orient c.if-ball-ne0.true))
+    let e = pair_after c.args.p.n c.loop-c.c c.lift_vertices-table.result (pencil_read (goal.at.returns-then-ball-ne0 c).After-pencil_through-pencil) c.loop-seen.seen-index (seen<n s) in
+    sym (found_solid c.requires c.lift_vertices-table.ensures c.loop-c.c (c.loop-c.c + 1 + c.loop-seen.seen-index) c.loop-c.invariant.0
+    (omega arith) (seen<n s) (sym e ∙ ap (λ (b : Sphere). equal b.orient (pos 0)) (sym (sphere_read (goal.at.returns-then-ball-ne0 c).After-circumsphere-ball))
+    ∙ sym (λ i. equal (c.ball.view_is i).orient (pos 0)) ∙ other_bits c.ball.inside.orient c.if-ball-ne0.true))
 
 pub loop-seen-preserved : goal.loop-seen-preserved
 loop-seen-preserved c =
-    let s = (goal.at.loop-seen-preserved c).In-loop-seen in
-    let ball_in : SphereBounds c.circumsphere-ball.result =
-    subst (λ (b : Sphere). SphereBounds b) (sym c.circumsphere-ball.ensures)
-    (sphere_bounds (pencil_within c.requires c.lift_vertices-lifted.ensures c.loop-c.c c.loop-c-test.true c.pencil_through-pencil.ensures) (seen_in s)) in
-    coplanar_with_on (ap (λ (b : Sphere). equal b.orient (pos 0)) (sym c.circumsphere-ball.ensures)
-    ∙ zero_bits c.circumsphere-ball.result.orient (signed_fits tt ball_in.orient_in) c.if-ball-ne0.false) c.loop-seen.invariant
+    coplanar_with_on (ap (λ (b : Sphere). equal b.orient (pos 0)) (sym (sphere_read (goal.at.loop-seen-preserved c).After-circumsphere-ball))
+    ∙ sym (λ i. equal (c.ball.view_is i).orient (pos 0)) ∙ zero_bits c.ball.inside.orient (signed_fits tt c.ball.invariant.orient_in) c.if-ball-ne0.false) c.loop-seen.invariant
 
 pub loop-c-preserved : goal.loop-c-preserved
 loop-c-preserved c =
-    let long = after_long c.args.p.n c.loop-c.c c.lift_vertices-lifted.result (omega (arith, c.requires.most, c.lift_vertices-lifted.ensures.long)) in (
+    let long = after_long c.args.p.n c.loop-c.c c.lift_vertices-table.result (omega (arith, c.requires.most, c.lift_vertices-table.ensures.long)) in (
       omega (arith, c.loop-c.invariant.0),
-      coplanar_on (pair_after c.args.p.n c.loop-c.c c.lift_vertices-lifted.result c.pencil_through-pencil.ensures) (omega (arith, long, c.loop-seen-test.false)) c.loop-seen.invariant
+      coplanar_on (pair_after c.args.p.n c.loop-c.c c.lift_vertices-table.result (pencil_read (goal.at.loop-c-preserved c).After-pencil_through-pencil)) (omega (arith, long, c.loop-seen-test.false)) c.loop-seen.invariant
           c.loop-c.invariant.1,
     )
 
 pub returns : goal.returns
 returns c =
-    sym (all_coplanar c.requires c.lift_vertices-lifted.ensures c.loop-c.c
+    sym (all_coplanar c.requires c.lift_vertices-table.ensures c.loop-c.c
     (λ h. omega (arith, c.loop-c-test.false)) c.loop-c.invariant.1)

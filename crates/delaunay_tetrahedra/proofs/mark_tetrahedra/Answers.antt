@@ -9,33 +9,42 @@ use Rattle.integers.proofs.Bounds.{signed_fits}
 use Rattle.polygon.specs.declared.Polygon.{Polygon}
 use Rattle.polygon.specs.Polygon.{ValidPolygon}
 use Rattle.geometry.specs.declared.sphere.Lifted.{Lifted}
+use lib.IntN.{pos}
+use Rattle.integers.specs.Order.{equal}
+use Rattle.geometry.specs.Values.{SphereValue}
 use Rattle.geometry.specs.declared.sphere.Sphere.{Sphere}
 use lib.ListN.{get_or}
 use Rattle.geometry.specs.declared.sphere.Pencil.{Pencil}
-use Rattle.geometry.specs.Lifting.{pencil_of}
+use Rattle.geometry.specs.Lifting.{pencil_of, sphere_of}
+use Rattle.geometry.specs.Facets.{separates_by, refuted_by}
 use Rattle.delaunay_search.specs.Search.{Lifts, unlifted}
-use Rattle.geometry.specs.Bounds.{SphereBounds}
 use Rattle.faces.proofs.Fours.{left3, left4, into2, into3, into4, out2, out3, out4}
 use Rattle.delaunay_tetrahedra.specs.Tetrahedra.{counts}
-use Rattle.delaunay_search.proofs.Marking.{kept_turn, kept_then}
+use Rattle.delaunay_search.proofs.Marking.{kept_start, kept_turn, kept_then}
 use Rattle.delaunay_search.proofs.Scanning.{scanned_in}
 use Rattle.delaunay_tetrahedra.proofs.Counting.{not_counts_flat}
-use Rattle.delaunay_search.proofs.Lifting.{lift_in, seen_long, seen_at}
-use Rattle.geometry.specs.Bounds.{LiftedBounds}
+use Rattle.delaunay_search.proofs.Lifting.{seen_long, read, seen_read}
 use Rattle.geometry.specs.Lifting.{position_by}
 use Rattle.faces.specs.Faces.{is_face}
 use Rattle.faces.specs.Masks.{Joined}
 use Rattle.delaunay_search.proofs.Placing.{is_inside_lem, not_inside_lem}
-use Rattle.delaunay_tetrahedra.proofs.Corners.{Three, vertex_in, pencil_in, none_counts, sphere_in, flat_is}
+use Rattle.delaunay_tetrahedra.proofs.Corners.{Three, none_counts, flat_is}
 use Rattle.delaunay_tetrahedra.proofs.Tetrahedra.{Hints, has_fifth, Kept, kept_skip, kept_leave, Four, four_dropped, three_left, vertex_passed}
 use Rattle.delaunay_tetrahedra.proofs.Tetrahedra.{four_counts, fifth_passed, four_cospherical, four_marked, twelve_due, all_marked}
-use Rattle.delaunay_tetrahedra.proofs.mark_tetrahedra.Goals.{After-pencil_through-pencil, After-scanned-v, After-locate-in-loop-v, At-loop-i, In-loop-v, In-four, In-three}
+use Rattle.delaunay_tetrahedra.proofs.mark_tetrahedra.Goals.{After-pencil_through-pencil, After-scanned-v, After-locate, After-locate-in-loop-v, At-loop-i, In-loop-v, In-four, In-three}
 use Rattle.delaunay_tetrahedra.proofs.mark_tetrahedra.Goals as goal
 
-three_of : {p : Polygon} {a b c : ℕ} {lifted : List Lifted} {k : Pencil} → ValidPolygon p → a < p.n - 3 → b < p.n - 2 → c < p.n - 1 →
-    Lifts p a lifted → k ≡ pencil_of (get_or lifted b unlifted) (get_or lifted c unlifted) → Three p a b c lifted k
-three_of valid a<n b<n c<n lifts spans =
-    record { valid = valid; a<n = omega (arith, a<n); b<n = omega (arith, b<n); c<n = omega (arith, c<n); lifts = lifts; spans = spans }
+three_of : {p : Polygon} {a b c : ℕ} {lifted : List Lifted} {k : Pencil} (x y : Lifted) → ValidPolygon p → a < p.n - 3 → b < p.n - 2 → c < p.n - 1 →
+    Lifts p a lifted → k ≡ pencil_of (get_or lifted b x) (get_or lifted c y) → Three p a b c lifted k
+three_of {b = b} {c = c} {lifted = lifted} x y valid a<n b<n c<n lifts spans = record {
+  valid = valid;
+  a<n = omega (arith, a<n);
+  b<n = omega (arith, b<n);
+  c<n = omega (arith, c<n);
+  lifts = lifts;
+  spans = read (pencil_of (get_or lifted b unlifted)) valid lifts c (omega (arith, c<n)) y
+      (read (λ (u : Lifted). pencil_of u (get_or lifted c y)) valid lifts b (omega (arith, b<n)) x spans);
+}
 
 -- at three corners
 module _ (g : goal.In-three) where
@@ -73,7 +82,7 @@ module _ (g : goal.In-three) where
 -- with their pencil
 module _ (k : goal.After-pencil_through-pencil) where
   three : Three k.args.p k.loop-a.a k.loop-b.b k.three.c k.lift_vertices-lifted.result k.pencil_through-pencil.result
-  three = three_of k.requires k.loop-a-test.true k.loop-b-test.true k.three-test.true k.lift_vertices-lifted.ensures k.pencil_through-pencil.ensures
+  three = three_of k.index-lifted-b.result k.index-lifted-c.result k.requires k.loop-a-test.true k.loop-b-test.true k.three-test.true k.lift_vertices-lifted.ensures k.pencil_through-pencil.ensures
 
 -- at four corners
 module _ (s : goal.In-four) where
@@ -87,7 +96,11 @@ module _ (s : goal.In-four) where
   known = s.four.invariant.1
 
   triangle : Three s.args.p s.loop-a.a s.loop-b.b s.three.c s.lift_vertices-lifted.result s.pencil_through-pencil.result
-  triangle = three_of s.requires s.loop-a-test.true s.loop-b-test.true s.three-test.true s.lift_vertices-lifted.ensures s.pencil_through-pencil.ensures
+  triangle = three_of s.index-lifted-b.result s.index-lifted-c.result s.requires s.loop-a-test.true s.loop-b-test.true s.three-test.true s.lift_vertices-lifted.ensures s.pencil_through-pencil.ensures
+
+-- the orientation of a sphere, read from its fields
+seen_orient : {s t : SphereValue} → s ≡ t → equal t.orient (pos 0) ≡ equal s.orient (pos 0)
+seen_orient e = sym (λ i. equal (e i).orient (pos 0))
 
 -- in the scan: they are not in one plane
 module _ (l : goal.At-loop-i) where
@@ -101,19 +114,20 @@ module _ (l : goal.At-loop-i) where
 
   triangle_of : Three l.args.p l.loop-a.a l.loop-b.b l.three.c l.lift_vertices-lifted.result l.pencil_through-pencil.result
   triangle_of =
-      three_of l.requires l.loop-a-test.true l.loop-b-test.true l.three-test.true l.lift_vertices-lifted.ensures l.pencil_through-pencil.ensures
+      three_of l.index-lifted-b.result l.index-lifted-c.result l.requires l.loop-a-test.true l.loop-b-test.true l.three-test.true l.lift_vertices-lifted.ensures l.pencil_through-pencil.ensures
+
+  through : ball ≡ sphere_of l.pencil_through-pencil.result (get_or l.lift_vertices-lifted.result l.four.d unlifted)
+  through = read (sphere_of l.pencil_through-pencil.result) l.requires l.lift_vertices-lifted.ensures l.four.d l.four-test.true l.index-lifted-d.result
+      l.circumsphere-ball.ensures
 
   four : FourAt l.three.c l.four.d
   four = record {
     three = triangle_of;
     d<n = l.four-test.true;
-    through = l.circumsphere-ball.ensures;
-    solid = sym (flat_is triangle_of l.four.d l.four-test.true l.circumsphere-ball.ensures) ∙ other_bits ball.orient l.if-ball-eq0.false;
+    through = through;
+    solid = sym (flat_is triangle_of l.four.d l.four-test.true through) ∙ seen_orient l.ball.view_is ∙ other_bits l.ball.inside.orient l.if-ball-eq0.false;
     kept = l.four.invariant.2;
   }
-
-  ball_in : SphereBounds ball
-  ball_in = sphere_in triangle_of l.four.d l.four-test.true l.circumsphere-ball.ensures
 
   -- no vertex is inside
   full : l.args.p.n + 1 ≤ l.loop-i.i → counts l.args.p l.loop-a.a l.loop-b.b l.three.c l.four.d ≡ true
@@ -131,60 +145,183 @@ seen_place : (k : goal.After-locate-in-loop-v) →
     k.locate-in-loop-v.result ≡ position_by k.circumsphere-ball.result (get_or k.lift_vertices-lifted.result k.loop-v.v unlifted)
 seen_place k =
     let h : k.loop-v.v < k.args.p.n = omega (arith, seen_long k.requires k.lift_vertices-lifted.ensures, k.loop-v-test.true) in
-    k.locate-in-loop-v.ensures ∙ ap (λ (s : Lifted). position_by k.circumsphere-ball.result s) (seen_at k.args.p _ _ h)
+    k.locate-in-loop-v.ensures ∙ ap (λ (s : Lifted). position_by k.circumsphere-ball.result s)
+    (seen_read k.requires k.lift_vertices-lifted.ensures k.loop-v.v h k.seen-item.result k.seen-item.is)
 
-pub pencil_through-pencil-requires : goal.pencil_through-pencil-requires
-pencil_through-pencil-requires c =
-    let g = (goal.at.pencil_through-pencil-requires c).In-three in
-    let l = g.lift_vertices-lifted.ensures in
-    (lift_in (valid g) (a<n g) l (B g) (b<n g), lift_in (valid g) (a<n g) l (C g) (c<n g))
+-- what the calls say of elements
+place_at : (w : goal.After-locate) → w.locate.result ≡ position_by w.circumsphere-ball.result (get_or w.lift_vertices-lifted.result w.scanned-v.result unlifted)
+place_at w =
+    let h = scanned_in _ w.loop-i.last w.loop-i.i w.scanned-v.result w.loop-i.invariant.known.last<n w.loop-i-test.true w.scanned-v.ensures in
+    read (position_by w.circumsphere-ball.result) w.requires w.lift_vertices-lifted.ensures w.scanned-v.result h w.index-lifted-v.result w.locate.ensures
+
+pub overflow_sub-a-end : goal.overflow_sub-a-end
+overflow_sub-a-end c = c.requires.least
+
+pub loop-a-init : goal.loop-a-init
+loop-a-init c = (omega (arith, c.requires.least), kept_start)
+
+pub lift_vertices-lifted-requires : goal.lift_vertices-lifted-requires
+lift_vertices-lifted-requires c = (c.requires, omega (arith, c.loop-a-test.true))
+
+pub overflow_step-b : goal.overflow_step-b
+overflow_step-b c = omega (arith, c.requires.most, c.loop-a-test.true)
+
+pub overflow_sub-b-end : goal.overflow_sub-b-end
+overflow_sub-b-end c = omega (arith, c.requires.least)
+
+pub loop-b-init : goal.loop-b-init
+loop-b-init c = (c.loop-a.invariant.0, kept_start)
+
+pub overflow_step-c : goal.overflow_step-c
+overflow_step-c c = omega (arith, c.requires.most, c.loop-b-test.true)
+
+pub overflow_sub-c-end : goal.overflow_sub-c-end
+overflow_sub-c-end c = omega (arith, c.requires.least)
+
+pub three-init : goal.three-init
+three-init c = (c.loop-b.invariant.0, kept_start)
+
+pub offset_bounds-lifted-b : goal.offset_bounds-lifted-b
+offset_bounds-lifted-b c = omega (arith, c.requires.most, b<n (goal.at.offset_bounds-lifted-b c).In-three)
+
+pub bounds-lifted-b : goal.bounds-lifted-b
+bounds-lifted-b c = omega (arith, c.requires.most, b<n (goal.at.bounds-lifted-b c).In-three)
+
+pub offset_bounds-lifted-c : goal.offset_bounds-lifted-c
+offset_bounds-lifted-c c = omega (arith, c.requires.most, c<n (goal.at.offset_bounds-lifted-c c).In-three)
+
+pub bounds-lifted-c : goal.bounds-lifted-c
+bounds-lifted-c c = omega (arith, c.requires.most, c<n (goal.at.bounds-lifted-c c).In-three)
+
+pub offset_bounds-lifted-apex : goal.offset_bounds-lifted-apex
+offset_bounds-lifted-apex c = omega (arith, c.requires.most, (hints (goal.at.offset_bounds-lifted-apex c).In-three).apex<n)
+
+pub bounds-lifted-apex : goal.bounds-lifted-apex
+bounds-lifted-apex c = omega (arith, c.requires.most, (hints (goal.at.bounds-lifted-apex c).In-three).apex<n)
+
+pub offset_bounds-lifted-last : goal.offset_bounds-lifted-last
+offset_bounds-lifted-last c = let g = (goal.at.offset_bounds-lifted-last c).In-three in omega (arith, c.requires.most, (hints g).last<n)
+
+pub bounds-lifted-last : goal.bounds-lifted-last
+bounds-lifted-last c = let g = (goal.at.bounds-lifted-last c).In-three in omega (arith, c.requires.most, (hints g).last<n)
 
 pub still_refuted-requires : goal.still_refuted-requires
-still_refuted-requires c =
-    let k = (goal.at.still_refuted-requires c).After-pencil_through-pencil in
-    let g = (goal.at.still_refuted-requires c).In-three in
-    (c.requires.most, c<n g, pencil_in (three k), vertex_in (three k) _ (hints g).apex<n, vertex_in (three k) _ (hints g).last<n)
+still_refuted-requires c = let g = (goal.at.still_refuted-requires c).In-three in (c.requires.most, c<n g)
+
+pub overflow_step-c-then-still_refuted : goal.overflow_step-c-then-still_refuted
+overflow_step-c-then-still_refuted c = let g = (goal.at.overflow_step-c-then-still_refuted c).In-three in omega (arith, c.requires.most, c<n g)
+
+pub three-smaller-then-still_refuted : goal.three-smaller-then-still_refuted
+three-smaller-then-still_refuted c = let g = (goal.at.three-smaller-then-still_refuted c).In-three in omega (arith, c<n g)
 
 pub three-preserved-then-still_refuted : goal.three-preserved-then-still_refuted
 three-preserved-then-still_refuted c =
     let k = (goal.at.three-preserved-then-still_refuted c).After-pencil_through-pencil in
     let g = (goal.at.three-preserved-then-still_refuted c).In-three in
-    (hints g, kept_leave _ _ _ _ _ (entered g) (none_counts (three k) _ _ (hints g).apex<n (hints g).last<n (c.still_refuted.ensures c.if-still_refuted.true)))
+    let lifts = c.lift_vertices-lifted.ensures in
+    let lifted = c.lift_vertices-lifted.result in
+    let pencil = c.pencil_through-pencil.result in
+    let refuted = sym (read (λ (w : Lifted). refuted_by pencil (get_or lifted c.three.apex unlifted) w) c.requires lifts c.three.last (hints g).last<n
+    c.index-lifted-last.result
+    (read (λ (s : Lifted). refuted_by pencil s (get_or lifted c.three.last c.index-lifted-last.result)) c.requires lifts c.three.apex (hints g).apex<n
+    c.index-lifted-apex.result (sym (c.still_refuted.ensures c.if-still_refuted.true)))) in
+    (hints g, kept_leave _ _ _ _ _ (entered g) (none_counts (three k) _ _ (hints g).apex<n (hints g).last<n refuted))
 
-pub circumsphere-ball-requires : goal.circumsphere-ball-requires
-circumsphere-ball-requires c = let s = (goal.at.circumsphere-ball-requires c).In-four in (pencil_in (triangle s), vertex_in (triangle s) (D s) (d<n s))
+pub overflow_step-d : goal.overflow_step-d
+overflow_step-d c = let g = (goal.at.overflow_step-d c).In-three in omega (arith, c.requires.most, c<n g)
+
+pub four-init : goal.four-init
+four-init c = (refl, hints (goal.at.four-init c).In-three, kept_start)
+
+pub offset_bounds-lifted-d : goal.offset_bounds-lifted-d
+offset_bounds-lifted-d c = omega (arith, c.requires.most, d<n (goal.at.offset_bounds-lifted-d c).In-four)
+
+pub bounds-lifted-d : goal.bounds-lifted-d
+bounds-lifted-d c = omega (arith, c.requires.most, d<n (goal.at.bounds-lifted-d c).In-four)
+
+pub overflow_step-d-then-ball-eq0 : goal.overflow_step-d-then-ball-eq0
+overflow_step-d-then-ball-eq0 c = let s = (goal.at.overflow_step-d-then-ball-eq0 c).In-four in omega (arith, c.requires.most, d<n s)
+
+pub four-smaller-then-ball-eq0 : goal.four-smaller-then-ball-eq0
+four-smaller-then-ball-eq0 c = let s = (goal.at.four-smaller-then-ball-eq0 c).In-four in omega (arith, d<n s)
 
 pub four-preserved-then-ball-eq0 : goal.four-preserved-then-ball-eq0
 four-preserved-then-ball-eq0 c =
     let s = (goal.at.four-preserved-then-ball-eq0 c).In-four in
-    let e = c.circumsphere-ball.ensures in
-    let flat = zero_bits _ (signed_fits tt (sphere_in (triangle s) (D s) (d<n s) e).orient_in) c.if-ball-eq0.true in
+    let e = read (sphere_of c.pencil_through-pencil.result) c.requires c.lift_vertices-lifted.ensures (D s) (d<n s) c.index-lifted-d.result c.circumsphere-ball.ensures in
+    let flat = seen_orient c.ball.view_is ∙ zero_bits c.ball.inside.orient (signed_fits tt c.ball.invariant.orient_in) c.if-ball-eq0.true in
     (refl, known s, kept_skip _ _ _ _ (D s) s.four.invariant.2 (d<n s) (not_counts_flat _ _ _ _ _ (sym (flat_is (triangle s) (D s) (d<n s) e) ∙ flat)))
 
-pub locate-requires : goal.locate-requires
-locate-requires c = let w = (goal.at.locate-requires c).After-scanned-v in
-    (ball_in (goal.at.locate-requires c).At-loop-i, vertex_in (four (goal.at.locate-requires c).At-loop-i).three _ (v<n w))
+pub overflow_add-i-end : goal.overflow_add-i-end
+overflow_add-i-end c = let s = (goal.at.overflow_add-i-end c).In-four in omega (arith, c.requires.most)
 
-pub separates-requires : goal.separates-requires
-separates-requires c = let w = (goal.at.separates-requires c).After-scanned-v in let f = four (goal.at.separates-requires c).At-loop-i in
-    (pencil_in f.three, vertex_in f.three _ f.d<n, vertex_in f.three _ (v<n w))
+pub loop-i-init : goal.loop-i-init
+loop-i-init c = record { same_c = refl; same_d = refl; ahead = omega arith; known = known (goal.at.loop-i-init c).In-four; scanned = refl }
+
+pub offset_bounds-lifted-v : goal.offset_bounds-lifted-v
+offset_bounds-lifted-v c = omega (arith, c.requires.most, v<n (goal.at.offset_bounds-lifted-v c).After-scanned-v)
+
+pub bounds-lifted-v : goal.bounds-lifted-v
+bounds-lifted-v c = omega (arith, c.requires.most, v<n (goal.at.bounds-lifted-v c).After-scanned-v)
+
+pub offset_bounds-lifted-d-then-eq : goal.offset_bounds-lifted-d-then-eq
+offset_bounds-lifted-d-then-eq c = let f = four (goal.at.offset_bounds-lifted-d-then-eq c).At-loop-i in omega (arith, c.requires.most, f.d<n)
+
+pub bounds-lifted-d-then-eq : goal.bounds-lifted-d-then-eq
+bounds-lifted-d-then-eq c = let f = four (goal.at.bounds-lifted-d-then-eq c).At-loop-i in omega (arith, c.requires.most, f.d<n)
+
+pub offset_bounds-lifted-v-then-eq : goal.offset_bounds-lifted-v-then-eq
+offset_bounds-lifted-v-then-eq c = let w = (goal.at.offset_bounds-lifted-v-then-eq c).After-scanned-v in omega (arith, c.requires.most, v<n w)
+
+pub bounds-lifted-v-then-eq : goal.bounds-lifted-v-then-eq
+bounds-lifted-v-then-eq c = let w = (goal.at.bounds-lifted-v-then-eq c).After-scanned-v in omega (arith, c.requires.most, v<n w)
+
+pub listed-then-eq-2 : goal.listed-then-eq-2
+listed-then-eq-2 c =
+    omega (arith, c.requires.most, c.lift_vertices-lifted.ensures.long, v<n (goal.at.listed-then-eq-2 c).After-scanned-v)
+
+pub overflow_step-c-then-separates : goal.overflow_step-c-then-separates
+overflow_step-c-then-separates c = let f = four (goal.at.overflow_step-c-then-separates c).At-loop-i in omega (arith, c.requires.most, f.three.c<n)
+
+pub three-smaller-then-separates : goal.three-smaller-then-separates
+three-smaller-then-separates c = let l = (goal.at.three-smaller-then-separates c).At-loop-i in
+    omega (arith, c<n (goal.at.three-smaller-then-separates c).In-three)
 
 pub three-preserved-then-separates : goal.three-preserved-then-separates
 three-preserved-then-separates c =
     let t = c in
     let w = (goal.at.three-preserved-then-separates c).After-scanned-v in
-    let f = four (goal.at.three-preserved-then-separates c).At-loop-i in (
+    let f = four (goal.at.three-preserved-then-separates c).At-loop-i in
+    let lifts = c.lift_vertices-lifted.ensures in
+    let lifted = c.lift_vertices-lifted.result in
+    let pencil = c.pencil_through-pencil.result in
+    let parted = read (λ (u : Lifted). separates_by pencil (get_or lifted c.four.d unlifted) u) c.requires lifts c.scanned-v.result (v<n w)
+    c.index-lifted-v-then-eq.result
+    (read (λ (s : Lifted). separates_by pencil s (get_or lifted c.scanned-v.result c.index-lifted-v-then-eq.result)) c.requires lifts c.four.d f.d<n
+    c.index-lifted-d-then-eq.result c.separates.ensures) in (
       record { last<n = v<n w; apex<n = f.d<n },
       kept_then (entered (goal.at.three-preserved-then-separates c).In-three)
-          (three_left f _ (v<n w) t.locate.ensures (is_inside_lem _ (sym c.eq.ensures ∙ c.if-eq.true)) (sym c.separates.ensures ∙ c.if-separates.true)),
+          (three_left f _ (v<n w) (place_at (goal.at.three-preserved-then-separates c).After-locate) (is_inside_lem _ (sym c.eq.ensures ∙ c.if-eq.true)) (sym parted ∙ c.if-separates.true)),
     )
+
+pub overflow_step-d-then-eq : goal.overflow_step-d-then-eq
+overflow_step-d-then-eq c = let f = four (goal.at.overflow_step-d-then-eq c).At-loop-i in omega (arith, c.requires.most, f.d<n)
+
+pub four-smaller-then-eq : goal.four-smaller-then-eq
+four-smaller-then-eq c = let l = (goal.at.four-smaller-then-eq c).At-loop-i in omega (arith, d<n (goal.at.four-smaller-then-eq c).In-four)
 
 pub four-preserved-then-eq : goal.four-preserved-then-eq
 four-preserved-then-eq c =
     let t = c in
     let w = (goal.at.four-preserved-then-eq c).After-scanned-v in
     let l = (goal.at.four-preserved-then-eq c).At-loop-i in
-    (refl, record { last<n = v<n w; apex<n = l.loop-i.invariant.known.apex<n }, four_dropped (four l) _ (v<n w) t.locate.ensures (is_inside_lem _ (sym c.eq.ensures ∙ c.if-eq.true)))
+    (refl, record { last<n = v<n w; apex<n = l.loop-i.invariant.known.apex<n }, four_dropped (four l) _ (v<n w) (place_at (goal.at.four-preserved-then-eq c).After-locate) (is_inside_lem _ (sym c.eq.ensures ∙ c.if-eq.true)))
+
+pub overflow_step-i : goal.overflow_step-i
+overflow_step-i c = let w = (goal.at.overflow_step-i c).After-scanned-v in omega (arith, c.requires.most, w.loop-i-test.true)
+
+pub loop-i-smaller : goal.loop-i-smaller
+loop-i-smaller c = omega (arith, c.loop-i-test.true)
 
 pub loop-i-preserved : goal.loop-i-preserved
 loop-i-preserved c =
@@ -195,15 +332,9 @@ loop-i-preserved c =
       same_d = refl;
       ahead = omega (arith, w.loop-i-test.true);
       known = l.loop-i.invariant.known;
-      scanned = vertex_passed (four l) _ (v<n w) c.locate.ensures (not_inside_lem _ (sym c.eq.ensures ∙ c.if-eq.false)) l.loop-i.last l.loop-i.i w.scanned-v.ensures
+      scanned = vertex_passed (four l) _ (v<n w) (place_at (goal.at.loop-i-preserved c).After-locate) (not_inside_lem _ (sym c.eq.ensures ∙ c.if-eq.false)) l.loop-i.last l.loop-i.i w.scanned-v.ensures
           l.loop-i.invariant.scanned;
     }
-
-pub locate-requires-in-loop-v : goal.locate-requires-in-loop-v
-locate-requires-in-loop-v c =
-    let l = (goal.at.locate-requires-in-loop-v c).At-loop-i in
-    let h = looked<n (goal.at.locate-requires-in-loop-v c).In-loop-v in
-    (ball_in l, subst (λ (s : Lifted). LiftedBounds s) (sym (seen_at c.args.p _ _ h)) (vertex_in (four l).three _ h))
 
 pub returns-then-is_fifth : goal.returns-then-is_fifth
 returns-then-is_fifth c =
@@ -217,6 +348,12 @@ returns-then-is_fifth c =
     ∙ four_cospherical (four l) (full l c.loop-i-test.false) _ (looked<n (goal.at.returns-then-is_fifth c).In-loop-v)
     (seen_place (goal.at.returns-then-is_fifth c).After-locate-in-loop-v) c.is_fifth.ensures c.if-is_fifth.true) c.clear.ensures
 
+pub overflow_step-v : goal.overflow_step-v
+overflow_step-v c = omega (arith, c.requires.most, c.loop-v-test.true)
+
+pub loop-v-smaller : goal.loop-v-smaller
+loop-v-smaller c = omega (arith, c.loop-v-test.true)
+
 pub loop-v-preserved : goal.loop-v-preserved
 loop-v-preserved c =
     let l = (goal.at.loop-v-preserved c).At-loop-i in record {
@@ -224,6 +361,18 @@ loop-v-preserved c =
       passed = fifth_passed (four l) (full l c.loop-i-test.false) _ (looked<n (goal.at.loop-v-preserved c).In-loop-v)
           (seen_place (goal.at.loop-v-preserved c).After-locate-in-loop-v) c.is_fifth.ensures c.if-is_fifth.false c.loop-v.invariant.passed;
     }
+
+pub insert_faces-requires : goal.insert_faces-requires
+insert_faces-requires c =
+    let f = four (goal.at.insert_faces-requires c).At-loop-i in
+    let m = c.requires.most in
+    (omega (arith, m, f.three.a<n), omega (arith, m, f.three.b<n), omega (arith, m, f.three.c<n), omega (arith, m, f.d<n))
+
+pub overflow_step-d-in-four : goal.overflow_step-d-in-four
+overflow_step-d-in-four c = let f = four (goal.at.overflow_step-d-in-four c).At-loop-i in omega (arith, c.requires.most, f.d<n)
+
+pub four-smaller : goal.four-smaller
+four-smaller c = let l = (goal.at.four-smaller c).At-loop-i in omega (arith, d<n (goal.at.four-smaller c).In-four)
 
 pub four-preserved : goal.four-preserved
 four-preserved c =
@@ -235,6 +384,12 @@ four-preserved c =
           (subst (λ (s : List ℕ). Joined s (is_face c.loop-a.a c.loop-b.b l.three.c l.four.d) c.insert_faces.new.self)
           c.loop-v.invariant.same_set c.insert_faces.ensures.triangles),
     )
+
+pub overflow_step-c-in-three : goal.overflow_step-c-in-three
+overflow_step-c-in-three c = let g = (goal.at.overflow_step-c-in-three c).In-three in omega (arith, c.requires.most, c<n g)
+
+pub three-smaller : goal.three-smaller
+three-smaller c = let g = (goal.at.three-smaller c).In-three in omega (arith, c<n g)
 
 pub three-preserved : goal.three-preserved
 three-preserved c =

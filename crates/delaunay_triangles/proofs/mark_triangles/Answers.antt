@@ -8,23 +8,26 @@ use Rattle.integers.proofs.Order.{zero_bits, other_bits}
 use Rattle.integers.proofs.Bounds.{signed_fits}
 use Rattle.polygon.specs.Polygon.{vertex}
 use Rattle.planar.specs.Circles.{collinear}
+use Rattle.planar.specs.Seen.{circle_of}
 use Rattle.faces.proofs.Threes.{left3, into2, into3, out2, out3}
 use Rattle.delaunay_triangles.specs.Triangles.{counts_in_plane}
-use Rattle.delaunay_search.proofs.Marking.{kept_turn, kept_then}
+use Rattle.delaunay_search.proofs.Marking.{kept_start, kept_turn, kept_then}
 use Rattle.delaunay_search.proofs.Scanning.{scanned_in}
 use Rattle.delaunay_search.proofs.Placing.{is_inside_lem, not_inside_lem}
-use Rattle.delaunay_search.proofs.Lifting.{lift_in, seen_long, seen_at}
+use Rattle.delaunay_search.proofs.Lifting.{seen_long, read, seen_read}
 use lib.ListN.{get_or}
+use lib.IntN.{pos}
+use Rattle.integers.specs.Order.{equal}
+use Rattle.geometry.specs.Values.{SphereValue}
 use Rattle.geometry.specs.declared.sphere.Lifted.{Lifted}
-use Rattle.geometry.specs.Bounds.{LiftedBounds}
 use Rattle.geometry.specs.Lifting.{position_by}
 use Rattle.delaunay_search.specs.Search.{unlifted}
 use Rattle.faces.specs.Faces.{same_triple}
 use Rattle.faces.specs.Masks.{Joined}
-use Rattle.delaunay_triangles.proofs.Triangles.{has_fourth, Triangle, vertex_in, circle_in, line_is}
+use Rattle.delaunay_triangles.proofs.Triangles.{has_fourth, Triangle, line_is}
 use Rattle.delaunay_triangles.proofs.Triangles.{on_line, three_dropped, vertex_passed, three_counts, fourth_passed}
 use Rattle.delaunay_triangles.proofs.Triangles.{three_cocircular, three_marked, twelve_due, all_marked}
-use Rattle.delaunay_triangles.proofs.mark_triangles.Goals.{After-circle_through-circle, After-scanned-v, At-loop-i, In-loop-w, After-locate-in-loop-w, In-three}
+use Rattle.delaunay_triangles.proofs.mark_triangles.Goals.{After-circle_through-circle, After-scanned-v, After-locate, At-loop-i, In-loop-w, After-locate-in-loop-w, In-three}
 use Rattle.delaunay_triangles.proofs.mark_triangles.Goals as goal
 
 -- at three corners
@@ -46,9 +49,16 @@ module _ (k : goal.After-circle_through-circle) where
     b<n = omega (arith, k.loop-b-test.true);
     c<n = k.three-test.true;
     lifts = k.lift_vertices-lifted.ensures;
-    through = k.circle_through-circle.ensures;
+    through = read (circle_of (get_or k.lift_vertices-lifted.result k.loop-b.b unlifted)) k.requires.0 k.lift_vertices-lifted.ensures
+        k.three.c k.three-test.true k.index-lifted-c.result
+        (read (λ (u : Lifted). circle_of u (get_or k.lift_vertices-lifted.result k.three.c k.index-lifted-c.result)) k.requires.0
+        k.lift_vertices-lifted.ensures k.loop-b.b (omega (arith, k.loop-b-test.true)) k.index-lifted-b.result k.circle_through-circle.ensures);
     kept = k.three.invariant.1;
   }
+
+-- the orientation of a circle, read from its fields
+seen_orient : {s t : SphereValue} → s ≡ t → equal t.orient (pos 0) ≡ equal s.orient (pos 0)
+seen_orient e = sym (λ i. equal (e i).orient (pos 0))
 
 -- in the scan: they are not on one line
 module _ (l : goal.At-loop-i) where
@@ -61,12 +71,15 @@ module _ (l : goal.At-loop-i) where
     b<n = omega (arith, l.loop-b-test.true);
     c<n = l.three-test.true;
     lifts = l.lift_vertices-lifted.ensures;
-    through = l.circle_through-circle.ensures;
+    through = read (circle_of (get_or l.lift_vertices-lifted.result l.loop-b.b unlifted)) l.requires.0 l.lift_vertices-lifted.ensures
+        l.three.c l.three-test.true l.index-lifted-c.result
+        (read (λ (u : Lifted). circle_of u (get_or l.lift_vertices-lifted.result l.three.c l.index-lifted-c.result)) l.requires.0
+        l.lift_vertices-lifted.ensures l.loop-b.b (omega (arith, l.loop-b-test.true)) l.index-lifted-b.result l.circle_through-circle.ensures);
     kept = l.three.invariant.1;
   }
 
   proper : collinear (vertex l.args.p l.loop-a.a) (vertex l.args.p l.loop-b.b) (vertex l.args.p l.three.c) ≡ false
-  proper = sym (line_is three) ∙ other_bits l.circle_through-circle.result.orient l.if-circle-eq0.false
+  proper = sym (line_is three) ∙ seen_orient l.circle.view_is ∙ other_bits l.circle.inside.orient l.if-circle-eq0.false
 
   -- no vertex is inside
   full : l.args.p.n + 1 ≤ l.loop-i.i → counts_in_plane l.args.p l.loop-a.a l.loop-b.b l.three.c ≡ true
@@ -84,31 +97,88 @@ seen_place : (k : goal.After-locate-in-loop-w) →
     k.locate-in-loop-w.result ≡ position_by k.circle_through-circle.result (get_or k.lift_vertices-lifted.result k.loop-w.w unlifted)
 seen_place k =
     let h : k.loop-w.w < k.args.p.n = omega (arith, seen_long k.requires.0 k.lift_vertices-lifted.ensures, k.loop-w-test.true) in
-    k.locate-in-loop-w.ensures ∙ ap (λ (s : Lifted). position_by k.circle_through-circle.result s) (seen_at k.args.p _ _ h)
+    k.locate-in-loop-w.ensures ∙ ap (λ (s : Lifted). position_by k.circle_through-circle.result s)
+    (seen_read k.requires.0 k.lift_vertices-lifted.ensures k.loop-w.w h k.seen-item.result k.seen-item.is)
 
-pub circle_through-circle-requires : goal.circle_through-circle-requires
-circle_through-circle-requires c =
-    let g = (goal.at.circle_through-circle-requires c).In-three in
-    let l = g.lift_vertices-lifted.ensures in
-    (lift_in c.requires.0 (a<n g) l c.loop-b.b (b<n g), lift_in c.requires.0 (a<n g) l c.three.c c.three-test.true)
+-- where the vertex of a turn lies
+place_at : (w : goal.After-locate) → w.locate.result ≡ position_by w.circle_through-circle.result (get_or w.lift_vertices-lifted.result w.scanned-v.result unlifted)
+place_at w =
+    let h = scanned_in _ w.loop-i.last w.loop-i.i w.scanned-v.result w.loop-i.invariant.last<n w.loop-i-test.true w.scanned-v.ensures in
+    read (position_by w.circle_through-circle.result) w.requires.0 w.lift_vertices-lifted.ensures w.scanned-v.result h w.index-lifted-v.result w.locate.ensures
+
+pub overflow_sub-a-end : goal.overflow_sub-a-end
+overflow_sub-a-end c = omega (arith, c.requires.0.least)
+
+pub loop-a-init : goal.loop-a-init
+loop-a-init c = (omega (arith, c.requires.0.least), kept_start)
+
+pub lift_vertices-lifted-requires : goal.lift_vertices-lifted-requires
+lift_vertices-lifted-requires c = (c.requires.0, omega (arith, c.loop-a-test.true))
+
+pub overflow_step-b : goal.overflow_step-b
+overflow_step-b c = omega (arith, c.requires.0.most, c.loop-a-test.true)
+
+pub overflow_sub-b-end : goal.overflow_sub-b-end
+overflow_sub-b-end c = omega (arith, c.requires.0.least)
+
+pub loop-b-init : goal.loop-b-init
+loop-b-init c = (c.loop-a.invariant.0, kept_start)
+
+pub overflow_step-c : goal.overflow_step-c
+overflow_step-c c = omega (arith, c.requires.0.most, c.loop-b-test.true)
+
+pub three-init : goal.three-init
+three-init c = (c.loop-b.invariant.0, kept_start)
+
+pub offset_bounds-lifted-b : goal.offset_bounds-lifted-b
+offset_bounds-lifted-b c = omega (arith, c.requires.0.most, b<n (goal.at.offset_bounds-lifted-b c).In-three)
+
+pub bounds-lifted-b : goal.bounds-lifted-b
+bounds-lifted-b c = omega (arith, c.requires.0.most, b<n (goal.at.bounds-lifted-b c).In-three)
+
+pub offset_bounds-lifted-c : goal.offset_bounds-lifted-c
+offset_bounds-lifted-c c = omega (arith, c.requires.0.most, c.three-test.true)
+
+pub bounds-lifted-c : goal.bounds-lifted-c
+bounds-lifted-c c = omega (arith, c.requires.0.most, c.three-test.true)
+
+pub overflow_step-c-then-circle-eq0 : goal.overflow_step-c-then-circle-eq0
+overflow_step-c-then-circle-eq0 c = omega (arith, c.requires.0.most, c.three-test.true)
+
+pub three-smaller-then-circle-eq0 : goal.three-smaller-then-circle-eq0
+three-smaller-then-circle-eq0 c = omega (arith, c.three-test.true)
 
 pub three-preserved-then-circle-eq0 : goal.three-preserved-then-circle-eq0
 three-preserved-then-circle-eq0 c =
     let k = (goal.at.three-preserved-then-circle-eq0 c).After-circle_through-circle in
     let t = triangle k in (
       c.three.invariant.0,
-      on_line t (sym (line_is t) ∙ zero_bits c.circle_through-circle.result.orient (signed_fits tt (circle_in t).orient_in) c.if-circle-eq0.true),
+      on_line t (sym (line_is t) ∙ seen_orient c.circle.view_is ∙ zero_bits c.circle.inside.orient (signed_fits tt c.circle.invariant.orient_in) c.if-circle-eq0.true),
     )
 
-pub locate-requires : goal.locate-requires
-locate-requires c = let w = (goal.at.locate-requires c).After-scanned-v in let t = three (goal.at.locate-requires c).At-loop-i in
-    (circle_in t, vertex_in t _ (v<n w))
+pub overflow_add-i-end : goal.overflow_add-i-end
+overflow_add-i-end c = omega (arith, c.requires.0.most, c.three-test.true)
+
+pub loop-i-init : goal.loop-i-init
+loop-i-init c = record { same_c = refl; ahead = omega arith; last<n = c.three.invariant.0; scanned = refl }
+
+pub offset_bounds-lifted-v : goal.offset_bounds-lifted-v
+offset_bounds-lifted-v c = omega (arith, c.requires.0.most, v<n (goal.at.offset_bounds-lifted-v c).After-scanned-v)
+
+pub bounds-lifted-v : goal.bounds-lifted-v
+bounds-lifted-v c = omega (arith, c.requires.0.most, v<n (goal.at.bounds-lifted-v c).After-scanned-v)
 
 pub three-preserved-then-eq : goal.three-preserved-then-eq
 three-preserved-then-eq c =
     let w = (goal.at.three-preserved-then-eq c).After-scanned-v in
     let l = (goal.at.three-preserved-then-eq c).At-loop-i in
-    (v<n w, three_dropped (three l) (proper l) _ (v<n w) c.locate.ensures (is_inside_lem _ (sym c.eq.ensures ∙ c.if-eq.true)))
+    (v<n w, three_dropped (three l) (proper l) _ (v<n w) (place_at (goal.at.three-preserved-then-eq c).After-locate) (is_inside_lem _ (sym c.eq.ensures ∙ c.if-eq.true)))
+
+pub overflow_step-i : goal.overflow_step-i
+overflow_step-i c = let w = (goal.at.overflow_step-i c).After-scanned-v in omega (arith, c.requires.0.most, c.three-test.true, w.loop-i-test.true)
+
+pub loop-i-smaller : goal.loop-i-smaller
+loop-i-smaller c = let w = (goal.at.loop-i-smaller c).After-scanned-v in omega (arith, c.three-test.true, w.loop-i-test.true)
 
 pub loop-i-preserved : goal.loop-i-preserved
 loop-i-preserved c =
@@ -118,15 +188,9 @@ loop-i-preserved c =
       same_c = refl;
       ahead = omega (arith, w.loop-i-test.true, c.three-test.true);
       last<n = l.loop-i.invariant.last<n;
-      scanned = vertex_passed (three l) (proper l) _ (v<n w) c.locate.ensures (not_inside_lem _ (sym c.eq.ensures ∙ c.if-eq.false))
+      scanned = vertex_passed (three l) (proper l) _ (v<n w) (place_at (goal.at.loop-i-preserved c).After-locate) (not_inside_lem _ (sym c.eq.ensures ∙ c.if-eq.false))
           l.loop-i.last l.loop-i.i w.scanned-v.ensures l.loop-i.invariant.scanned;
     }
-
-pub locate-requires-in-loop-w : goal.locate-requires-in-loop-w
-locate-requires-in-loop-w c =
-    let t = three (goal.at.locate-requires-in-loop-w c).At-loop-i in
-    let h = w<n (goal.at.locate-requires-in-loop-w c).In-loop-w in
-    (circle_in t, subst (λ (s : Lifted). LiftedBounds s) (sym (seen_at c.args.p _ _ h)) (vertex_in t _ h))
 
 pub returns-then-is_fourth : goal.returns-then-is_fourth
 returns-then-is_fourth c =
@@ -140,6 +204,12 @@ returns-then-is_fourth c =
     ∙ three_cocircular (three l) (proper l) (full l c.loop-i-test.false) _ (w<n (goal.at.returns-then-is_fourth c).In-loop-w)
     (seen_place k) c.is_fourth.ensures c.if-is_fourth.true) c.clear.ensures
 
+pub overflow_step-w : goal.overflow_step-w
+overflow_step-w c = omega (arith, c.requires.0.most, c.loop-w-test.true)
+
+pub loop-w-smaller : goal.loop-w-smaller
+loop-w-smaller c = omega (arith, c.loop-w-test.true)
+
 pub loop-w-preserved : goal.loop-w-preserved
 loop-w-preserved c =
     let l = (goal.at.loop-w-preserved c).At-loop-i in record {
@@ -147,6 +217,18 @@ loop-w-preserved c =
       passed = fourth_passed (three l) (proper l) (full l c.loop-i-test.false) _ (w<n (goal.at.loop-w-preserved c).In-loop-w)
           (seen_place (goal.at.loop-w-preserved c).After-locate-in-loop-w) c.is_fourth.ensures c.if-is_fourth.false c.loop-w.invariant.passed;
     }
+
+pub insert-requires : goal.insert-requires
+insert-requires c =
+    let t = three (goal.at.insert-requires c).At-loop-i in
+    let m = c.requires.0.most in
+    (omega (arith, m, t.a<n), omega (arith, m, t.b<n), omega (arith, m, t.c<n))
+
+pub overflow_step-c-in-three : goal.overflow_step-c-in-three
+overflow_step-c-in-three c = let t = three (goal.at.overflow_step-c-in-three c).At-loop-i in omega (arith, c.requires.0.most, t.c<n)
+
+pub three-smaller : goal.three-smaller
+three-smaller c = omega (arith, c.three-test.true)
 
 pub three-preserved : goal.three-preserved
 three-preserved c =

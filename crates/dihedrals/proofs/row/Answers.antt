@@ -15,35 +15,29 @@ use Rattle.dihedrals.proofs.row.Goals.{After-dot-d}
 use Rattle.dihedrals.proofs.row.Goals as goal
 
 -- the dot product, as the machine hands it on
-dot-held : (c : goal.After-dot-d) → let s = c in Holds max_dot (dot_of s.args.inner s.args.outer) (bits c.dot-d.result)
-dot-held c = let s = c in returned tt c.dot-d.ensures (normals_dot s.requires.4.within s.requires.2.within)
+dot-held : (c : goal.After-dot-d) → Holds max_dot (dot_of c.args.inner.normal c.args.outer.normal) (bits c.dot-d.result)
+dot-held c = returned tt c.dot-d.ensures (normals_dot c.args.inner.measured.within c.args.outer.measured.within)
 
 pub dot-d-requires : goal.dot-d-requires
-dot-d-requires c = products_fit tt tt tt c.requires.4.within c.requires.2.within
+dot-d-requires c = products_fit tt tt tt c.args.inner.measured.within c.args.outer.measured.within
 
 pub bend-requires : goal.bend-requires
 bend-requires c =
-    let s = c in (
+    let inner = c.args.inner.measured in
+    let outer = c.args.outer.measured in (
       at_most_held (dot-held (goal.at.bend-requires c).After-dot-d),
-      s.requires.4.above_0,
-      omega (arith, s.requires.4.is, length_bound s.requires.4.within),
-      s.requires.2.above_0,
-      omega (arith, s.requires.2.is, length_bound s.requires.2.within),
+      inner.above_0,
+      omega (arith, inner.is, length_bound inner.within),
+      outer.above_0,
+      omega (arith, outer.is, length_bound outer.within),
     )
 
 pub bend_weight-weight-requires : goal.bend_weight-weight-requires
 bend_weight-weight-requires c = (c.requires.0, subst (λ (b : ℕ). b ≤ max_bend) (sym c.bend.ensures) (bend_bound _ _ _))
 
-pub overflow_cast-result : goal.overflow_cast-result
-overflow_cast-result c = let s = c in omega (arith, s.requires.1)
-
-pub overflow_cast-result-2 : goal.overflow_cast-result-2
-overflow_cast-result-2 c = let s = c in omega (arith, s.requires.3)
-
 pub returns : goal.returns
 returns c =
-    let s = c in
-    ap (λ (w : ℕ). s.args.o ∷ s.args.i ∷ w ∷ [])
+    ap (λ (w : ℕ). c.args.o ∷ c.args.i ∷ w ∷ [])
     (c.bend_weight-weight.ensures
-    ∙ ap (λ (b : ℕ). bend_weight_of s.args.factor b)
-    (c.bend.ensures ∙ (λ i. bend_of ((dot-held (goal.at.returns c).After-dot-d).value i) (s.requires.4.is i) (s.requires.2.is i))))
+    ∙ ap (λ (b : ℕ). bend_weight_of c.args.factor b)
+    (c.bend.ensures ∙ (λ i. bend_of ((dot-held (goal.at.returns c).After-dot-d).value i) (c.args.inner.measured.is i) (c.args.outer.measured.is i))))

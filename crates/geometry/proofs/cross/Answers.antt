@@ -3,7 +3,7 @@ use Prim.Native.Nat.{◌+◌}
 use lib.IntN.{◌-ℤ◌, ◌*ℤ◌}
 use Rattle.geometry.specs.Vectors.{cross_of}
 use Rattle.geometry.specs.Bounds.{third}
-use Rattle.integers.proofs.Bounds.{Holds, bits, stored, fits, product_fits, product_held, ◌-!◌}
+use Rattle.integers.proofs.Bounds.{Holds, bits, stored, fits, product_held, ◌-!◌}
 use Rattle.geometry.proofs.cross.Goals.{Start}
 use Rattle.geometry.proofs.cross.Goals as goal
 
@@ -20,29 +20,11 @@ module _ (s : goal.Start) where
       (bits (bits s.args.u.x *ℤ bits s.args.v.y) -ℤ bits (bits s.args.u.y *ℤ bits s.args.v.x))
   held_z = product_held tt s.requires.left.in_x s.requires.right.in_y s.requires.xy -! product_held tt s.requires.left.in_y s.requires.right.in_x s.requires.yx
 
-pub overflow_mul-result : goal.overflow_mul-result
-overflow_mul-result c = let s = c in product_fits tt s.requires.left.in_y s.requires.right.in_z s.requires.yz
-
-pub overflow_mul-result-2 : goal.overflow_mul-result-2
-overflow_mul-result-2 c = let s = c in product_fits tt s.requires.left.in_z s.requires.right.in_y s.requires.zy
-
 pub overflow_sub-result : goal.overflow_sub-result
 overflow_sub-result c = fits tt (held_x (goal.at.overflow_sub-result c).Start)
 
-pub overflow_mul-result-3 : goal.overflow_mul-result-3
-overflow_mul-result-3 c = let s = c in product_fits tt s.requires.left.in_z s.requires.right.in_x s.requires.zx
-
-pub overflow_mul-result-4 : goal.overflow_mul-result-4
-overflow_mul-result-4 c = let s = c in product_fits tt s.requires.left.in_x s.requires.right.in_z s.requires.xz
-
 pub overflow_sub-result-2 : goal.overflow_sub-result-2
 overflow_sub-result-2 c = fits tt (held_y (goal.at.overflow_sub-result-2 c).Start)
-
-pub overflow_mul-result-5 : goal.overflow_mul-result-5
-overflow_mul-result-5 c = let s = c in product_fits tt s.requires.left.in_x s.requires.right.in_y s.requires.xy
-
-pub overflow_mul-result-6 : goal.overflow_mul-result-6
-overflow_mul-result-6 c = let s = c in product_fits tt s.requires.left.in_y s.requires.right.in_x s.requires.yx
 
 pub overflow_sub-result-3 : goal.overflow_sub-result-3
 overflow_sub-result-3 c = fits tt (held_z (goal.at.overflow_sub-result-3 c).Start)

@@ -1,7 +1,7 @@
 -- `geometry::difference` meets its contract: each coordinate is a difference of two grid coordinates.
 use lib.IntN.{◌-ℤ◌}
 use Rattle.geometry.specs.Bounds.{max_difference}
-use Rattle.integers.proofs.Bounds.{Holds, bits, given, stored, fits, ◌-!◌}
+use Rattle.integers.proofs.Bounds.{Holds, bits, given, stored, ◌-!◌}
 use Rattle.geometry.proofs.Vectors.{coordinate}
 use Rattle.geometry.proofs.difference.Goals.{Start}
 use Rattle.geometry.proofs.difference.Goals as goal
@@ -15,15 +15,6 @@ module _ (s : goal.Start) where
 
   held_z : Holds max_difference (s.args.p.z -ℤ s.args.q.z) (bits s.args.p.z -ℤ bits s.args.q.z)
   held_z = given tt (coordinate s.requires.0.z) -! given tt (coordinate s.requires.1.z)
-
-pub overflow_sub-result : goal.overflow_sub-result
-overflow_sub-result c = fits tt (held_x (goal.at.overflow_sub-result c).Start)
-
-pub overflow_sub-result-2 : goal.overflow_sub-result-2
-overflow_sub-result-2 c = fits tt (held_y (goal.at.overflow_sub-result-2 c).Start)
-
-pub overflow_sub-result-3 : goal.overflow_sub-result-3
-overflow_sub-result-3 c = fits tt (held_z (goal.at.overflow_sub-result-3 c).Start)
 
 pub returns : goal.returns
 returns c =

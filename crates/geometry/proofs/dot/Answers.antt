@@ -1,7 +1,7 @@
 -- `geometry::dot` meets its contract: three products, each with its bound, and their sums.
 use lib.IntN.{◌*ℤ◌}
 use Rattle.geometry.specs.Bounds.{third}
-use Rattle.integers.proofs.Bounds.{Holds, bits, stored, fits, product_fits, product_held, ◌+!◌}
+use Rattle.integers.proofs.Bounds.{Holds, bits, stored, fits, product_held, ◌+!◌}
 use Rattle.geometry.proofs.dot.Goals.{Start}
 use Rattle.geometry.proofs.dot.Goals as goal
 
@@ -15,17 +15,8 @@ module _ (s : goal.Start) where
   held_z : Holds third (s.args.u.z *ℤ s.args.v.z) (bits (bits s.args.u.z *ℤ bits s.args.v.z))
   held_z = product_held tt s.requires.left.in_z s.requires.right.in_z s.requires.zz
 
-pub overflow_mul-result : goal.overflow_mul-result
-overflow_mul-result c = let s = c in product_fits tt s.requires.left.in_x s.requires.right.in_x s.requires.xx
-
-pub overflow_mul-result-2 : goal.overflow_mul-result-2
-overflow_mul-result-2 c = let s = c in product_fits tt s.requires.left.in_y s.requires.right.in_y s.requires.yy
-
 pub overflow_add-result : goal.overflow_add-result
 overflow_add-result c = let s = (goal.at.overflow_add-result c).Start in fits tt (held_x s +! held_y s)
-
-pub overflow_mul-result-3 : goal.overflow_mul-result-3
-overflow_mul-result-3 c = let s = c in product_fits tt s.requires.left.in_z s.requires.right.in_z s.requires.zz
 
 pub overflow_add-result-2 : goal.overflow_add-result-2
 overflow_add-result-2 c = let s = (goal.at.overflow_add-result-2 c).Start in fits tt (stored tt (held_x s +! held_y s) +! held_z s)

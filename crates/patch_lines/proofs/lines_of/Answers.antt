@@ -1,5 +1,5 @@
 -- `patch_lines::lines_of` meets its contract: the lines of the first k triangles are written. Assumes nothing.
-use mathlib.Core.Path.{refl}
+use Rattle.std.proofs.Common.{◌≡◌, rules}
 use mathlib.Core.List.{map}
 use native.Mathlib.Omega.{arith}
 use lib.ListN.{length-map, replicate}
@@ -13,7 +13,8 @@ loop-k-init c =
     let s = c in
     let patch = s.args.patch.now in
     let f = (line_of s.args.candidates.now s.args.weights.now s.args.rows.now s.args.patch.now) in
-    (refl, start (map f patch) (replicate line_places no_line) (omega (arith, length-map patch f, s.requires.1)))
+    let empty : c.default-lines.result ≡ no_line = search rules in
+    rw empty (start (map f patch) (replicate line_places no_line) (omega (arith, length-map patch f, s.requires.1)))
 
 pub line_of-requires : goal.line_of-requires
 line_of-requires c = c.requires.0
@@ -27,14 +28,12 @@ bounds-lines-k c = omega (arith, c.requires.1)
 pub loop-k-preserved : goal.loop-k-preserved
 loop-k-preserved c =
     let s = c in
-    let f = line_of s.args.candidates.now s.args.weights.now s.args.rows.now s.args.patch.now in (
-      refl,
-      push (turn (next_line f s.args.patch.now c.loop-k.k (omega arith)
-          c.number-t.ensures c.line_of.ensures) c.loop-k.invariant.1),
-    )
+    let f = line_of s.args.candidates.now s.args.weights.now s.args.rows.now s.args.patch.now in
+    push (turn (next_line f s.args.patch.now c.loop-k.k (omega arith)
+    c.from.ensures c.line_of.ensures) c.loop-k.invariant)
 
 pub returns : goal.returns
 returns c =
     let s = c in
     let f = (line_of s.args.candidates.now s.args.weights.now s.args.rows.now s.args.patch.now) in
-    (all (turn (rest_end f s.args.patch.now c.loop-k.k (omega arith)) c.loop-k.invariant.1)).1
+    (all (turn (rest_end f s.args.patch.now c.loop-k.k (omega arith)) c.loop-k.invariant)).1

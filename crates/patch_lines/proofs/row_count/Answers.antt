@@ -1,23 +1,15 @@
--- `patch_lines::row_count` meets its contract: the rows before place i are counted. Assumes nothing.
-use mathlib.Core.Path.{refl}
-use native.Mathlib.Omega.{arith}
-use Rattle.patch_lines.proofs.Counting.{count_stop, count_on, count_end}
+-- `patch_lines::row_count` meets its contract. Assumes nothing.
+use Rattle.std.proofs.Common.{◌≡◌, sym, ◌∙◌, true, false, arith, rules}
+use Rattle.std.proofs.lemmas.Iterator.{IsFirst-from_position, YieldsList-from_slice}
+use borrow.Author.Tests.{tests}
+use Rattle.patch_lines.proofs.Counting.{same_ends, count_is, count_within, first_or_length}
+use Rattle.std.specs.List.{position_or_len}
 use Rattle.patch_lines.proofs.row_count.Goals as goal
-
-pub loop-i-init : goal.loop-i-init
-loop-i-init c = (refl, omega arith, omega arith)
-
-pub returns-then-row : goal.returns-then-row
-returns-then-row c =
-    let rows = c.args.rows.now in
-    (omega (arith, c.loop-i.invariant.2, count_stop rows c.loop-i.i (omega arith) c.if-row.true), omega arith)
-
-pub loop-i-preserved : goal.loop-i-preserved
-loop-i-preserved c =
-    let rows = c.args.rows.now in
-    (refl, omega arith, omega (arith, c.loop-i.invariant.2, count_on rows c.loop-i.i (omega arith) c.if-row.false))
 
 pub returns : goal.returns
 returns c =
     let rows = c.args.rows.now in
-    (omega (arith, c.loop-i.invariant.2, count_end rows c.loop-i.i (omega arith)), omega arith)
+    let first = IsFirst-from_position _ _ c.position.result (λ r. same_ends r ≡ true) (λ r. same_ends r ≡ false) c.position.ensures.ran
+    (YieldsList-from_slice rows cc) (λ x q k. search (rules, tests)) (λ x q k. search (rules, tests)) in
+    let e : c.unwrap_or.result ≡ position_or_len same_ends rows = c.unwrap_or.ensures ∙ first_or_length same_ends rows c.position.result first in
+    (e ∙ sym (count_is rows), omega (arith, e, count_within rows))

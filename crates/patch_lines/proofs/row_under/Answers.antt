@@ -1,5 +1,5 @@
 -- `patch_lines::row_under` meets its contract: the triangles before place k are not what t hangs on. Assumes nothing.
-use mathlib.Core.Path.{refl, sym, ◌∙◌}
+use mathlib.Core.Path.{sym, ◌∙◌}
 use native.Mathlib.Omega.{arith}
 use Rattle.patch_lines.proofs.Hanging.{hangs_same, under_found, under_next, under_end}
 use Rattle.patch_lines.proofs.row_under.Goals as goal
@@ -12,27 +12,27 @@ returns-then-hangs_on c =
     let s = c in
     let candidates = s.args.candidates.now in
     let t = s.args.t in
-    let o = c.number-o.result in
+    let o = c.from-o.result in
     let e = sym (hangs_same candidates t o c.candidate_at-inner.ensures
     c.candidate_at-outer.ensures) ∙ sym c.hangs_on.ensures ∙ c.if-hangs_on.true in
     let next = under_found candidates s.args.rows.now s.args.patch.now t
-    c.loop-k.k (omega arith) c.number-o.ensures e in
-    c.row_weight.ensures ∙ sym next ∙ c.loop-k.invariant.1
+    c.loop-triangle.triangle-index (omega arith) c.from-o.ensures e in
+    c.row_weight.ensures ∙ sym next ∙ c.loop-triangle.invariant
 
-pub loop-k-preserved : goal.loop-k-preserved
-loop-k-preserved c =
+pub loop-triangle-preserved : goal.loop-triangle-preserved
+loop-triangle-preserved c =
     let s = c in
     let candidates = s.args.candidates.now in
     let t = s.args.t in
-    let o = c.number-o.result in
+    let o = c.from-o.result in
     let e = sym (hangs_same candidates t o c.candidate_at-inner.ensures
     c.candidate_at-outer.ensures) ∙ sym c.hangs_on.ensures ∙ c.if-hangs_on.false in
-    let next = under_next candidates s.args.rows.now s.args.patch.now t c.loop-k.k
-    (omega arith) c.number-o.ensures e in
-    (refl, sym next ∙ c.loop-k.invariant.1)
+    let next = under_next candidates s.args.rows.now s.args.patch.now t c.loop-triangle.triangle-index
+    (omega arith) c.from-o.ensures e in
+    sym next ∙ c.loop-triangle.invariant
 
 pub returns : goal.returns
 returns c =
     let s = c in
-    sym (under_end s.args.candidates.now s.args.rows.now s.args.patch.now s.args.t c.loop-k.k (omega arith))
-    ∙ c.loop-k.invariant.1
+    sym (under_end s.args.candidates.now s.args.rows.now s.args.patch.now s.args.t c.loop-triangle.triangle-index (omega arith))
+    ∙ c.loop-triangle.invariant

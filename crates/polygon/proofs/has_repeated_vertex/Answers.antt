@@ -1,49 +1,48 @@
 -- `polygon::has_repeated_vertex` meets its contract. Assumes nothing.
-use mathlib.Core.Path.{◌≡◌, refl, sym, ◌∙◌}
-use mathlib.Core.Bool.{true, false}
+use mathlib.Core.Path.{◌≡◌, refl, sym, ◌∙◌, ap}
+use Prim.Native.Nat.{◌≤◌, ◌<◌}
 use native.Mathlib.Omega.{arith}
+use lib.ListN.{length, get_or, take}
+use Rattle.std.proofs.Common.{rules}
+use Rattle.std.proofs.lemmas.List.{length-take, get_or-take}
+use Rattle.grid.specs.declared.GridPoint.{GridPoint}
+use Rattle.lists.specs.Lists.{some}
 use Rattle.lists.proofs.Ranges.{some_on, some_stop, some_end}
-use Rattle.polygon.specs.Polygon.{vertex_at, repeated_vertex}
-use Rattle.polygon.proofs.has_repeated_vertex.Invariants.{same, again}
+use Rattle.polygon.specs.Polygon.{origin, repeated_vertex, same_point, vertex_at}
+use Rattle.polygon.proofs.Points.{contained}
+use Rattle.polygon.proofs.has_repeated_vertex.Invariants.{again}
+use Rattle.polygon.proofs.has_repeated_vertex.Goals.{After-contains}
 use Rattle.polygon.proofs.has_repeated_vertex.Goals as goal
+
+-- the vertices before vertex j hold its point
+found : (c : goal.After-contains) → c.contains.result ≡ again c.args.vertices c.loop-j.j
+found c =
+    let vertices = c.args.vertices in
+    let j = c.loop-j.j in
+    let within : j ≤ length vertices = omega (arith, length-take c.args.n vertices) in
+    let below : j < c.args.n = omega (arith, length-take c.args.n vertices) in
+    c.contains.ensures.value
+    ∙ contained vertices (get_or (take c.args.n vertices) j origin) j within
+    ∙ ap (λ (q : GridPoint). some 0 j (λ i. same_point (vertex_at vertices i) q)) (get_or-take c.args.n vertices j origin below)
 
 pub loop-j-init : goal.loop-j-init
 unfolding repeated_vertex
 loop-j-init c = (omega arith, refl)
 
-pub returns-then-same_point : goal.returns-then-same_point
-returns-then-same_point c =
-    let inner = c in
-    let outer = inner in
-    let vertices = outer.args.vertices in
-    let n = outer.args.n in
-    let j = outer.loop-j.j in
-    let i = inner.loop-i.i in
-    let found : again vertices j ≡ true = sym inner.loop-i.invariant.1
-    ∙ some_stop i j (same vertices (vertex_at vertices j)) (omega arith) (sym c.same_point.ensures ∙ c.if-same_point.true) in
-    sym (some_stop j n (again vertices) (omega arith) found) ∙ outer.loop-j.invariant.1
-
-pub loop-i-preserved : goal.loop-i-preserved
-loop-i-preserved c =
-    let inner = c in
-    let outer = inner in
-    let vertices = outer.args.vertices in
-    let j = outer.loop-j.j in (
-      omega arith,
-      sym (some_on inner.loop-i.i j (same vertices (vertex_at vertices j)) (omega arith) (sym c.same_point.ensures ∙ c.if-same_point.false))
-          ∙ inner.loop-i.invariant.1,
-    )
-
 pub loop-j-preserved : goal.loop-j-preserved
 loop-j-preserved c =
-    let inner = c in
-    let outer = inner in
-    let vertices = outer.args.vertices in
-    let j = outer.loop-j.j in
-    let none : again vertices j ≡ false = sym inner.loop-i.invariant.1 ∙ some_end inner.loop-i.i j (same vertices (vertex_at vertices j)) (omega arith) in
-    (omega arith, sym (some_on j outer.args.n (again vertices) (omega arith) none) ∙ outer.loop-j.invariant.1)
+    let below : c.loop-j.j < c.args.n = omega (arith, length-take c.args.n c.args.vertices) in
+    let none = sym (found (goal.at.loop-j-preserved c).After-contains) ∙ c.if-contains.false in
+    (omega arith, sym (some_on c.loop-j.j c.args.n (again c.args.vertices) below none) ∙ c.loop-j.invariant.1)
+
+pub returns-then-contains : goal.returns-then-contains
+returns-then-contains c =
+    let below : c.loop-j.j < c.args.n = omega (arith, length-take c.args.n c.args.vertices) in
+    let again_here = sym (found (goal.at.returns-then-contains c).After-contains) ∙ c.if-contains.true in
+    sym (some_stop c.loop-j.j c.args.n (again c.args.vertices) below again_here) ∙ c.loop-j.invariant.1
 
 pub returns : goal.returns
 returns c =
-    let outer = c in
-    sym (some_end outer.loop-j.j outer.args.n (again outer.args.vertices) (omega arith)) ∙ outer.loop-j.invariant.1
+    let all : length c.args.vertices ≡ 64 = search rules in
+    let past : c.args.n ≤ c.loop-j.j = omega (arith, length-take c.args.n c.args.vertices) in
+    sym (some_end c.loop-j.j c.args.n (again c.args.vertices) past) ∙ c.loop-j.invariant.1

@@ -1,26 +1,26 @@
 -- `rows::run_end` meets its contract. Assumes nothing.
-use mathlib.Core.Path.{sym, ◌∙◌}
-use native.Mathlib.Omega.{arith}
-use Rattle.rows.proofs.Bisection.{cut_of, cut_up, cut_down, cut_count}
-use Rattle.rows.proofs.Runs.{run_start}
+use Rattle.std.proofs.Common.{rules, ap, drop, ◌-◌, length-drop, take_all, ◌∙◌, ◌+◌, ◌≤◌, arith, length}
+use Rattle.std.specs.List.{prefix_len}
+use Rattle.rows.specs.Search.{row_is_before}
+use Rattle.rows.proofs.Bisection.{cut_of}
+use Rattle.rows.proofs.Runs.{run_count}
 use Rattle.rows.proofs.run_end.Goals as goal
 
-pub loop-end-init : goal.loop-end-init
-loop-end-init c = run_start (cut_of _ _ _ c.requires.0 c.requires.1)
+pub offset_bounds-rows-start : goal.offset_bounds-rows-start
+offset_bounds-rows-start c =
+    let h : c.args.start ≤ length c.args.rows.now = omega (arith, (cut_of _ _ _ c.requires.0 c.requires.1).within) in search rules
 
-pub loop-end-preserved : goal.loop-end-preserved
-loop-end-preserved c =
-    let s = c in
-    let l = c.loop-end in
-    cut_up _ _ _ s.requires.0 _ l.invariant (omega arith) c.loop-end-test.true
-    (sym c.is_before.ensures ∙ c.if-is_before.true)
+pub slice_bounds-run_length-count : goal.slice_bounds-run_length-count
+slice_bounds-run_length-count c = (cut_of _ _ _ c.requires.0 c.requires.1).within
 
-pub returns-else-is_before : goal.returns-else-is_before
-returns-else-is_before c =
-    let s = c in
-    let l = c.loop-end in
-    cut_count _ _ _ s.requires.0 (cut_down _ _ _ s.requires.0 _ l.invariant (omega arith) c.loop-end-test.true
-    (sym c.is_before.ensures ∙ c.if-is_before.false)) (omega arith)
+pub slice_bounds-run_length-start : goal.slice_bounds-run_length-start
+slice_bounds-run_length-start c =
+    let h : c.args.start ≤ length c.args.rows.now = omega (arith, (cut_of _ _ _ c.requires.0 c.requires.1).within) in search rules
 
 pub returns : goal.returns
-returns c = cut_count _ _ _ c.requires.0 c.loop-end.invariant c.loop-end-test.false
+returns c =
+    let start = c.args.start in
+    let l = c.args.rows.now in
+    let all : length (drop start l) ≤ length l - start = omega (arith, length-drop start l) in
+    ap (λ n. start + n) (c.run_length.ensures.value ∙ ap (prefix_len (λ r. row_is_before r (c.args.outer + 1) 0)) (take_all _ _ all))
+    ∙ run_count l _ _ c.requires.0 c.requires.1

@@ -8,7 +8,7 @@ pub slice_bounds-result-end : goal.slice_bounds-result-end
 slice_bounds-result-end c = sym (length-take-le _ _ c.if-count-triangles.true)
 
 pub returns-then-count-triangles : goal.returns-then-count-triangles
-returns-then-count-triangles c = first_places_lem c.args.triangles.now c.triangles-count.ensures c.if-count-triangles.true
+returns-then-count-triangles c = first_places_lem c.args.triangles.now c.triangles_of-count.ensures c.if-count-triangles.true
 
 pub returns-else-count-triangles : goal.returns-else-count-triangles
-returns-else-count-triangles c = no_places_lem c.args.triangles.now c.triangles-count.ensures c.if-count-triangles.false
+returns-else-count-triangles c = no_places_lem c.args.triangles.now c.triangles_of-count.ensures c.if-count-triangles.false

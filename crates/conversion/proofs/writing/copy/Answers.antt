@@ -1,28 +1,17 @@
 -- `conversion::writing::copy` meets its contract. Assumes nothing.
-use mathlib.Core.Path.{◌≡◌, refl, ap, ◌∙◌}
-use Prim.Native.Nat.{ℕ}
+use mathlib.Core.Path.{◌≡◌, ap, ◌∙◌}
+use mathlib.Core.List.{List}
+use Prim.Native.Nat.{ℕ, ◌+◌, ◌-◌}
 use native.Mathlib.Omega.{arith}
-use lib.ListN.{length-set}
+use lib.ListN.{length, take, drop}
 use lib.Seq.{sets}
-use Rattle.conversion.specs.Converted.{bytes_at}
-use Rattle.conversion.proofs.Storing.{copied_next}
+use Rattle.conversion.proofs.Storing.{part_stored, bytes_length}
 use Rattle.conversion.proofs.writing.copy.Goals as goal
-
-pub loop-i-init : goal.loop-i-init
-loop-i-init c = (omega arith, refl, refl)
-
-pub loop-i-preserved : goal.loop-i-preserved
-loop-i-preserved c =
-    let l = c.loop-i in
-    let a = c.args in
-    (omega arith, simp length-set l.invariant.1, copied_next a.file.now a.out.now a.from a.to l.i l.invariant.2 (omega arith))
-
-pub shape_of-out : goal.shape_of-out
-shape_of-out c = c.loop-i.invariant.1
 
 pub returns : goal.returns
 returns c =
-    let l = c.loop-i in
     let a = c.args in
-    let e : l.i ≡ a.count = omega arith in
-    l.invariant.2 ∙ ap (λ (k : ℕ). sets a.out.now a.to (bytes_at a.file.now a.from k)) e
+    let e : a.from + a.count - a.from ≡ a.count = omega arith in
+    let same = c.copy_from_slice.ensures.after ∙ ap (λ (n : ℕ). take n (drop a.from a.file.now)) e in
+    part_stored _ a.out.now a.to (omega (arith, ap length same, bytes_length a.file.now a.from a.count (omega arith))) (omega arith)
+    ∙ ap (λ (l : List ℕ). sets a.out.now a.to l) same

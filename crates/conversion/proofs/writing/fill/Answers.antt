@@ -1,27 +1,20 @@
 -- `conversion::writing::fill` meets its contract. Assumes nothing.
-use mathlib.Core.Path.{◌≡◌, refl, ap, ◌∙◌}
-use Prim.Native.Nat.{ℕ}
+use mathlib.Core.Path.{◌≡◌, sym, ap, ◌∙◌}
+use mathlib.Core.List.{List}
+use Prim.Native.Nat.{ℕ, ◌+◌, ◌-◌}
 use native.Mathlib.Omega.{arith}
-use lib.ListN.{replicate, length-set}
+use lib.ListN.{length, take, drop, replicate}
 use lib.Seq.{sets}
-use Rattle.conversion.proofs.Storing.{filled_next}
+use Rattle.std.proofs.Common.{rules}
+use Rattle.conversion.proofs.Storing.{part_stored, bytes_length}
 use Rattle.conversion.proofs.writing.fill.Goals as goal
-
-pub loop-i-init : goal.loop-i-init
-loop-i-init c = (omega arith, refl, refl)
-
-pub loop-i-preserved : goal.loop-i-preserved
-loop-i-preserved c =
-    let l = c.loop-i in
-    let a = c.args in
-    (omega arith, simp length-set l.invariant.1, filled_next a.byte a.out.now a.to l.i l.invariant.2)
-
-pub shape_of-out : goal.shape_of-out
-shape_of-out c = c.loop-i.invariant.1
 
 pub returns : goal.returns
 returns c =
-    let l = c.loop-i in
     let a = c.args in
-    let e : l.i ≡ a.count = omega arith in
-    l.invariant.2 ∙ ap (λ (k : ℕ). sets a.out.now a.to (replicate k a.byte)) e
+    let e : a.to + a.count - a.to ≡ a.count = omega arith in
+    let same = c.fill.ensures.after (λ y h. search rules) in
+    let long = c.fill.ensures.len ∙ ap (λ (n : ℕ). length (take n (drop a.to a.out.now))) e in
+    part_stored _ a.out.now a.to (omega (arith, long, bytes_length a.out.now a.to a.count (omega arith))) (omega arith)
+    ∙ ap (λ (l : List ℕ). sets a.out.now a.to l)
+    (same ∙ ap (λ (n : ℕ). replicate n a.byte) (sym c.fill.ensures.len ∙ long ∙ bytes_length a.out.now a.to a.count (omega arith)))

@@ -1,4 +1,4 @@
--- `geometry::facet::separates` meets its contract.
+-- `geometry::facet::separates` meets its contract. The bounds are those of the pencil and of the lifted points.
 use mathlib.Core.Path.{◌≡◌, sym, ◌∙◌, ap}
 use mathlib.Core.Bool.{Bool}
 use lib.IntN.{ℤ, pos}
@@ -12,10 +12,14 @@ use Rattle.geometry.proofs.facet.separates.Goals as goal
 -- the two orientations
 module _ (c : goal.After-dot-j) where
   first : bits c.dot-i.result ≡ dot_of c.args.pencil.normal c.args.s.vector
-  first = (returned tt c.dot-i.ensures (at_most_dot c.requires.0.normal_in c.requires.1.vector_in)).value
+  first =
+      (returned tt c.dot-i.ensures (at_most_dot c.pencil.invariant.normal_in c.s.invariant.vector_in)).value
+      ∙ (λ i. dot_of (c.pencil.view_is i).normal (c.s.view_is i).vector)
 
   second : bits c.dot-j.result ≡ dot_of c.args.pencil.normal c.args.w.vector
-  second = (returned tt c.dot-j.ensures (at_most_dot c.requires.0.normal_in c.requires.2.vector_in)).value
+  second =
+      (returned tt c.dot-j.ensures (at_most_dot c.pencil.invariant.normal_in c.w.invariant.vector_in)).value
+      ∙ (λ i. dot_of (c.pencil.view_is i).normal (c.w.view_is i).vector)
 
   negative : {b : Bool} → lt_z (bits c.dot-i.result) (pos 0) ≡ b → lt_z (dot_of c.args.pencil.normal c.args.s.vector) (pos 0) ≡ b
   negative e = sym (ap (λ (z : ℤ). lt_z z (pos 0)) first) ∙ e
@@ -24,18 +28,22 @@ module _ (c : goal.After-dot-j) where
   positive e = sym (ap (λ (z : ℤ). lt_z (pos 0) z) first) ∙ e
 
 pub dot-i-requires : goal.dot-i-requires
-dot-i-requires c = products_fit tt tt tt c.requires.0.normal_in c.requires.1.vector_in
+dot-i-requires c = products_fit tt tt tt c.pencil.invariant.normal_in c.s.invariant.vector_in
 
 pub dot-j-requires : goal.dot-j-requires
-dot-j-requires c = products_fit tt tt tt c.requires.0.normal_in c.requires.2.vector_in
+dot-j-requires c = products_fit tt tt tt c.pencil.invariant.normal_in c.w.invariant.vector_in
 
 pub returns-then-i-lt0 : goal.returns-then-i-lt0
-returns-then-i-lt0 c = rw (negative (goal.at.returns-then-i-lt0 c).After-dot-j c.if-i-lt0.true)
-    (ap (λ (z : ℤ). le_z (pos 0) z) (second (goal.at.returns-then-i-lt0 c).After-dot-j))
+returns-then-i-lt0 c =
+    let d = (goal.at.returns-then-i-lt0 c).After-dot-j in
+    rw (negative d c.if-i-lt0.true) (ap (λ (z : ℤ). le_z (pos 0) z) (second d))
 
 pub returns-then-i-gt0 : goal.returns-then-i-gt0
-returns-then-i-gt0 c = let d = (goal.at.returns-then-i-gt0 c).After-dot-j in
+returns-then-i-gt0 c =
+    let d = (goal.at.returns-then-i-gt0 c).After-dot-j in
     rw (negative d c.if-i-lt0.false, positive d c.if-i-gt0.true) (ap (λ (z : ℤ). le_z z (pos 0)) (second d))
 
-pub returns : goal.returns
-returns c = let d = (goal.at.returns c).After-dot-j in rw (negative d c.if-i-lt0.false, positive d c.if-i-gt0.false)
+pub returns-else-i-gt0 : goal.returns-else-i-gt0
+returns-else-i-gt0 c =
+    let d = (goal.at.returns-else-i-gt0 c).After-dot-j in
+    rw (negative d c.if-i-lt0.false, positive d c.if-i-gt0.false) c.if-i-gt0.false

@@ -2,7 +2,7 @@
 use mathlib.Core.Path.{◌∙◌, ap}
 use Rattle.geometry.specs.Vectors.{square_of}
 use Rattle.geometry.specs.Bounds.{max_difference, Within}
-use Rattle.integers.proofs.Bounds.{returned}
+use Rattle.integers.proofs.Bounds.{returned, at_most_held}
 use Rattle.geometry.proofs.Vectors.{within_difference, within_as, at_most_dot, products_fit}
 use Rattle.geometry.proofs.sphere.lift.Goals.{After-difference-vector}
 use Rattle.geometry.proofs.sphere.lift.Goals as goal
@@ -16,6 +16,11 @@ difference-vector-requires c = (c.requires.1, c.requires.0)
 pub dot-square-requires : goal.dot-square-requires
 dot-square-requires c = products_fit tt tt tt (inside (goal.at.dot-square-requires c).After-difference-vector)
     (inside (goal.at.dot-square-requires c).After-difference-vector)
+
+pub invariant_of-result : goal.invariant_of-result
+invariant_of-result c =
+    let h = inside (goal.at.invariant_of-result c).After-difference-vector in
+    record { vector_in = h; square_in = at_most_held (returned tt c.dot-square.ensures (at_most_dot h h)) }
 
 pub returns : goal.returns
 returns c =

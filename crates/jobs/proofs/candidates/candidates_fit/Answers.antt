@@ -1,20 +1,24 @@
 -- `jobs::candidates::candidates_fit` meets its contract. Assumes nothing.
-use mathlib.Core.Path.{sym, ◌∙◌}
-use native.Mathlib.Omega.{arith}
-use Rattle.lists.proofs.Ranges.{every_on, every_stop, every_end}
+use Rattle.std.proofs.Common.{ℕ, List, [], rules, tests}
+use Rattle.std.proofs.lemmas.Iterator.{YieldsList-from_slice}
+use Rattle.std.proofs.lemmas.Iterator.Search.{all_from_yields_List}
+use Rattle.std.proofs.lemmas.List.Sorted.{answers_always}
+use Rattle.lists.proofs.Elements.{every_then, every_else}
+use Rattle.terms.specs.Entries.{before, vertex_a, vertex_b, vertex_c}
+use Rattle.jobs.specs.Job.{ascends, candidate_fits}
 use Rattle.jobs.proofs.candidates.candidates_fit.Goals as goal
 
-pub returns-then-not-candidate_fits : goal.returns-then-not-candidate_fits
-returns-then-not-candidate_fits c =
-    sym (sym c.loop-i.invariant.1
-    ∙ every_stop _ _ _ (omega arith) (sym c.candidate_fits.ensures ∙ c.if-not-candidate_fits.true))
+pub returns-then-all : goal.returns-then-all
+unfolding candidate_fits
+returns-then-all c =
+    let test = λ (t : List ℕ). ascends c.args.n (vertex_a t) (vertex_b t) (vertex_c t) in
+    let each = all_from_yields_List test _ _ c.all.result c.all.ensures.ran (YieldsList-from_slice c.args.candidates.now cc) (λ x b q k. search (rules, tests)) in
+    every_then test before [] c.args.candidates.now each c.if-all.true
+    (c.is_sorted_by.ensures.cases before (answers_always _ _ _ (λ f a r h q. q.met)))
 
-pub loop-i-preserved : goal.loop-i-preserved
-loop-i-preserved c = (
-  c.loop-i.invariant.0,
-  sym (every_on _ _ _ (omega arith) (sym c.candidate_fits.ensures ∙ c.if-not-candidate_fits.false))
-      ∙ c.loop-i.invariant.1,
-)
-
-pub returns : goal.returns
-returns c = sym (sym c.loop-i.invariant.1 ∙ every_end _ _ _ (omega arith))
+pub returns-else-all : goal.returns-else-all
+unfolding candidate_fits
+returns-else-all c =
+    let test = λ (t : List ℕ). ascends c.args.n (vertex_a t) (vertex_b t) (vertex_c t) in
+    let each = all_from_yields_List test _ _ c.all.result c.all.ensures.ran (YieldsList-from_slice c.args.candidates.now cc) (λ x b q k. search (rules, tests)) in
+    every_else test before [] c.args.candidates.now each c.if-all.false

@@ -1,15 +1,14 @@
 -- `jobs::weights::row_weights_fit` meets its contract. Assumes nothing.
-use mathlib.Core.Path.{sym, ◌∙◌}
-use borrow.Author.Tests.{le-leb, lt-leb}
-use native.Mathlib.Omega.{arith}
-use Rattle.lists.proofs.Ranges.{every_on, every_stop, every_end}
+use Rattle.std.proofs.Common.{List, [], ℕ, ◌∙◌, rules, tests, leb}
+use Rattle.std.proofs.lemmas.Iterator.{YieldsList-from_slice}
+use Rattle.std.proofs.lemmas.Iterator.Search.{all_from_yields_List}
+use Rattle.lists.proofs.Elements.{every_element}
+use Rattle.terms.specs.Limits.{max_weight}
+use Rattle.terms.specs.Entries.{row_weight}
 use Rattle.jobs.proofs.weights.row_weights_fit.Goals as goal
 
-pub returns-then-row-gt-MAX_WEIGHT : goal.returns-then-row-gt-MAX_WEIGHT
-returns-then-row-gt-MAX_WEIGHT c = sym (sym c.loop-i.invariant ∙ every_stop _ _ _ (omega arith) (lt-leb _ _ c.if-row-gt-MAX_WEIGHT.true))
-
-pub loop-i-preserved : goal.loop-i-preserved
-loop-i-preserved c = sym (every_on _ _ _ (omega arith) (le-leb _ _ (omega arith))) ∙ c.loop-i.invariant
-
 pub returns : goal.returns
-returns c = sym (sym c.loop-i.invariant ∙ every_end _ _ _ (omega arith))
+returns c =
+    let test = λ (row : List ℕ). leb (row_weight row) max_weight in
+    all_from_yields_List test _ _ _ c.all.ensures.ran (YieldsList-from_slice c.args.rows.now cc) (λ x b q k. search (rules, tests))
+    ∙ every_element test [] c.args.rows.now

@@ -1,15 +1,14 @@
 -- `jobs::weights::weights_fit` meets its contract. Assumes nothing.
-use mathlib.Core.Path.{sym, ◌∙◌}
-use borrow.Author.Tests.{le-leb, lt-leb}
-use native.Mathlib.Omega.{arith}
-use Rattle.lists.proofs.Ranges.{every_on, every_stop, every_end}
+use Rattle.std.proofs.Common.{ℕ, ◌∙◌, rules, tests, leb, take}
+use Rattle.std.proofs.lemmas.Iterator.{YieldsList-from_slice}
+use Rattle.std.proofs.lemmas.Iterator.Search.{all_from_yields_List}
+use Rattle.lists.proofs.Elements.{every_of_first}
+use Rattle.terms.specs.Limits.{max_weight}
 use Rattle.jobs.proofs.weights.weights_fit.Goals as goal
 
-pub returns-then-weights-i-gt-MAX_WEIGHT : goal.returns-then-weights-i-gt-MAX_WEIGHT
-returns-then-weights-i-gt-MAX_WEIGHT c = sym (sym c.loop-i.invariant ∙ every_stop _ _ _ (omega arith) (lt-leb _ _ c.if-weights-i-gt-MAX_WEIGHT.true))
-
-pub loop-i-preserved : goal.loop-i-preserved
-loop-i-preserved c = sym (every_on _ _ _ (omega arith) (le-leb _ _ (omega arith))) ∙ c.loop-i.invariant
-
 pub returns : goal.returns
-returns c = sym (sym c.loop-i.invariant ∙ every_end _ _ _ (omega arith))
+returns c =
+    let weights = c.args.weights.now in
+    let test = λ (w : ℕ). leb w max_weight in
+    all_from_yields_List test _ _ _ c.all.ensures.ran (YieldsList-from_slice (take c.args.count weights) cc) (λ x b q k. search (rules, tests))
+    ∙ every_of_first test 0 c.args.count weights c.requires

@@ -18,11 +18,6 @@ better-p-requires c =
       rw c.loop-u.invariant.2 (pick_bounded _ _ _ c.loop-u.u),
     )
 
-pub overflow_add-u : goal.overflow_add-u
-overflow_add-u c =
-    let s = c in
-    omega (arith, c.loop-u-test.true, (s.requires.0.at (s.args.i + 1) (omega (arith, s.requires.3))).within, s.well_formed.1.0)
-
 pub loop-u-preserved : goal.loop-u-preserved
 loop-u-preserved c =
     let s = c in

@@ -1,4 +1,4 @@
-use Prim.Native.Nat.{◌+◌, ◌-◌, ◌≤◌}
+use Prim.Native.Nat.{◌+◌, ◌≤◌}
 use mathlib.Core.Path.{◌≡◌}
 use lib.ListN.{get_or}
 use Rattle.triangulation.specs.Problems.{pair_weight}
@@ -9,6 +9,3 @@ abbrev pub invariant-loop-u : goal.invariant-loop-u
 invariant-loop-u l =
     (get_or l.starts l.i 0 ≤ l.u) × (l.u ≤ get_or l.starts (l.i + 1) 0)
     × (l.p ≡ pick_below (hung_on_edge l.candidates l.i l.j) (λ k. get_or l.work k 0) (pair_weight l.rows l.t) l.u)
-
-abbrev pub decreases-loop-u : goal.decreases-loop-u
-decreases-loop-u l = l.end - l.u

@@ -1,4 +1,5 @@
 -- `minimum_weight::choice::better` meets its contract. Assumes nothing.
+use mathlib.Core.Path.{◌∙◌}
 use native.Mathlib.Omega.{arith}
 use borrow.Author.Tests.{eq-eqb, ne_eqb}
 use Rattle.minimum_weight.proofs.Picks.{off_edge, no_lower, no_better, is_better}
@@ -11,16 +12,16 @@ pub returns-then-p-d : goal.returns-then-p-d
 returns-then-p-d c = no_lower _ _ _ _ _ c.if-p-d.true
 
 pub overflow_add-cost : goal.overflow_add-cost
-overflow_add-cost c = omega (arith, c.if-p-d.false, c.requires.3, c.row_weight-row.type_inv)
+overflow_add-cost c = omega (arith, c.if-p-d.false, c.requires.3, c.row_weight.type_inv, c.from-row.ensures)
 
 pub returns-then-cost-p : goal.returns-then-cost-p
 returns-then-cost-p c =
     is_better _ _ _ _ _ _ (eq-eqb _ _ c.if-triangle-j.false)
     (omega (arith, c.if-p-d.false, c.requires.3))
-    c.row_weight-row.ensures (omega (arith, c.if-cost-p.true))
+    (c.from-row.ensures ∙ c.row_weight.ensures) (omega (arith, c.if-cost-p.true))
 
 pub returns : goal.returns
 returns c =
     no_better _ _ _ _ _ _ (eq-eqb _ _ c.if-triangle-j.false)
     (omega (arith, c.if-p-d.false, c.requires.3))
-    c.row_weight-row.ensures (omega (arith, c.if-cost-p.false))
+    (c.from-row.ensures ∙ c.row_weight.ensures) (omega (arith, c.if-cost-p.false))

@@ -6,6 +6,3 @@ use Rattle.minimum_weight.proofs.costs.fill.Given as goal
 
 abbrev pub invariant-loop-v : goal.invariant-loop-v
 invariant-loop-v l = (l.v ≤ l.n) × Filled (problem_from l.n l.candidates l.weights l.rows) l.initial.work (get_or l.starts l.v 0) l.work
-
-abbrev pub decreases-loop-v : goal.decreases-loop-v
-decreases-loop-v l = l.v

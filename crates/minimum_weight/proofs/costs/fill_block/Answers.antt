@@ -48,8 +48,8 @@ slice_bounds-run-end c =
       run_within c.loop-t.t c.requires.well_formed.0.rows_ascend c.loop-t.invariant.1 c.run_end-last.ensures,
     )
 
-pub cost_of-cost-requires : goal.cost_of-cost-requires
-cost_of-cost-requires c =
+pub cost_of-requires : goal.cost_of-requires
+cost_of-requires c =
     let s = c in
     let ok = s.requires.well_formed.0 in
     let b = s.requires.well_formed.1 in
@@ -96,14 +96,6 @@ bounds-work-t c =
       l.invariant.0.long,
     )
 
-pub overflow_add-t : goal.overflow_add-t
-overflow_add-t c =
-    let s = c in
-    let ok = s.requires.well_formed.0 in
-    let b = s.requires.well_formed.1 in
-    let l = c.loop-t in
-    omega (arith, c.loop-t-test.true, (b.at (s.args.v + 1) (omega (arith, s.requires.well_formed.3))).within, ok.few)
-
 pub loop-t-preserved : goal.loop-t-preserved
 loop-t-preserved c =
     let s = c in
@@ -111,7 +103,7 @@ loop-t-preserved c =
     let b = s.requires.well_formed.1 in
     let l = c.loop-t in (
       filling_next _ _ _ s.requires.well_formed.2 (b.at (s.args.v + 1) (omega (arith, s.requires.well_formed.3))).within
-          c.loop-t-test.true c.cost_of-cost.ensures l.invariant.0,
+          c.loop-t-test.true c.cost_of.ensures l.invariant.0,
       c.run_end-last.ensures,
     )
 

@@ -1,4 +1,4 @@
-use Prim.Native.Nat.{◌+◌, ◌-◌}
+use Prim.Native.Nat.{◌+◌}
 use mathlib.Core.Path.{◌≡◌}
 use lib.ListN.{get_or}
 use Rattle.triangulation.specs.Problems.{problem_from}
@@ -10,6 +10,3 @@ abbrev pub invariant-loop-t : goal.invariant-loop-t
 invariant-loop-t l =
     Filling (problem_from l.n l.candidates l.weights l.rows) l.initial.work (get_or l.starts l.v 0) (get_or l.starts (l.v + 1) 0) l.t l.work
     × (l.first ≡ rows_before l.rows l.t 0)
-
-abbrev pub decreases-loop-t : goal.decreases-loop-t
-decreases-loop-t l = l.end - l.t

@@ -1,136 +1,68 @@
 -- `reader::walk::step` meets its contract. Assumes nothing.
 use native.Mathlib.Omega.{arith}
-use mathlib.Core.Path.{sym, ◌∙◌}
-use Rattle.rim_file.proofs.Layouts.{bounds, header_as, size_as, start_as}
-use Rattle.rim_file.proofs.Lengths.{whole, record_held}
+use mathlib.Core.Path.{sym, ap, ◌∙◌}
+use Rattle.codes.proofs.Refusals.{refused_answered, none_answered}
+use Rattle.polygon.specs.Normal.{normal_code}
+use Rattle.std.proofs.lemmas.Result.{err_from_is_err_and}
+use Rattle.rim_file.proofs.Lengths.{whole, held}
 use Rattle.reader.specs.Chain.{over_limit}
 use Rattle.reader.proofs.Answers.{over_least}
-use Rattle.reader.proofs.Walking.{positive, stopped_by, link_due, repeated_due, over_due, record_stops, normal_stops, record_passes}
+use Rattle.reader.proofs.Walking.{stopped_by, link_due, repeated_due, over_due, record_stops, normal_stops, record_passes}
 use Rattle.reader.proofs.walk.step.Goals as goal
 
-pub overflow_add-next : goal.overflow_add-next
-overflow_add-next c = let s = c in record { fits = omega (arith, s.requires.2.within, s.requires.4) }
-
 pub record_count-requires : goal.record_count-requires
-record_count-requires c = let s = c in (s.requires.0, (whole _ s.requires.1).header)
+record_count-requires c = (whole _ c.requires.0).header
+
+pub bounds-met-link : goal.bounds-met-link
+bounds-met-link c = omega (arith, (whole _ c.requires.0).few, c.record_count.ensures.0, c.if-record_count-link.false)
+
+pub vertex_at-requires : goal.vertex_at-requires
+vertex_at-requires c = ((held _ c.requires.0 c.requires.2 c.record_count.ensures.0 c.if-record_count-link.false c.record_start-at.ensures).start, c.requires.1.on_grid)
+
+pub normal_at-requires : goal.normal_at-requires
+normal_at-requires c = (held _ c.requires.0 c.requires.2 c.record_count.ensures.0 c.if-record_count-link.false c.record_start-at.ensures).whole
+
+pub bounds-met-link-2 : goal.bounds-met-link-2
+bounds-met-link-2 c = omega (arith, (whole _ c.requires.0).few, c.record_count.ensures.0, c.if-record_count-link.false)
+
+pub next_record-requires : goal.next_record-requires
+next_record-requires c = (held _ c.requires.0 c.requires.2 c.record_count.ensures.0 c.if-record_count-link.false c.record_start-at.ensures).start
 
 pub returns-then-record_count-link : goal.returns-then-record_count-link
 returns-then-record_count-link c =
-    let s = c in
-    stopped_by s.requires.2 3 (omega arith)
-    (link_due s.requires.2 (omega (arith, c.record_count.ensures.0, c.if-record_count-link.true))) c.stop.ensures
-
-pub bounds-met-link : goal.bounds-met-link
-bounds-met-link c =
-    let s = c in
-    let w = whole _ s.requires.1 in
-    omega (arith, w.few, c.record_count.ensures.0, c.if-record_count-link.false)
+    stopped_by c.requires.1 3 (omega arith) (link_due c.requires.1 (omega (arith, c.record_count.ensures.0, c.if-record_count-link.true)))
 
 pub returns-then-met-link : goal.returns-then-met-link
 returns-then-met-link c =
-    let past = c in
-    let s = past in
-    stopped_by s.requires.2 4 (omega arith)
-    (repeated_due s.requires.2 (omega (arith, past.record_count.ensures.0, past.if-record_count-link.false)) (whole _ s.requires.1).few c.if-met-link.true)
-    c.stop-then-met-link.ensures
+    stopped_by c.requires.1 4 (omega arith)
+    (repeated_due c.requires.1 (omega (arith, c.record_count.ensures.0, c.if-record_count-link.false)) (whole _ c.requires.0).few c.if-met-link.true)
 
 pub returns-then-n-limit : goal.returns-then-n-limit
 returns-then-n-limit c =
-    let past = c in
-    let s = past in
-    stopped_by s.requires.2 (over_limit s.args.limit) (omega (arith, over_least s.args.limit))
-    (over_due s.requires.2 (omega (arith, past.record_count.ensures.0, past.if-record_count-link.false))
-    (whole _ s.requires.1).few c.if-met-link.false
-    (omega (arith, c.if-n-limit.true, s.requires.2.within, s.requires.4)))
-    (c.stop-then-n-limit.ensures ∙ c.over_limit.ensures)
+    rw c.over_limit.ensures
+    (stopped_by c.requires.1 (over_limit c.args.limit) (omega (arith, over_least c.args.limit))
+    (over_due c.requires.1 (omega (arith, c.record_count.ensures.0, c.if-record_count-link.false))
+    (whole _ c.requires.0).few c.if-met-link.false
+    (omega (arith, c.if-n-limit.true, c.requires.1.within, c.requires.3))))
 
-pub record_start-at-requires : goal.record_start-at-requires
-record_start-at-requires c =
-    let past = c in
-    let s = past in
-    let b = bounds s.args.file.now in (
-      omega (arith, header_as _ s.requires.0, b.header),
-      omega (arith, size_as _ s.requires.0, b.most),
-      positive _ s.requires.3,
-      omega (arith, (whole _ s.requires.1).few, past.record_count.ensures.0, past.if-record_count-link.false),
-    )
+pub returns-in_err-vertex : goal.returns-in_err-vertex
+returns-in_err-vertex c =
+    let p = err_from_is_err_and c.from_residual.result c.from_residual.ensures.1 in
+    rw (p.1, p.2)
+    (record_stops c.requires.1 (omega (arith, c.record_count.ensures.0, c.if-record_count-link.false)) (whole _ c.requires.0).few c.if-met-link.false
+    (omega (arith, c.requires.1.within, c.if-n-limit.false)) _ c.record_start-at.ensures _ (sym c.in_err-vertex.ensures))
 
-pub vertex_at-requires : goal.vertex_at-requires
-vertex_at-requires c =
-    let past = c in
-    let s = past in (
-      omega (
-        arith,
-        c.record_start-at.ensures,
-        (bounds s.args.file.now).least,
-        record_held _ s.requires.0 (whole _ s.requires.1) s.args.walk.link (positive _ s.requires.3)
-            (omega (arith, past.record_count.ensures.0, past.if-record_count-link.false)),
-      ),
-      s.requires.2.on_grid,
-    )
+pub returns-in_err-normal : goal.returns-in_err-normal
+returns-in_err-normal c =
+    let p = err_from_is_err_and c.from_residual-in_err-normal.result c.from_residual-in_err-normal.ensures.1 in
+    let d = refused_answered (normal_code c.normal_at.result) c.normal_at.result c.in_err-normal.ensures in
+    rw (p.1, p.2, d.1)
+    (normal_stops c.requires.1 (omega (arith, c.record_count.ensures.0, c.if-record_count-link.false)) (whole _ c.requires.0).few c.if-met-link.false
+    (omega (arith, c.requires.1.within, c.if-n-limit.false)) _ c.record_start-at.ensures _ (sym c.in_ok-vertex.ensures) _ c.normal_at.ensures d.0)
 
-pub normal_at-normal-requires : goal.normal_at-normal-requires
-normal_at-normal-requires c =
-    let start = c in
-    let past = start in
-    let s = past in (
-      s.requires.0,
-      omega (
-        arith,
-        start.record_start-at.ensures,
-        record_held _ s.requires.0 (whole _ s.requires.1) s.args.walk.link (positive _ s.requires.3)
-            (omega (arith, past.record_count.ensures.0, past.if-record_count-link.false)),
-      ),
-    )
-
-pub returns-then-code-gt0 : goal.returns-then-code-gt0
-returns-then-code-gt0 c =
-    let read = c in
-    let new = read in
-    let past = new in
-    let s = past in
-    normal_stops s.requires.2 (omega (arith, past.record_count.ensures.0, past.if-record_count-link.false)) (whole _ s.requires.1).few new.if-met-link.false
-    (omega (arith, s.requires.2.within, new.if-n-limit.false)) _ (read.record_start-at.ensures ∙ start_as _ s.requires.0 s.args.walk.link) _
-    (sym read.vertex_at.ensures ∙ c.in-At.is)
-    _ c.normal_at-normal.ensures c.normal_code-code.ensures (omega (arith, c.if-code-gt0.true)) c.stop-then-code-gt0.ensures
-
-pub bounds-met-link-in-At : goal.bounds-met-link-in-At
-bounds-met-link-in-At c =
-    let past = c in
-    let s = past in
-    let w = whole _ s.requires.1 in
-    omega (arith, w.few, past.record_count.ensures.0, past.if-record_count-link.false)
-
-pub u16_at-requires : goal.u16_at-requires
-u16_at-requires c =
-    let past = c in
-    let s = past in
-    omega (
-      arith,
-      c.record_start-at.ensures,
-      (bounds s.args.file.now).least,
-      record_held _ s.requires.0 (whole _ s.requires.1) s.args.walk.link (positive _ s.requires.3)
-          (omega (arith, past.record_count.ensures.0, past.if-record_count-link.false)),
-    )
-
-pub returns-in-Refused : goal.returns-in-Refused
-returns-in-Refused c =
-    let read = c in
-    let new = read in
-    let past = new in
-    let s = past in
-    record_stops s.requires.2 (omega (arith, past.record_count.ensures.0, past.if-record_count-link.false)) (whole _ s.requires.1).few new.if-met-link.false
-    (omega (arith, s.requires.2.within, new.if-n-limit.false)) _ (read.record_start-at.ensures ∙ start_as _ s.requires.0 s.args.walk.link) _
-    (sym read.vertex_at.ensures ∙ c.in-Refused.is) c.stop-in-Refused.ensures
-
-pub returns-else-code-gt0 : goal.returns-else-code-gt0
-returns-else-code-gt0 c =
-    let read = c in
-    let new = read in
-    let past = new in
-    let s = past in
-    record_passes s.requires.2 (omega (arith, past.record_count.ensures.0, past.if-record_count-link.false)) (whole _ s.requires.1).few new.if-met-link.false
-    (omega (arith, s.requires.2.within, new.if-n-limit.false)) _ (read.record_start-at.ensures ∙ start_as _ s.requires.0 s.args.walk.link) _
-    (sym read.vertex_at.ensures ∙ c.in-At.is)
-    _ c.normal_at-normal.ensures _
-    (omega (arith, c.normal_code-code.ensures, c.if-code-gt0.false)) c.u16_at.ensures.0
+pub returns : goal.returns
+returns c =
+    let d = none_answered (normal_code c.normal_at.result) c.in_ok-normal.ensures in
+    record_passes c.requires.1 (omega (arith, c.record_count.ensures.0, c.if-record_count-link.false)) (whole _ c.requires.0).few c.if-met-link.false
+    (omega (arith, c.requires.1.within, c.if-n-limit.false)) _ c.record_start-at.ensures _ (sym c.in_ok-vertex.ensures) _ (d.1 ∙ c.normal_at.ensures)
+    _ (ap normal_code d.1 ∙ d.0) c.next_record.ensures

@@ -12,4 +12,4 @@ pub returns : goal.returns
 returns c =
     let s = c in
     let e = c.least_total-least.ensures in
-    record { total = e.total; work = cleared _ s.args.work.now e.work c.clear.ensures }
+    record { total = e.total; work = cleared _ c.args.work.now e.work c.clear.ensures }

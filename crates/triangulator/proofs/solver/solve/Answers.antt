@@ -1,15 +1,17 @@
 -- `triangulator::solver::solve` meets its contract, step by step. Assumes nothing.
-use mathlib.Core.Path.{sym, ap, ◌∙◌}
+use Rattle.std.proofs.Common.{None}
+use mathlib.Core.Path.{◌≡◌, sym, ap, ◌∙◌}
 use mathlib.Core.Logic.{inl, inr}
 use native.Mathlib.Omega.{arith}
+use Rattle.jobs.specs.Job.{job_in}
 use Rattle.triangulation.specs.Triangulations.{best_key}
-use Rattle.triangulation.specs.Problems.{problem_from}
+use Rattle.triangulation.specs.Problems.{problem_of}
 use Rattle.blocks.proofs.Starts.{starts_of_lem}
-use Rattle.minimum_weight.proofs.Answer.{no_key}
+use Rattle.minimum_weight.proofs.Answer.{without_key, with_key, key_light}
 use Rattle.minimum_weight.proofs.Filling.{filled_long, filled_ready, cleared}
 use Rattle.triangulator.specs.Steps.{lists}
 use Rattle.triangulator.proofs.Settling.{listed, not_listed}
-use Rattle.triangulator.proofs.solver.solve.Goals.{then-least-ge-NONE-via-then-least-ge-NONE, then-least-ge-NONE-via-else-least-ge-NONE+then-not-listed}
+use Rattle.triangulator.proofs.solver.solve.Goals.{in-Some+then-is_listed, in_default, in_default-via-in-None-1, in_default-via-in-Some+else-is_listed}
 use Rattle.triangulator.proofs.solver.solve.Goals as goal
 
 pub least_total-least-requires : goal.least_total-least-requires
@@ -17,38 +19,37 @@ least_total-least-requires c =
     let s = c in
     (s.requires.0, starts_of_lem _ s.requires.0.ascending.by_first c.block_starts-starts.ensures, s.requires.1)
 
-pub returns-then-least-ge-NONE : goal.returns-then-least-ge-NONE
-returns-then-least-ge-NONE c =
-    let s = c in
-    let e = c.least_total-least.ensures in
-    let key = best_key (problem_from s.args.n s.args.candidates.now s.args.weights.now s.args.rows.now) in record {
-      total = e.total;
-      triangles = not_listed s.args.figure key s.args.triangles.now
-          (elim c.then-least-ge-NONE.branch [
-            | then-least-ge-NONE-via-then-least-ge-NONE x ↦ inl (no_key s.args.n _ _ _ s.requires.0 (omega (arith, e.total, x.if-least-ge-NONE.true)))
-            | then-least-ge-NONE-via-else-least-ge-NONE+then-not-listed x ↦
-                inr (ap (lists s.args.figure) (sym e.total) ∙ sym c.lists-listed.ensures ∙ x.if-not-listed.true)
-          ]);
-      work = cleared _ s.args.work.now e.work c.clear.ensures;
-    }
-
 pub write_preorder-requires : goal.write_preorder-requires
 write_preorder-requires c =
     let s = c in
     let e = c.least_total-least.ensures in
     let t = starts_of_lem _ s.requires.0.ascending.by_first c.block_starts-starts.ensures in record {
       well_formed = (s.requires.0, t, omega (arith, s.requires.1, filled_long _ _ s.requires.1 e.work), s.requires.2);
-      all_ready = (filled_ready _ _ s.requires.1 e.work, omega (arith, e.total, c.if-least-ge-NONE.false));
+      all_ready = (filled_ready _ _ s.requires.1 e.work, key_light _ _ _ _ s.requires.0 (sym c.in-Some.is ∙ e.total));
     }
 
 pub returns : goal.returns
 returns c =
-    let s = c in
+    let s = c.args in
     let e = c.least_total-least.ensures in
-    let key = best_key (problem_from s.args.n s.args.candidates.now s.args.weights.now s.args.rows.now) in record {
-      total = e.total;
-      triangles = c.write_preorder.ensures
-          ∙ listed s.args.figure key s.args.triangles.now
-          (ap (lists s.args.figure) (sym e.total) ∙ sym c.lists-listed.ensures ∙ c.if-not-listed.false);
-      work = cleared _ s.args.work.now e.work c.clear-2.ensures;
+    let key = best_key (problem_of (job_in s.job.now)) in record {
+      total = elim c.match-least.branch [
+        | in-Some+then-is_listed w ↦ w.least-is ∙ sym w.in-Some.is ∙ e.total
+        | in_default w ↦ w.least-is ∙ elim w.in_default.branch [
+          | in_default-via-in-None-1 x ↦ x.least-is ∙ e.total
+          | in_default-via-in-Some+else-is_listed x ↦ x.least-is ∙ sym x.in-Some.is ∙ e.total
+        ]
+      ];
+      triangles = elim c.match-least.branch [
+        | in-Some+then-is_listed w ↦
+            w.triangles-is ∙ w.write_preorder.ensures ∙ listed s.agreed key s.triangles.now
+            (ap (lists s.agreed) (sym (with_key key (sym w.in-Some.is ∙ e.total))) ∙ sym w.is_listed.ensures ∙ w.if-is_listed.true)
+        | in_default w ↦
+            w.triangles-is ∙ not_listed s.agreed key s.triangles.now (elim w.in_default.branch [
+              | in_default-via-in-None-1 x ↦ inl (let none : None ≡ c.least_total-least.result = cc in without_key key (none ∙ e.total))
+              | in_default-via-in-Some+else-is_listed x ↦
+                  inr (ap (lists s.agreed) (sym (with_key key (sym x.in-Some.is ∙ e.total))) ∙ sym x.is_listed.ensures ∙ x.if-is_listed.false)
+            ])
+      ];
+      work = cleared _ s.work.now e.work c.clear.ensures;
     }

@@ -1,41 +1,24 @@
 -- `validation::totals::hanging_rows` meets its contract. Assumes nothing.
-use Prim.Native.Nat.{ℕ, ◌+◌}
-use mathlib.Core.Path.{◌≡◌, refl, sym, ap, ap₂, ◌∙◌}
-use native.Mathlib.Omega.{arith}
-use lib.ListN.{length, take}
-use lib.Seq.{take-length}
-use Rattle.lists.specs.Sums.{sum}
+use Rattle.std.proofs.Common.{arith}
 use Rattle.validation.specs.Totals.{hanging_row}
-use Rattle.validation.proofs.Fronts.{sum_next}
+use Rattle.validation.proofs.EdgeCounts.{triangle_at_lem}
+use Rattle.validation.proofs.Fronts.{sum_with}
+use Rattle.validation.proofs.Hanging.{row_hangs, row_apart}
+use Rattle.validation.proofs.totals.hanging_rows.Goals.{then-hangs_on, else-hangs_on}
 use Rattle.validation.proofs.totals.hanging_rows.Goals as goal
 
-pub loop-k-init : goal.loop-k-init
-loop-k-init c = (refl, omega arith, refl, omega arith)
+pub bounds-candidates-i : goal.bounds-candidates-i
+bounds-candidates-i c = (triangle_at_lem _ _ c.requires.0 c.loop-i.i-index c.loop-i-test.true _ c.from-i.ensures).there
 
-pub hanging_row-requires : goal.hanging_row-requires
-hanging_row-requires c = let s = c in (s.requires.0, s.requires.1, s.requires.2, omega arith)
-
-pub overflow_add-total : goal.overflow_add-total
-overflow_add-total c = let s = c in omega (arith, s.requires.0.short_list)
-
-pub loop-k-preserved : goal.loop-k-preserved
-loop-k-preserved c =
-    let s = c.args in
-    let l = c.loop-k in (
-      l.invariant.0,
-      omega arith,
-      ap₂ (λ (x y : ℕ). x + y) l.invariant.2 c.hanging_row.ensures
-          ∙ sym (sum_next (hanging_row s.candidates.now s.rows.now s.o) s.list.now l.k (omega arith)),
-      omega arith,
-    )
-
-pub returns : goal.returns
-returns c =
-    let s = c in
-    let a = s.args in
-    let l = c.loop-k in
-    let e : l.k ≡ length a.list.now = omega arith in (
-      l.invariant.2 ∙ ap (λ (k : ℕ). sum (hanging_row a.candidates.now a.rows.now a.o) (take k a.list.now)) e
-          ∙ ap (sum (hanging_row a.candidates.now a.rows.now a.o)) (take-length a.list.now),
-      omega (arith, s.requires.0.short_list),
-    )
+pub loop-i-preserved : goal.loop-i-preserved
+loop-i-preserved c =
+    let a = c.args in
+    let next = sum_with (hanging_row a.candidates.now a.rows.now a.o) a.list.now c.loop-i.i-index c.from-i.result c.loop-i-test.true c.from-i.ensures in
+    elim c.if-hangs_on.branch [
+      | then-hangs_on w ↦
+          let h = row_hangs a.candidates.now a.rows.now a.o c.from-i.result c.hangs_on.ensures w.if-hangs_on.true in
+          (omega (arith, w.row_weight.ensures), omega arith)
+      | else-hangs_on w ↦
+          let h = row_apart a.candidates.now a.rows.now a.o c.from-i.result c.hangs_on.ensures w.if-hangs_on.false in
+          (omega arith, omega arith)
+    ]

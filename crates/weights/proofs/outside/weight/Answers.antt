@@ -23,32 +23,29 @@ within : {k : Vector} (outside : Normal) → k ≡ vector_of outside → NormalI
 within outside e h = within_as e (outside_within h)
 
 -- the dot product, as the machine hands it on
-dot-held : (c : goal.After-dot-d) → Holds max_dot (dot_of c.args.normal c.vector-k.result) (bits c.dot-d.result)
-dot-held c = returned tt c.dot-d.ensures (normals_dot c.requires.1.within (within c.args.outside c.vector-k.ensures c.requires.2))
+dot-held : (c : goal.After-dot-d) → Holds max_dot (dot_of c.args.inside.normal c.vector-k.result) (bits c.dot-d.result)
+dot-held c = returned tt c.dot-d.ensures (normals_dot c.args.inside.measured.within (within c.args.outside c.vector-k.ensures c.requires.1))
 
 pub returns-then-is_none : goal.returns-then-is_none
 returns-then-is_none c =
-    let s = c.args in
-    sym (outside_none s.factor s.normal s.outside (sym c.is_none.ensures ∙ c.if-is_none.true))
+    sym (outside_none c.args.factor c.args.inside.normal c.args.outside (sym c.is_none.ensures ∙ c.if-is_none.true))
 
 pub dot-d-requires : goal.dot-d-requires
-dot-d-requires c = products_fit tt tt tt c.requires.1.within (within c.args.outside c.vector-k.ensures c.requires.2)
+dot-d-requires c = products_fit tt tt tt c.args.inside.measured.within (within c.args.outside c.vector-k.ensures c.requires.1)
 
 pub normal_length-requires : goal.normal_length-requires
-normal_length-requires c = within c.args.outside c.vector-k.ensures c.requires.2
+normal_length-requires c = within c.args.outside c.vector-k.ensures c.requires.1
 
 pub bend-requires : goal.bend-requires
 bend-requires c =
-    let g = c in
-    let s = c in
-    let m = s.requires.1 in
-    let is : c.normal_length.result ≡ length_of (vector_of s.args.outside) = c.normal_length.ensures ∙ ap length_of g.vector-k.ensures in
-    let some = sym g.is_none.ensures ∙ g.if-is_none.false in (
+    let m = c.args.inside.measured in
+    let is : c.normal_length.result ≡ length_of (vector_of c.args.outside) = c.normal_length.ensures ∙ ap length_of c.vector-k.ensures in
+    let some = sym c.is_none.ensures ∙ c.if-is_none.false in (
       at_most_held (dot-held (goal.at.bend-requires c).After-dot-d),
       m.above_0,
       omega (arith, m.is, length_bound m.within),
-      subst (λ (k : ℕ). 0 < k) (sym is) (outside_above_0 s.args.outside s.requires.2 some),
-      omega (arith, c.normal_length.ensures, length_bound (within c.args.outside c.vector-k.ensures c.requires.2)),
+      subst (λ (k : ℕ). 0 < k) (sym is) (outside_above_0 c.args.outside c.requires.1 some),
+      omega (arith, c.normal_length.ensures, length_bound (within c.args.outside c.vector-k.ensures c.requires.1)),
     )
 
 pub bend_weight-requires : goal.bend_weight-requires
@@ -56,13 +53,10 @@ bend_weight-requires c = (c.requires.0, subst (λ (b : ℕ). b ≤ max_bend) (sy
 
 pub returns : goal.returns
 returns c =
-    let b = c in
-    let l = c in
-    let g = c in
-    let s = c in
-    let is = l.normal_length.ensures ∙ ap length_of g.vector-k.ensures in
-    let some = sym g.is_none.ensures ∙ g.if-is_none.false in
-    let d = (dot-held (goal.at.returns c).After-dot-d).value ∙ ap (dot_of s.args.normal) g.vector-k.ensures in
+    let a = c.args in
+    let is = c.normal_length.ensures ∙ ap length_of c.vector-k.ensures in
+    let some = sym c.is_none.ensures ∙ c.if-is_none.false in
+    let d = (dot-held (goal.at.returns c).After-dot-d).value ∙ ap (dot_of a.inside.normal) c.vector-k.ensures in
     c.bend_weight.ensures
-    ∙ ap (bend_weight_of s.args.factor) (b.bend.ensures ∙ (λ i. bend_of (d i) (s.requires.1.is i) (is i)))
-    ∙ sym (outside_some s.args.factor s.args.normal s.args.outside some)
+    ∙ ap (bend_weight_of a.factor) (c.bend.ensures ∙ (λ i. bend_of (d i) (a.inside.measured.is i) (is i)))
+    ∙ sym (outside_some a.factor a.inside.normal a.outside some)

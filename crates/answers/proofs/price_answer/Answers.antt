@@ -1,5 +1,0 @@
--- `answers::price_answer` meets its contract. Assumes nothing.
-use Rattle.answers.proofs.price_answer.Goals as goal
-
-pub returns : goal.returns
-returns c = λ i. record { number = c.number-number.ensures i; triangles = c.triangles-triangles.ensures i; total = c.total-least.ensures i }
