@@ -20,6 +20,7 @@ fn is_flat(p: Polygon) -> bool
     let n = p.n;
     let table = lift_vertices(p, 0);
     let lifted = &table[..];
+    // A loop over the number c: each vertex after it is looked at with it.
     for c in 2..n {
         let pencil = sphere::pencil_through(lifted[1], lifted[c]);
         for seen in &lifted[c + 1..n] {

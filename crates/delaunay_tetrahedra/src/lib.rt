@@ -35,6 +35,7 @@ fn still_refuted(n: usize, c: usize, pencil: Pencil, one: Lifted, other: Lifted)
 // Puts the faces of the fours that count into the set, up to the first four that has a fifth vertex on its sphere: 12 is due there, and the set is
 // emptied. A vertex inside the sphere drops the four; where the plane of (a, b, c) separates it from d, no four of this three counts, and the three is
 // left. The vertex that dropped the last four is looked at first, and with the d of the last three that was left it is tried on the next one.
+// The loops run through the numbers a < b < c < d of vertices, which go into the set, and through the turns of a scan, not through a table.
 pub fn mark_tetrahedra(p: Polygon, set: &mut TriangleSet) -> Result<(), Refusal>
     requires { ValidPolygon p }
     ensures { Marked (is_face_of_four p) (cospherical p) set.old result set.new }
@@ -42,7 +43,6 @@ pub fn mark_tetrahedra(p: Polygon, set: &mut TriangleSet) -> Result<(), Refusal>
     let n = p.n;
     let mut last = 0;
     let mut apex = 0;
-    // The loops run through the numbers a < b < c < d of vertices, which go into the set, and the table is read at three of them.
     for a in 0..n - 3 {
         let lifted = lift_vertices(p, a);
         for b in a + 1..n - 2 {

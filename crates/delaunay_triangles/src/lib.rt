@@ -14,14 +14,14 @@ use geometry::sphere::Position;
 use polygon::Polygon;
 
 // Puts the threes that count into the set, up to the first that has a fourth vertex on its circle: 12 is due there, and the set is emptied. The vertex
-// that dropped the last three is looked at first.
+// that dropped the last three is looked at first. The loops run through the numbers a < b < c of vertices, which go into the set, and through the
+// turns of a scan, not through a table.
 pub fn mark_triangles(p: Polygon, set: &mut TriangleSet) -> Result<(), Refusal>
     requires { (ValidPolygon p) × InOnePlane (vertex p) p.n }
     ensures { Marked (is_counted_three p) (cocircular p) set.old result set.new }
 {
     let n = p.n;
     let mut last = 0;
-    // The loops run through the numbers a < b < c of vertices, which go into the set: only two of the three are read in the table.
     for a in 0..n - 2 {
         let lifted = lift_vertices(p, a);
         for b in a + 1..n - 1 {

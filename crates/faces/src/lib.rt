@@ -122,6 +122,7 @@ impl TriangleSet {
         ensures { (result ≡ length (triples_of n (has self.now))) × (out.new ≡ filled (triples_of n (has self.now)) out.old) }
     {
         let mut count = 0;
+        // As in `count`.
         for a in 0..n {
             for b in a + 1..n {
                 for c in b + 1..n {

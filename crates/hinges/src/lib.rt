@@ -15,6 +15,7 @@ fn count_beneath(set: &TriangleSet, i: usize, j: usize) -> usize
     ensures { result ≡ length (beneath (has set.now) i j) }
 {
     let mut count = 0;
+    // A loop: the check did not find what `filter(..).count()` gives over a range of numbers.
     for x in i + 1..j {
         if set.contains(i, x, j) {
             count += 1;
