@@ -10,7 +10,7 @@ ghost use Rattle.minimum_weight.specs.Tables.{better_of, pick_under, pick_at_edg
 
 use crate::NONE;
 
-// A total and the candidate that starts it.
+// A total and the candidate that starts it. No candidate is the total NONE, as in the work table: one comparison then tells 'no part' and 'not lower'.
 #[derive(Clone, Copy)]
 pub struct Pick {
     pub cost: u64,

@@ -51,10 +51,11 @@ pub fn write_preorder(
 {
     let last = (n - 1) as u8;
     let whole = Part::new(candidates.len(), 0, last);
+    // No heap: the parts stand in an array, and `height` of them wait.
     let mut stack = [whole; MOST_PARTS];
     let mut height: usize = 1;
     // Turn `count` lists one triangle, at place `count`, and after it no more parts wait than triangles are still to be listed: `Listing` in
-    // specs/Preorder. As long as a triangle is to be listed, a part waits.
+    // specs/Preorder. As long as a triangle is to be listed, a part waits. An index loop: `Listing` counts the turns, and the table is written by them.
     for count in 0..n - 2 {
         height -= 1;
         let part = stack[height];
