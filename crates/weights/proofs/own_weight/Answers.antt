@@ -2,6 +2,7 @@
 use mathlib.Core.Path.{◌≡◌, sym, ◌∙◌, ap, subst}
 use Prim.Native.Nat.{ℕ, ◌+◌, ◌*◌, ◌≤◌}
 use native.Mathlib.Omega.{arith}
+use borrow.Author.Rules.{rules}
 use Rattle.terms.specs.Limits.{max_area_factor, max_bend_factor}
 use Rattle.polygon.specs.declared.normal.Normal.{Normal}
 use Rattle.geometry.specs.Bounds.{max_length, max_bend}
@@ -48,13 +49,13 @@ returns-then-all_none c =
     ∙ ap (own_weight_of p.area_factor p.bend_factor (normal g)) c.edge_normals-edges.ensures
 
 pub weight-requires : goal.weight-requires
-weight-requires c = (c.requires.0.bend_factor, (in_range (goal.at.weight-requires c).After-edge_normals-edges).of_ab)
+weight-requires c = let r = in_range (goal.at.weight-requires c).After-edge_normals-edges in (c.requires.0.bend_factor, search rules)
 
 pub weight-requires-2 : goal.weight-requires-2
-weight-requires-2 c = (c.requires.0.bend_factor, (in_range (goal.at.weight-requires-2 c).After-edge_normals-edges).of_bc)
+weight-requires-2 c = let r = in_range (goal.at.weight-requires-2 c).After-edge_normals-edges in (c.requires.0.bend_factor, search rules)
 
 pub weight-requires-3 : goal.weight-requires-3
-weight-requires-3 c = (c.requires.0.bend_factor, (in_range (goal.at.weight-requires-3 c).After-edge_normals-edges).of_ac)
+weight-requires-3 c = let r = in_range (goal.at.weight-requires-3 c).After-edge_normals-edges in (c.requires.0.bend_factor, search rules)
 
 pub overflow_add-result : goal.overflow_add-result
 overflow_add-result c =
