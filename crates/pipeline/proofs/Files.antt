@@ -11,7 +11,7 @@ use Rattle.polygon.specs.declared.Polygon.{Polygon}
 use Rattle.terms.specs.Numbers.{first_due}
 use Rattle.reader.specs.Reading.{Reading, polygon_of, reading_of}
 use Rattle.reader.specs.Reading as reader
-use Rattle.std.specs.Prelude.{Err}
+use Rattle.std.specs.Prelude.{Ok, Err}
 use Rattle.finder.specs.Finding.{values, values_of, due_values, Finding, finding, number_due, find_by, find_number, find_call}
 use Rattle.finder.specs.Sizes.{Sizes, no_places, places_in, due_places, sizes_by, sizes_of}
 use Rattle.finder.proofs.Answers.{sizes_values}
