@@ -15,7 +15,6 @@ use Rattle.delaunay.specs.Candidates.{candidates_of}
 use Rattle.jobs.proofs.Acceptance.{fitting_accepted, accepted_beside}
 use Rattle.triangulator.specs.Call.{part_of, Outcome, patch_with}
 use Rattle.triangulator.specs.Demands.{Taken, a_patch, Handed}
-use Rattle.judge.specs.declared.Judgement.TheVariants as judgement
 use Rattle.judge.specs.Call.{result_of, judged}
 use Rattle.jobs.specs.Due.{Accepted, AcceptedWithoutTriangles, job_at}
 use Rattle.pricing.specs.Patch.{patched_at}
@@ -36,7 +35,7 @@ use Rattle.demands.proofs.Patched.{job_left_lem}
 pub agreed_patch_accepted : (job : Job) (agreed : ℕ) (triangles work work' : List ℕ) (count total : ℕ) → length job.candidates ≤ length work'
     → (patched_at job agreed triangles work).outcome ≡ Ok (Some (patch_with count total))
     → judged job (part_of (Ok (Some (patch_with count total))) (patched_at job agreed triangles work).triangles) total work'
-    ≡ result_of (judgement.Accepted 0) (filled (replicate (length job.candidates) 0) work')
+    ≡ result_of (Ok 0) (filled (replicate (length job.candidates) 0) work')
 agreed_patch_accepted job agreed triangles work work' count total room e =
     let none = pricing.taken_only_when job agreed triangles work (subst Taken (sym e) a_patch) in
     let ok : Accepted job (length triangles) (length work) = record { none = λ p k d. none.none (job_at p) k (of_job d) } in
@@ -68,7 +67,7 @@ module _ (limit : ℕ) (file : List ℕ) (bytes : Bytes file) (t : Tables) where
       (patch_file limit file t).outcome ≡ Ok (Some (patch_with count total)) →
       judged (job_left (polygon_in limit file) (patch_file limit file t).left)
       (part_of (Ok (Some (patch_with count total))) (patch_file limit file t).left.triangles) total work
-      ≡ result_of (judgement.Accepted 0) (filled (replicate (length (candidates_of (polygon_in limit file))) 0) work)
+      ≡ result_of (Ok 0) (filled (replicate (length (candidates_of (polygon_in limit file))) 0) work)
   file_patch_accepted count total work room e =
       let none : None = taken_only_when limit file bytes t (subst Taken (sym e) a_patch) in
       let is = (accepted limit file bytes t none).call_is in

@@ -20,7 +20,6 @@ use Rattle.jobs.specs.Job.{Job, job_of}
 use Rattle.jobs.specs.Cases.{single, job_p, edited_p, ties}
 use Rattle.pricing.specs.Quote as price
 use Rattle.pricing.specs.Cases.{priced_on, patched_on, cleared, two_triangles, not_least_result}
-use Rattle.judge.specs.declared.Judgement.TheVariants as judgement
 use Rattle.judge.specs.Call as judge
 use Rattle.judge.specs.Cases.{judged_on, accepted, refused}
 use Rattle.pipeline.specs.Patching.{Tables, tables, Patching, patching, problem_in, patch_polygon, patch_file}
@@ -195,8 +194,8 @@ worked =
     ∷ judges job_p (1 ∷ []) 943 (refused 21)
     ∷ judges job_p (1 ∷ 4 ∷ []) 943 (refused 21)
     ∷ judges (ties (triple 1 0 1 ∷ [])) (1 ∷ 1 ∷ []) 0 (refused 16)
-    ∷ judges single (0 ∷ []) 5 (judge.result_of (judgement.Accepted 0) (0 ∷ 9 ∷ []))
-    ∷ judges (job_of 3 [] [] []) [] 0 (judge.result_of (judgement.Refused (refusal 21)) (9 ∷ []))
+    ∷ judges single (0 ∷ []) 5 (judge.result_of (Ok 0) (0 ∷ 9 ∷ []))
+    ∷ judges (job_of 3 [] [] []) [] 0 (judge.result_of (Err (refusal 21)) (9 ∷ []))
     -- rule 6.5: equal, perpendicular and opposite normals; a short one, whose length 5 is no four times a whole root; a dot product of -1
     ∷ case (of_bend (bend_between upward upward)) (of_bend 0)
     ∷ case (of_bend (bend_between upward sideward)) (of_bend 1000)

@@ -5,7 +5,7 @@ use Prim.Native.Nat.{ℕ}
 use Rattle.finder.specs.Finding.{Found, Finding, finding}
 use Rattle.triangulator.specs.Call.{Result, result_of, Outcome}
 use Rattle.pricing.specs.Quote as price
-use Rattle.judge.specs.declared.Judgement.{Judgement}
+use Rattle.judge.specs.Call.{Judgement}
 use Rattle.judge.specs.Call as judge
 use Rattle.pipeline.specs.Patching.{Tables, Patching, patching}
 use Rattle.converter.specs.Call.{Conversion, Converting, converting}

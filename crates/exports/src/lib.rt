@@ -20,6 +20,7 @@ ghost use Rattle.exports.specs.Calls.{rim_lists, rim_lists_of, file_conversion, 
 use answers::{
     ConvertAnswer, FindAnswer, JudgeAnswer, PatchAnswer, PriceAnswer, ReadAnswer, SizesAnswer,
 };
+use jobs::Job;
 
 // The one call over the three stages.
 #[unsafe(no_mangle)]
@@ -76,7 +77,8 @@ pub extern "C" fn patch_box_price(
     ensures { job_price result work.new
         ≡ job_price_of (priced (job_of n candidates.now weights.now rows.now) work.old) }
 {
-    let quote = pricing::price(n, candidates, weights, rows, work);
+    let job = Job { n, candidates, weights, rows };
+    let quote = pricing::price(&job, work);
     answers::price_answer(quote)
 }
 
@@ -95,7 +97,8 @@ pub extern "C" fn patch_box_patch(
         ≡ job_patch_of (patched_at (job_of n candidates.now weights.now rows.now) agreed triangles.old
         work.old) }
 {
-    let outcome = pricing::patch(n, candidates, weights, rows, agreed, triangles, work);
+    let job = Job { n, candidates, weights, rows };
+    let outcome = pricing::patch(&job, agreed, triangles, work);
     answers::patch_answer(outcome)
 }
 
@@ -114,7 +117,8 @@ pub extern "C" fn patch_box_judge(
         ≡ job_judgement_of (judged (job_of n candidates.now weights.now rows.now) list.now stated
         work.old) }
 {
-    let judgement = judge::judge(n, candidates, weights, rows, list, stated, work);
+    let job = Job { n, candidates, weights, rows };
+    let judgement = judge::judge(&job, list, stated, work);
     answers::judge_answer(judgement)
 }
 

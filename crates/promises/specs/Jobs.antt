@@ -23,7 +23,6 @@ use Rattle.pricing.specs.Quote as price
 use Rattle.pricing.specs.Patch.{patched_at, triangulated}
 use Rattle.pricing.specs.Due.{AgreedDue}
 use Rattle.pricing.specs.Due as agreed-due
-use Rattle.judge.specs.declared.Judgement.TheVariants as judgement
 use Rattle.judge.specs.Call.{judged}
 use Rattle.judge.specs.Call as judge
 use Rattle.judge.specs.Demands.{IsTiling, Acceptable, SameNumbers, Excess}
@@ -94,7 +93,7 @@ pub record Patches (job : Job) (agreed : ℕ) (triangles work : List ℕ) (x : R
   pub valid : AcceptedBeside job triangles work → ValidProblem (problem_of job)
   -- the judge accepts with excess 0 what was written, over any work table that is long enough (rules 3.14, 5.12)
   pub judged_0 : (work' : List ℕ) (count total : ℕ) → length job.candidates ≤ length work' → x.outcome ≡ Ok (Some (patch_with count total)) →
-      judged job (part_of (Ok (Some (patch_with count total))) x.triangles) total work' ≡ judge.result_of (judgement.Accepted 0) (cleared job work')
+      judged job (part_of (Ok (Some (patch_with count total))) x.triangles) total work' ≡ judge.result_of (Ok 0) (cleared job work')
 
 -- ---- the price, and then the patch at that price
 pub record InTurn (job : Job) (triangles work : List ℕ) : Type 0 where
@@ -135,31 +134,31 @@ pub record Turns : Type 0 where
 pub record Judging (job : Job) (list : List ℕ) (total : ℕ) (work : List ℕ) : Type 0 where
   -- a list is accepted exactly when the job is, the list is a tiling without repeats, and the total is its total (rules 3.13, 4.36)
   pub accepts_when : AcceptedAlone job work → Acceptable (problem_of job) list total →
-      (excess : ℕ) × ((judged job list total work).judgement ≡ judgement.Accepted excess)
-  pub accepts_only_when : (excess : ℕ) → (judged job list total work).judgement ≡ judgement.Accepted excess →
+      (excess : ℕ) × ((judged job list total work).judgement ≡ Ok excess)
+  pub accepts_only_when : (excess : ℕ) → (judged job list total work).judgement ≡ Ok excess →
       AcceptedAlone job work × Acceptable (problem_of job) list total
   -- then the excess is over the least total, and the work table has its zeros (rules 3.9, 3.14)
-  pub accepted_excess : (excess : ℕ) → (judged job list total work).judgement ≡ judgement.Accepted excess → Excess (problem_of job) total excess
-  pub accepted_work : (excess : ℕ) → (judged job list total work).judgement ≡ judgement.Accepted excess →
+  pub accepted_excess : (excess : ℕ) → (judged job list total work).judgement ≡ Ok excess → Excess (problem_of job) total excess
+  pub accepted_work : (excess : ℕ) → (judged job list total work).judgement ≡ Ok excess →
       (judged job list total work).work ≡ cleared job work
   -- every other call gets the first number due, and the work table holds what it held (rules 4.30, 4.36)
   pub refused_first : (k : ℕ) → judge-due.FirstDue job list total (length work) k →
-      judged job list total work ≡ judge.result_of (judgement.Refused (refusal k)) work
-  pub given_first : (k : ℕ) → (judged job list total work).judgement ≡ judgement.Refused (refusal k) → judge-due.FirstDue job list total (length work) k
+      judged job list total work ≡ judge.result_of (Err (refusal k)) work
+  pub given_first : (k : ℕ) → (judged job list total work).judgement ≡ Err (refusal k) → judge-due.FirstDue job list total (length work) k
   -- of an accepted job, 21 exactly when the list is no tiling without repeats, and 22 exactly when it is one of another total (rules 4.21, 4.22)
   pub gives_21 : AcceptedAlone job work → ((set : List ℕ) → IsTiling (problem_of job) list set → ⊥) →
-      judged job list total work ≡ judge.result_of (judgement.Refused (refusal 21)) work
-  pub given_21 : (judged job list total work).judgement ≡ judgement.Refused (refusal 21) →
+      judged job list total work ≡ judge.result_of (Err (refusal 21)) work
+  pub given_21 : (judged job list total work).judgement ≡ Err (refusal 21) →
       AcceptedAlone job work × ((set : List ℕ) → IsTiling (problem_of job) list set → ⊥)
   pub gives_22 : AcceptedAlone job work → (set : List ℕ) → IsTiling (problem_of job) list set → total ≢ total_weight (problem_of job) set →
-      judged job list total work ≡ judge.result_of (judgement.Refused (refusal 22)) work
-  pub given_22 : (judged job list total work).judgement ≡ judgement.Refused (refusal 22) →
+      judged job list total work ≡ judge.result_of (Err (refusal 22)) work
+  pub given_22 : (judged job list total work).judgement ≡ Err (refusal 22) →
       AcceptedAlone job work × ((set : List ℕ) × IsTiling (problem_of job) list set × (total ≢ total_weight (problem_of job) set))
   -- the order of the list never matters (rule 3.13)
   pub any_order : (list' : List ℕ) → SameNumbers list list' → judged job list total work ≡ judged job list' total work
   -- a patch as the tiler hands it back is accepted with excess 0 (rule 3.14)
   pub own_patch : AcceptedAlone job work → HandedBack (problem_of job) total list →
-      judged job list total work ≡ judge.result_of (judgement.Accepted 0) (cleared job work)
+      judged job list total work ≡ judge.result_of (Ok 0) (cleared job work)
 
 -- so is what the one call answered, with the lists that it left (rules 3.13, 3.14)
 abbrev pub OwnPatches : Type 0
@@ -167,4 +166,4 @@ OwnPatches = (limit : ℕ) (file : List ℕ) → Bytes file → (t : Tables) (co
     (places_of (polygon_in limit file)).candidates ≤ length work → (patch_file limit file t).outcome ≡ Ok (Some (patch_with count total)) →
     judged (job_left (polygon_in limit file) (patch_file limit file t).left)
     (part_of (Ok (Some (patch_with count total))) (patch_file limit file t).left.triangles) total work
-    ≡ judge.result_of (judgement.Accepted 0) (filled (replicate (places_of (polygon_in limit file)).candidates 0) work)
+    ≡ judge.result_of (Ok 0) (filled (replicate (places_of (polygon_in limit file)).candidates 0) work)
