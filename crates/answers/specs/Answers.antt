@@ -4,9 +4,7 @@ use Rattle.reader.specs.Reading.{Reading, polygon_in}
 use Rattle.finder.specs.Finding.{Found, candidate_count_of, row_count_of}
 use Rattle.finder.specs.Sizes.{Sizes, places_in}
 use Rattle.triangulator.specs.Call.{triangles_of, total_of, Outcome}
-use Rattle.judge.specs.declared.Judgement.{Judgement}
-use Rattle.judge.specs.Call.{excess_of}
-use Rattle.judge.specs.Call as judge
+use Rattle.judge.specs.Call.{Judgement, excess_of}
 use Rattle.converter.specs.Call.{Conversion, edition_of, converted_length}
 use Rattle.answers.specs.declared.PatchAnswer.{PatchAnswer}
 use Rattle.answers.specs.declared.PriceAnswer.{PriceAnswer}
@@ -26,7 +24,7 @@ price_answer_of q = record { number = number_of q; triangles = triangles_of q; t
 
 -- the number and the excess of a judgement (rule 5.10)
 abbrev pub judge_answer_of : Judgement → JudgeAnswer
-judge_answer_of j = record { number = judge.number_of j; excess = excess_of j }
+judge_answer_of j = record { number = number_of j; excess = excess_of j }
 
 -- the reader's number, and how many vertices: 0 in a refusal, whose polygon is the empty one (rule 5.6)
 abbrev pub read_answer_of : Reading → ReadAnswer

@@ -8,7 +8,6 @@ ghost use Rattle.answers.specs.Answers.{patch_answer_of, price_answer_of, judge_
 use codes::Refusal;
 use converter::Converted;
 use finder::{Counts, Places};
-use judge::Judgement;
 use polygon::Polygon;
 use triangulator::Patch;
 
@@ -94,12 +93,16 @@ pub fn price_answer(quote: Result<Option<Patch>, Refusal>) -> PriceAnswer
     }
 }
 
-pub fn judge_answer(judgement: Judgement) -> JudgeAnswer
+pub fn judge_answer(judgement: Result<u64, Refusal>) -> JudgeAnswer
     ensures { result ≡ judge_answer_of judgement }
 {
-    let number = judgement.number();
-    let excess = judgement.excess();
-    JudgeAnswer { number, excess }
+    match judgement {
+        Ok(excess) => JudgeAnswer { number: 0, excess },
+        Err(refusal) => JudgeAnswer {
+            number: refusal.number,
+            excess: 0,
+        },
+    }
 }
 
 pub fn read_answer(reading: Result<Polygon, Refusal>) -> ReadAnswer
