@@ -77,7 +77,12 @@ pub extern "C" fn patch_box_price(
     ensures { job_price result work.new
         ≡ job_price_of (priced (job_of n candidates.now weights.now rows.now) work.old) }
 {
-    let job = Job { n, candidates, weights, rows };
+    let job = Job {
+        n,
+        candidates,
+        weights,
+        rows,
+    };
     let quote = pricing::price(&job, work);
     answers::price_answer(quote)
 }
@@ -97,7 +102,12 @@ pub extern "C" fn patch_box_patch(
         ≡ job_patch_of (patched_at (job_of n candidates.now weights.now rows.now) agreed triangles.old
         work.old) }
 {
-    let job = Job { n, candidates, weights, rows };
+    let job = Job {
+        n,
+        candidates,
+        weights,
+        rows,
+    };
     let outcome = pricing::patch(&job, agreed, triangles, work);
     answers::patch_answer(outcome)
 }
@@ -117,7 +127,12 @@ pub extern "C" fn patch_box_judge(
         ≡ job_judgement_of (judged (job_of n candidates.now weights.now rows.now) list.now stated
         work.old) }
 {
-    let job = Job { n, candidates, weights, rows };
+    let job = Job {
+        n,
+        candidates,
+        weights,
+        rows,
+    };
     let judgement = judge::judge(&job, list, stated, work);
     answers::judge_answer(judgement)
 }

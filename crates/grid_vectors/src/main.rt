@@ -2,8 +2,7 @@
 // grid numbers of the next float below v, of v, and of the next float above it. What `stdout` holds was worked out from rule 1.10 in exact fractions.
 #![tactic(auto)]
 
-use std::io;
-use std::num;
+use std::{io, num};
 
 const SIGN: u32 = 0x8000_0000;
 

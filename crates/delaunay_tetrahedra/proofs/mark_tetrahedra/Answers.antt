@@ -84,7 +84,7 @@ module _ (g : goal.In-three) where
 module _ (k : goal.After-pencil_through-pencil) where
   three : Three k.args.p k.loop-a.a k.loop-b.b k.three.c k.lift_vertices-lifted.result k.pencil_through-pencil.result
   three = three_of k.index-lifted-b.result k.index-lifted-c.result k.requires k.loop-a-test.true k.loop-b-test.true k.three-test.true
-          k.lift_vertices-lifted.ensures k.pencil_through-pencil.ensures
+      k.lift_vertices-lifted.ensures k.pencil_through-pencil.ensures
 
 -- at four corners
 module _ (s : goal.In-four) where
@@ -99,7 +99,7 @@ module _ (s : goal.In-four) where
 
   triangle : Three s.args.p s.loop-a.a s.loop-b.b s.three.c s.lift_vertices-lifted.result s.pencil_through-pencil.result
   triangle = three_of s.index-lifted-b.result s.index-lifted-c.result s.requires s.loop-a-test.true s.loop-b-test.true s.three-test.true
-          s.lift_vertices-lifted.ensures s.pencil_through-pencil.ensures
+      s.lift_vertices-lifted.ensures s.pencil_through-pencil.ensures
 
 -- the orientation of a sphere, read from its fields
 seen_orient : {s t : SphereValue} → s ≡ t → equal t.orient (pos 0) ≡ equal s.orient (pos 0)
@@ -118,7 +118,7 @@ module _ (l : goal.At-loop-i) where
   triangle_of : Three l.args.p l.loop-a.a l.loop-b.b l.three.c l.lift_vertices-lifted.result l.pencil_through-pencil.result
   triangle_of =
       three_of l.index-lifted-b.result l.index-lifted-c.result l.requires l.loop-a-test.true l.loop-b-test.true l.three-test.true
-          l.lift_vertices-lifted.ensures l.pencil_through-pencil.ensures
+      l.lift_vertices-lifted.ensures l.pencil_through-pencil.ensures
 
   through : ball ≡ sphere_of l.pencil_through-pencil.result (get_or l.lift_vertices-lifted.result l.four.d unlifted)
   through = read (sphere_of l.pencil_through-pencil.result) l.requires l.lift_vertices-lifted.ensures l.four.d l.four-test.true l.index-lifted-d.result
@@ -253,7 +253,7 @@ pub four-preserved-then-ball-eq0 : goal.four-preserved-then-ball-eq0
 four-preserved-then-ball-eq0 c =
     let s = (goal.at.four-preserved-then-ball-eq0 c).In-four in
     let e = read (sphere_of c.pencil_through-pencil.result) c.requires c.lift_vertices-lifted.ensures (D s) (d<n s) c.index-lifted-d.result
-        c.circumsphere-ball.ensures in
+    c.circumsphere-ball.ensures in
     let flat = seen_orient c.ball.view_is ∙ zero_bits c.ball.inside.orient (signed_fits tt c.ball.invariant.orient_in) c.if-ball-eq0.true in
     (refl, known s, kept_skip _ _ _ _ (D s) s.four.invariant.2 (d<n s) (not_counts_flat _ _ _ _ _ (sym (flat_is (triangle s) (D s) (d<n s) e) ∙ flat)))
 
@@ -320,9 +320,11 @@ pub four-preserved-then-eq : goal.four-preserved-then-eq
 four-preserved-then-eq c =
     let t = c in
     let w = (goal.at.four-preserved-then-eq c).After-scanned-v in
-    let l = (goal.at.four-preserved-then-eq c).At-loop-i in
-    (refl, record { last<n = v<n w; apex<n = l.loop-i.invariant.known.apex<n },
-    four_dropped (four l) _ (v<n w) (place_at (goal.at.four-preserved-then-eq c).After-locate) (is_inside_lem _ (sym c.eq.ensures ∙ c.if-eq.true)))
+    let l = (goal.at.four-preserved-then-eq c).At-loop-i in (
+      refl,
+      record { last<n = v<n w; apex<n = l.loop-i.invariant.known.apex<n },
+      four_dropped (four l) _ (v<n w) (place_at (goal.at.four-preserved-then-eq c).After-locate) (is_inside_lem _ (sym c.eq.ensures ∙ c.if-eq.true)),
+    )
 
 pub overflow_step-i : goal.overflow_step-i
 overflow_step-i c = let w = (goal.at.overflow_step-i c).After-scanned-v in omega (arith, c.requires.most, w.loop-i-test.true)

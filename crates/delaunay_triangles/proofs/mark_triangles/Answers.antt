@@ -155,7 +155,7 @@ three-preserved-then-circle-eq0 c =
     let k = (goal.at.three-preserved-then-circle-eq0 c).After-circle_through-circle in
     let t = triangle k in (
       c.three.invariant.0,
-      on_line t (sym (line_is t) ∙ seen_orient c.circle.view_is 
+      on_line t (sym (line_is t) ∙ seen_orient c.circle.view_is
           ∙ zero_bits c.circle.inside.orient (signed_fits tt c.circle.invariant.orient_in) c.if-circle-eq0.true),
     )
 
@@ -174,9 +174,11 @@ bounds-lifted-v c = omega (arith, c.requires.0.most, v<n (goal.at.bounds-lifted-
 pub three-preserved-then-eq : goal.three-preserved-then-eq
 three-preserved-then-eq c =
     let w = (goal.at.three-preserved-then-eq c).After-scanned-v in
-    let l = (goal.at.three-preserved-then-eq c).At-loop-i in
-    (v<n w, three_dropped (three l) (proper l) _ (v<n w) (place_at (goal.at.three-preserved-then-eq c).After-locate)
-    (is_inside_lem _ (sym c.eq.ensures ∙ c.if-eq.true)))
+    let l = (goal.at.three-preserved-then-eq c).At-loop-i in (
+      v<n w,
+      three_dropped (three l) (proper l) _ (v<n w) (place_at (goal.at.three-preserved-then-eq c).After-locate)
+          (is_inside_lem _ (sym c.eq.ensures ∙ c.if-eq.true)),
+    )
 
 pub overflow_step-i : goal.overflow_step-i
 overflow_step-i c = let w = (goal.at.overflow_step-i c).After-scanned-v in omega (arith, c.requires.0.most, c.three-test.true, w.loop-i-test.true)
