@@ -10,7 +10,7 @@ use codes::Refusal;
 use std::io;
 use triangulator::Patch;
 
-// Closes the rim of a file and prints its patch.
+// Closes the rim of a file and prints its patch. (The contract is of this program's limit.)
 fn close(rt: &impl Print, file: &[u8]) -> (Result<Option<Patch>, Refusal>, io::Result<()>)
     ensures { result.0 ≡ (patch_file max_vertices file.now empty_tables).outcome }
 {

@@ -37,6 +37,7 @@ pub fn write_lengths(p: Polygon, candidates: &[[u8; 3]], out: &mut [u32])
     requires { (ProperCandidates p candidates.now) × (length candidates.now ≤ length out.old) }
     ensures { out.new ≡ filled (lengths_of p candidates.now) out.old }
 {
+    // By place, not zipped with the table: of what `iter_mut` gave out a proof knows only the table's length.
     for (i, t) in candidates.iter().enumerate() {
         out[i] = face::normal_length(normal(&p.vertices, *t));
     }

@@ -39,7 +39,7 @@ fn has_vertex(mask: u64, c: usize) -> bool
     (mask >> c) % 2 == 1
 }
 
-// A set of triangles (a, b, c): a mask of the vertices c for each pair (a, b). In contracts it is the list of its masks.
+// A set of triangles (a, b, c): a mask of the vertices c for each pair (a, b), in fixed memory. In contracts it is the list of its masks.
 #[derive(Drop)]
 pub struct TriangleSet {
     masks: [u64; PAIRS],

@@ -83,7 +83,7 @@ fn write_lists(
     weights::write_weights(p, found, weights);
 }
 
-// 13, or the lists of the set's triangles. They are counted first: all tables are tested before one is written.
+// 13, or the lists of the set's triangles. They are counted first: all tables are tested before one is written. (C lends the tables one by one.)
 fn fill(
     p: Polygon,
     set: &TriangleSet,

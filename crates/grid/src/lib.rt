@@ -9,7 +9,7 @@ ghost use Rattle.grid.specs.Point.{point, OnGrid, coordinate_on_grid, point_on_g
 use std::error::Error;
 use std::fmt;
 
-// A point in grid steps.
+// A point in grid steps. That it is on the grid is no invariant: a polygon built by hand may hold one that is not, and is refused with 9.
 #[derive(Clone, Copy, Debug, PartialEq, Eq)]
 pub struct GridPoint {
     pub x: i64,

@@ -19,7 +19,8 @@ const CANDIDATES: usize = 1024;
 
 const ROWS: usize = 4096;
 
-// What is printed: the outcome; for a patch also the number of its vertices, and a line in each of as many first places as it has triangles.
+// What is printed: the outcome; for a patch also the number of its vertices, and a line in each of as many first places as it has triangles
+// (an array, since there is no heap).
 #[derive(Clone, Copy)]
 pub struct Printout {
     pub outcome: Result<Option<Patch>, Refusal>,

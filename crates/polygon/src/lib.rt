@@ -13,6 +13,7 @@ ghost use Rattle.codes.specs.Refusals.{or_refused};
 ghost use Rattle.polygon.specs.Polygon.{empty_polygon, repeated_vertex, vertices_code, code_of};
 
 // The vertices are the first n places; the places after them belong to no vertex. Place i of the normals is for the edge from vertex i to the next.
+// Arrays with a count beside them, since there is no heap; two of them, since the page of promises names each (Files: `vertices`, `normals`).
 #[derive(Clone, Copy, Debug, PartialEq, Eq)]
 pub struct Polygon {
     pub n: usize,
@@ -37,7 +38,7 @@ impl Polygon {
     }
 }
 
-// Do two of the first n vertices share a grid point?
+// Do two of the first n vertices share a grid point? (The table and n, not a slice: the polygon's definition is of them.)
 pub fn has_repeated_vertex(vertices: [GridPoint; terms::MAX_VERTICES], n: usize) -> bool
     requires { n ≤ max_vertices }
     ensures { result ≡ repeated_vertex vertices n }

@@ -32,7 +32,7 @@ struct Progress {
     pub link: usize,
 }
 
-// The chain followed to its end: its vertices and their normals.
+// The chain followed to its end: its vertices and their normals, the first n places of arrays, since there is no heap.
 #[derive(Clone, Copy)]
 struct Chain {
     pub n: usize,

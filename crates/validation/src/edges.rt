@@ -7,6 +7,7 @@ ghost use Rattle.triangulation.specs.Triangulations.{is_boundary, edge_ok, is_tr
 ghost use Rattle.triangulation.specs.Problems.{problem_from};
 ghost use Rattle.validation.specs.Edges.{edge_at, edge_places, added, Room, Triangles, Counted, vertices_alone, edge_fits, edges_fit};
 
+// One array, not an array of rows: the definition `edge_at` counts its places so.
 const EDGES: usize = terms::MAX_VERTICES * terms::MAX_VERTICES;
 
 // The place of the edge (i, j).

@@ -15,7 +15,7 @@ use dihedrals::MeasuredNormal;
 use geometry::face;
 use polygon::Polygon;
 
-// The own weight of a candidate, by the length of its normal.
+// The own weight of a candidate, by the length of its normal, which is made anew only where an edge has a surface outside.
 fn own_weight(p: &Polygon, t: [u8; 3], length: u32) -> u32
     requires { (ValidPolygon p.now) × (Corners p.now t) × (Measured (face_normal p.now t) length) }
     ensures { result ≡ own_weight_of p.now.area_factor p.now.bend_factor (face_normal p.now t) (edges_of p.now t) }
