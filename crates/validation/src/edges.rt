@@ -5,7 +5,9 @@ ghost use Rattle.terms.specs.Entries.{vertex_a, vertex_b, vertex_c};
 ghost use Rattle.lists.specs.Lists.{every};
 ghost use Rattle.triangulation.specs.Triangulations.{is_boundary, edge_ok, is_triangulation};
 ghost use Rattle.triangulation.specs.Problems.{problem_from};
-ghost use Rattle.validation.specs.Edges.{edge_at, edge_places, added, Room, Triangles, Counted, vertices_alone, edge_fits, edges_fit};
+ghost use Rattle.validation.specs.Edges.{edge_at, edge_places, added, Room, Counted, vertices_alone, edge_fits, edges_fit};
+
+use crate::selection::Selection;
 
 // One array, not an array of rows: the definition `edge_at` counts its places so.
 const EDGES: usize = terms::MAX_VERTICES * terms::MAX_VERTICES;
@@ -46,17 +48,12 @@ fn add_outside(table: &mut [u8; EDGES], t: [u8; 3])
 }
 
 // Counts the triangles of a list at their edges, those on each side by themselves, in tables of zeros.
-fn count_edges(
-    candidates: &[[u8; 3]],
-    list: &[u16],
-    between: &mut [u8; EDGES],
-    outside: &mut [u8; EDGES],
-)
-    requires { Triangles candidates.now list.now × (between.old ≡ replicate edge_places 0) × (outside.old ≡ replicate edge_places 0) }
-    ensures { Counted candidates.now list.now between.new outside.new }
+fn count_edges(selection: &Selection<'_>, between: &mut [u8; EDGES], outside: &mut [u8; EDGES])
+    requires { (between.old ≡ replicate edge_places 0) × (outside.old ≡ replicate edge_places 0) }
+    ensures { Counted selection.now.candidates.now selection.now.list.now between.new outside.new }
 {
-    for k in list {
-        let t = candidates[usize::from(*k)];
+    for k in selection.list {
+        let t = selection.candidates[usize::from(*k)];
         add_between(between, t);
         add_outside(outside, t);
     }
@@ -103,12 +100,12 @@ fn edges_fit(n: usize, between: &[u8; EDGES], outside: &[u8; EDGES]) -> bool
 }
 
 // The list passes the edge test as it stands.
-pub fn is_triangulation(n: usize, candidates: &[[u8; 3]], list: &[u16]) -> bool
-    requires { (n ≤ max_vertices) × Triangles candidates.now list.now }
-    ensures { result ≡ is_triangulation (problem_from n candidates.now [] []) list.now }
+pub fn is_triangulation(n: usize, selection: &Selection<'_>) -> bool
+    requires { n ≤ max_vertices }
+    ensures { result ≡ is_triangulation (problem_from n selection.now.candidates.now [] []) selection.now.list.now }
 {
     let mut between = [0u8; EDGES];
     let mut outside = [0u8; EDGES];
-    count_edges(candidates, list, &mut between, &mut outside);
+    count_edges(selection, &mut between, &mut outside);
     edges_fit(n, &between, &outside)
 }

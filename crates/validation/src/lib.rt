@@ -3,6 +3,7 @@
 
 mod edges;
 mod names;
+mod selection;
 mod totals;
 
 ghost use Rattle.std.specs.Prelude.{◌≡◌, ◌≤◌, length};
@@ -16,6 +17,7 @@ ghost use Rattle.validation.specs.Validation.{is_tiling, list_code};
 
 use codes::Refusal;
 use jobs::Job;
+use selection::Selection;
 
 // Whether the list is a tiling without repeats. That no candidate stands twice need not be tested: it would have its edges twice.
 fn is_tiling(job: &Job, list: &[u16]) -> bool
@@ -23,7 +25,7 @@ fn is_tiling(job: &Job, list: &[u16]) -> bool
     ensures { result ≡ is_tiling (problem_of (job_in job.now)) list.now }
 {
     names::names_triangles(job.n, job.candidates.len(), list)
-        && edges::is_triangulation(job.n, job.candidates, list)
+        && edges::is_triangulation(job.n, &Selection::new(job.candidates, list))
 }
 
 // The first of 21 and 22 that is due on a list.
@@ -36,7 +38,7 @@ pub fn check_list(job: &Job, list: &[u16], stated: u64) -> Result<(), Refusal>
     if !is_tiling(job, list) {
         return Err(Refusal::NOT_A_TRIANGULATION);
     }
-    if totals::total(job.candidates, job.weights, job.rows, list) != stated {
+    if totals::total(&Selection::new(job.candidates, list), job.weights, job.rows) != stated {
         return Err(Refusal::WRONG_TOTAL);
     }
     Ok(())
