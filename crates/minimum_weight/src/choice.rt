@@ -28,7 +28,8 @@ fn better(
     j: u8,
     u: usize,
 ) -> Pick
-    requires { (u < length instance.now.job.candidates.now) × (length instance.now.job.candidates.now ≤ length work.now) × RowsAscend rows.now × (p.cost ≤ no_total) }
+    requires { (u < length instance.now.job.candidates.now) × (length instance.now.job.candidates.now ≤ length work.now)
+        × RowsAscend rows.now × (p.cost ≤ no_total) }
     ensures { result
         ≡ better_of p u (eqb (vertex_c (entry_at instance.now.job.candidates.now u)) j) (get_or work.now u 0) (pair_weight rows.now t u) }
 {

@@ -25,15 +25,9 @@ pub fn least_total(instance: &Instance, work: &mut [u64]) -> Option<u64>
     ensures work { work.new ≡ filled (part_totals (problem_at instance.now)) work.old }
 {
     costs::fill(instance, work);
-    let last = (instance.job.n - 1) as u8;
-    let whole = choice::best_under(
-        instance,
-        work,
-        instance.job.rows,
-        instance.job.candidates.len(),
-        0,
-        last,
-    );
+    let job = &instance.job;
+    let last = (job.n - 1) as u8;
+    let whole = choice::best_under(instance, work, job.rows, job.candidates.len(), 0, last);
     if whole.cost < NONE {
         Some(whole.cost)
     } else {

@@ -7,7 +7,9 @@ use Rattle.minimum_weight.specs.Tables.{pick_under}
 use Rattle.minimum_weight.proofs.choice.best_in_block.Goals as goal
 
 pub loop-u-init : goal.loop-u-init
-loop-u-init c = let s = c in (omega arith, starts_up _ _ _ s.args.instance.now.blocks s.requires.2, block_start _ _ _ _ _ _ s.args.instance.now.blocks s.requires.2)
+loop-u-init c =
+    let b = c.args.instance.now.blocks in
+    (omega arith, starts_up _ _ _ b c.requires.2, block_start _ _ _ _ _ _ b c.requires.2)
 
 pub better-p-requires : goal.better-p-requires
 better-p-requires c =

@@ -4,7 +4,9 @@ use Rattle.minimum_weight.proofs.Filling.{fill_start, fill_end, filled_down, fil
 use Rattle.minimum_weight.proofs.costs.fill.Goals as goal
 
 pub loop-v-init : goal.loop-v-init
-loop-v-init c = let s = c in let ok = s.args.instance.now.well_formed in let b = s.args.instance.now.blocks in (omega arith, fill_start s.args.instance.now.job.n _ _ _ ok _ b s.args.work.now)
+loop-v-init c =
+    let i = c.args.instance.now in
+    (omega arith, fill_start i.job.n _ _ _ i.well_formed _ i.blocks c.args.work.now)
 
 pub fill_block-requires : goal.fill_block-requires
 fill_block-requires c =
