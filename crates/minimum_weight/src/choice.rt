@@ -1,7 +1,6 @@
 // The best candidate beneath an edge.
 ghost use Rattle.std.specs.Prelude.{◌≡◌, ◌<◌, ◌≤◌, length, get_or, eqb};
 ghost use Rattle.triangulation.specs.Problems.{pair_weight};
-ghost use Rattle.blocks.specs.Blocks.{Starts};
 ghost use Rattle.terms.specs.Limits.{max_vertices};
 ghost use Rattle.terms.specs.Entries.{entry_at, vertex_c};
 ghost use Rattle.triangulation.specs.Recursion.{no_total};
@@ -9,6 +8,7 @@ ghost use Rattle.rows.specs.Search.{RowsAscend};
 ghost use Rattle.minimum_weight.specs.Tables.{better_of, pick_under, pick_at_edge};
 
 use crate::NONE;
+use crate::instance::Instance;
 
 // A total and the candidate that starts it. No candidate is the total NONE, as in the work table: one comparison then tells 'no part' and 'not lower'.
 #[derive(Clone, Copy)]
@@ -21,18 +21,19 @@ pub struct Pick {
 // total without it is.
 fn better(
     p: Pick,
-    candidates: &[[u8; 3]],
+    instance: &Instance,
     work: &[u64],
     rows: &[[u32; 3]],
     t: usize,
     j: u8,
     u: usize,
 ) -> Pick
-    requires { (u < length candidates.now) × (length candidates.now ≤ length work.now) × RowsAscend rows.now × (p.cost ≤ no_total) }
+    requires { (u < length instance.now.job.candidates.now) × (length instance.now.job.candidates.now ≤ length work.now)
+        × RowsAscend rows.now × (p.cost ≤ no_total) }
     ensures { result
-        ≡ better_of p u (eqb (vertex_c (entry_at candidates.now u)) j) (get_or work.now u 0) (pair_weight rows.now t u) }
+        ≡ better_of p u (eqb (vertex_c (entry_at instance.now.job.candidates.now u)) j) (get_or work.now u 0) (pair_weight rows.now t u) }
 {
-    let triangle = candidates[u];
+    let triangle = instance.job.candidates[u];
     if triangle[2] != j {
         return p;
     }
@@ -50,41 +51,39 @@ fn better(
 
 // The best candidate (i, x, j) under t, the first of equal ones: all of them stand in the block of i.
 pub fn best_in_block(
-    starts: &[usize; blocks::STARTS],
-    candidates: &[[u8; 3]],
+    instance: &Instance,
     work: &[u64],
     rows: &[[u32; 3]],
     t: usize,
     i: u8,
     j: u8,
 ) -> Pick
-    requires { Starts candidates.now starts.now × RowsAscend rows.now × (length candidates.now ≤ length work.now) × (i < max_vertices) }
-    ensures { result ≡ pick_under candidates.now work.now rows.now t i j }
+    requires { RowsAscend rows.now × (length instance.now.job.candidates.now ≤ length work.now) × (i < max_vertices) }
+    ensures { result ≡ pick_under instance.now.job.candidates.now work.now rows.now t i j }
 {
     let block = i as usize;
     let mut p = Pick { cost: NONE, at: 0 };
     // A loop over places: candidates, work and rows are asked by u, and the pick names it.
-    for u in starts[block]..starts[block + 1] {
-        p = better(p, candidates, work, rows, t, j, u);
+    for u in instance.starts[block]..instance.starts[block + 1] {
+        p = better(p, instance, work, rows, t, j, u);
     }
     p
 }
 
 // The best beneath the edge (i, j) of t: nothing beneath a rim edge (i, i + 1).
 pub fn best_under(
-    starts: &[usize; blocks::STARTS],
-    candidates: &[[u8; 3]],
+    instance: &Instance,
     work: &[u64],
     rows: &[[u32; 3]],
     t: usize,
     i: u8,
     j: u8,
 ) -> Pick
-    requires { Starts candidates.now starts.now × RowsAscend rows.now × (length candidates.now ≤ length work.now) × (i < j) × (j < max_vertices) }
-    ensures { result ≡ pick_at_edge candidates.now work.now rows.now t i j }
+    requires { RowsAscend rows.now × (length instance.now.job.candidates.now ≤ length work.now) × (i < j) × (j < max_vertices) }
+    ensures { result ≡ pick_at_edge instance.now.job.candidates.now work.now rows.now t i j }
 {
     if j - i == 1 {
         return Pick { cost: 0, at: 0 };
     }
-    best_in_block(starts, candidates, work, rows, t, i, j)
+    best_in_block(instance, work, rows, t, i, j)
 }

@@ -3,15 +3,15 @@
 // which stands before it in its block, or (b, x, c), which stands in a later block.
 ghost use Rattle.std.specs.Prelude.{◌≡◌, ◌+◌, ◌<◌, ◌≤◌, length, get_or};
 ghost use Rattle.lists.specs.Lists.{filled};
-ghost use Rattle.triangulation.specs.Problems.{problem_from};
 ghost use Rattle.triangulation.specs.Recursion.{cost_of, best_from};
-ghost use Rattle.blocks.specs.Blocks.{Starts};
 ghost use Rattle.terms.specs.Limits.{max_vertices};
 ghost use Rattle.rows.specs.Search.{Run};
-ghost use Rattle.minimum_weight.specs.Tables.{WellFormed, Cost, join_cost, ReadyBeneath, Filled, part_totals};
+ghost use Rattle.minimum_weight.specs.Tables.{Cost, join_cost, ReadyBeneath, Filled, part_totals};
+ghost use Rattle.minimum_weight.specs.Instances.{problem_at};
 
 use crate::NONE;
 use crate::choice::best_under;
+use crate::instance::Instance;
 
 // The total of a triangle of weight w over parts of totals left and right.
 fn join_cost(w: u32, left: u64, right: u64) -> u64
@@ -25,69 +25,41 @@ fn join_cost(w: u32, left: u64, right: u64) -> u64
     }
 }
 
-// The least total of a part that starts with candidate t, by the rows of outer t. (n and rows are for the contract alone.)
-fn cost_of(
-    n: usize,
-    starts: &[usize; blocks::STARTS],
-    candidates: &[[u8; 3]],
-    weights: &[u32],
-    rows: &[[u32; 3]],
-    run: &[[u32; 3]],
-    work: &[u64],
-    t: usize,
-) -> u64
-    requires well_formed { WellFormed n candidates.now weights.now rows.now × Starts candidates.now starts.now
-        × (length candidates.now ≤ length work.now) × (t < length candidates.now) × Run rows.now t run.now }
-    requires ready_beneath { ReadyBeneath (problem_from n candidates.now weights.now rows.now) work.now t }
-    ensures { result ≡ cost_of (best_from (problem_from n candidates.now weights.now rows.now) n t) }
+// The least total of a part that starts with candidate t, by the rows of outer t.
+fn cost_of(instance: &Instance, run: &[[u32; 3]], work: &[u64], t: usize) -> u64
+    requires well_formed { (length instance.now.job.candidates.now ≤ length work.now)
+        × (t < length instance.now.job.candidates.now) × Run instance.now.job.rows.now t run.now }
+    requires ready_beneath { ReadyBeneath (problem_at instance.now) work.now t }
+    ensures { result ≡ cost_of (best_from (problem_at instance.now) instance.now.job.n t) }
 {
-    let [a, b, c] = candidates[t];
-    let left = best_under(starts, candidates, work, run, t, a, b);
-    let right = best_under(starts, candidates, work, run, t, b, c);
-    join_cost(weights[t], left.cost, right.cost)
+    let [a, b, c] = instance.job.candidates[t];
+    let left = best_under(instance, work, run, t, a, b);
+    let right = best_under(instance, work, run, t, b, c);
+    join_cost(instance.job.weights[t], left.cost, right.cost)
 }
 
 // Fills the places of the candidates whose first vertex is v, where those of later ones are filled.
-fn fill_block(
-    n: usize,
-    starts: &[usize; blocks::STARTS],
-    candidates: &[[u8; 3]],
-    weights: &[u32],
-    rows: &[[u32; 3]],
-    work: &mut [u64],
-    v: usize,
-)
-    requires well_formed { WellFormed n candidates.now weights.now rows.now × Starts candidates.now starts.now
-        × (length candidates.now ≤ length work.old) × (v < max_vertices) }
-    requires filled { Filled (problem_from n candidates.now weights.now rows.now) work.old (get_or starts.now (v + 1) 0) work.old }
-    ensures { Filled (problem_from n candidates.now weights.now rows.now)
-        work.old (get_or starts.now v 0) work.new }
+fn fill_block(instance: &Instance, work: &mut [u64], v: usize)
+    requires well_formed { (length instance.now.job.candidates.now ≤ length work.old) × (v < max_vertices) }
+    requires filled { Filled (problem_at instance.now) work.old (get_or instance.now.starts.now (v + 1) 0) work.old }
+    ensures { Filled (problem_at instance.now) work.old (get_or instance.now.starts.now v 0) work.new }
 {
-    let mut first = rows::lower_bound(rows, starts[v], 0);
+    let mut first = rows::lower_bound(instance.job.rows, instance.starts[v], 0);
     // A loop over places: what hangs on candidate t reads other places of the table that is written.
-    for t in starts[v]..starts[v + 1] {
-        let last = rows::run_end(rows, first, t);
-        let run = &rows[first..last];
-        work[t] = cost_of(n, starts, candidates, weights, rows, run, work, t);
+    for t in instance.starts[v]..instance.starts[v + 1] {
+        let last = rows::run_end(instance.job.rows, first, t);
+        let run = &instance.job.rows[first..last];
+        work[t] = cost_of(instance, run, work, t);
         first = last;
     }
 }
 
 // Fills the place of every candidate.
-pub fn fill(
-    n: usize,
-    starts: &[usize; blocks::STARTS],
-    candidates: &[[u8; 3]],
-    weights: &[u32],
-    rows: &[[u32; 3]],
-    work: &mut [u64],
-)
-    requires { WellFormed n candidates.now weights.now rows.now × Starts candidates.now starts.now
-        × (length candidates.now ≤ length work.old) }
-    ensures { work.new
-        ≡ filled (part_totals (problem_from n candidates.now weights.now rows.now)) work.old }
+pub fn fill(instance: &Instance, work: &mut [u64])
+    requires { length instance.now.job.candidates.now ≤ length work.old }
+    ensures { work.new ≡ filled (part_totals (problem_at instance.now)) work.old }
 {
-    for v in (0..n).rev() {
-        fill_block(n, starts, candidates, weights, rows, work, v);
+    for v in (0..instance.job.n).rev() {
+        fill_block(instance, work, v);
     }
 }

@@ -4,13 +4,14 @@
 ghost use Rattle.std.specs.Prelude.{◌≡◌, ◌+◌, ◌<◌, ◌≤◌, length};
 ghost use Rattle.lists.specs.Lists.{filled};
 ghost use Rattle.triangulation.specs.Triangulations.{best_key};
-ghost use Rattle.triangulation.specs.Problems.{problem_from};
 ghost use Rattle.triangulation.specs.Recursion.{cost_of, rest_of, no_total};
-ghost use Rattle.blocks.specs.Blocks.{Starts};
-ghost use Rattle.minimum_weight.specs.Tables.{WellFormed, AllReady};
+ghost use Rattle.minimum_weight.specs.Tables.{AllReady};
+ghost use Rattle.minimum_weight.specs.Instances.{problem_at};
 ghost use Rattle.preorder.specs.Preorder.{part_under};
 
+use jobs::Job;
 use minimum_weight::choice::best_in_block;
+use minimum_weight::instance::Instance;
 
 // The part of the polygon from vertex `first` to vertex `last`, under the triangle `outer`. It has a vertex between them: a rim edge
 // (i, i + 1) is no part.
@@ -32,23 +33,18 @@ impl Part {
 // The parts that wait at once, at most: `most_parts` of specs/Preorder.
 const MOST_PARTS: usize = (terms::MAX_VERTICES - 1) / 2;
 
-// Writes the triangles of the whole polygon's best triangulation, where there is one. (weights is for the contract alone.)
-pub fn write_preorder(
-    n: usize,
-    starts: &[usize; blocks::STARTS],
-    candidates: &[[u8; 3]],
-    weights: &[u32],
-    rows: &[[u32; 3]],
-    work: &[u64],
-    triangles: &mut [u16],
-)
-    requires well_formed { WellFormed n candidates.now weights.now rows.now × Starts candidates.now starts.now
-        × (length candidates.now ≤ length work.now) × (n ≤ length triangles.old + 2) }
-    requires all_ready { AllReady (problem_from n candidates.now weights.now rows.now) work.now
-        × (cost_of (best_key (problem_from n candidates.now weights.now rows.now)) < no_total) }
-    ensures { triangles.new
-        ≡ filled (rest_of (best_key (problem_from n candidates.now weights.now rows.now))) triangles.old }
+// Writes the triangles of the whole polygon's best triangulation, where there is one.
+pub fn write_preorder(instance: &Instance, work: &[u64], triangles: &mut [u16])
+    requires places { (length instance.now.job.candidates.now ≤ length work.now) × (instance.now.job.n ≤ length triangles.old + 2) }
+    requires all_ready { AllReady (problem_at instance.now) work.now × (cost_of (best_key (problem_at instance.now)) < no_total) }
+    ensures { triangles.new ≡ filled (rest_of (best_key (problem_at instance.now))) triangles.old }
 {
+    let Job {
+        n,
+        candidates,
+        rows,
+        ..
+    } = instance.job;
     let last = (n - 1) as u8;
     let whole = Part::new(candidates.len(), 0, last);
     // No heap: the parts stand in an array, and `height` of them wait.
@@ -62,7 +58,7 @@ pub fn write_preorder(
         let t = part.outer;
         let i = part.first;
         let j = part.last;
-        let pick = best_in_block(starts, candidates, work, rows, t, i, j);
+        let pick = best_in_block(instance, work, rows, t, i, j);
         let u = pick.at;
         let triangle = candidates[u];
         let b = triangle[1];

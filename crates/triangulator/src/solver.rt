@@ -9,6 +9,7 @@ ghost use Rattle.minimum_weight.specs.Tables.{WellFormed};
 ghost use Rattle.triangulator.specs.Steps.{lists, listed_by};
 
 use jobs::Job;
+use minimum_weight::instance::Instance;
 use minimum_weight::{clear, least_total};
 use preorder::write_preorder;
 
@@ -28,20 +29,18 @@ pub fn solve(job: &Job, agreed: Option<u64>, triangles: &mut [u16], work: &mut [
     ensures triangles { triangles.new ≡ listed_by agreed (best_key (problem_of (job_in job.now))) triangles.old }
     ensures work { work.new ≡ filled (replicate (length job.now.candidates.now) 0) work.old }
 {
-    let Job {
-        n,
-        candidates,
-        weights,
-        rows,
-    } = *job;
-    let starts = blocks::block_starts(candidates);
-    let least = least_total(n, &starts, candidates, weights, rows, work);
+    let starts = blocks::block_starts(job.candidates);
+    let instance = Instance {
+        job: *job,
+        starts: &starts,
+    };
+    let least = least_total(&instance, work);
     if let Some(total) = least
         && is_listed(agreed, total)
     {
-        write_preorder(n, &starts, candidates, weights, rows, work, triangles);
+        write_preorder(&instance, work, triangles);
     }
-    clear(work, candidates.len());
+    clear(work, instance.job.candidates.len());
     least
 }
 
@@ -53,7 +52,11 @@ pub fn least(job: &Job, work: &mut [u64]) -> Option<u64>
     ensures work { work.new ≡ filled (replicate (length job.now.candidates.now) 0) work.old }
 {
     let starts = blocks::block_starts(job.candidates);
-    let least = least_total(job.n, &starts, job.candidates, job.weights, job.rows, work);
+    let instance = Instance {
+        job: *job,
+        starts: &starts,
+    };
+    let least = least_total(&instance, work);
     clear(work, job.candidates.len());
     least
 }

@@ -26,14 +26,14 @@ module _ (n : ℕ) (candidates : List (List ℕ)) (weights : List ℕ) (rows : L
 
 pub returns-then-whole-lt-NONE : goal.returns-then-whole-lt-NONE
 returns-then-whole-lt-NONE c =
-    let ok = c.requires.0 in
+    let ok = c.args.instance.now.well_formed in
     let f = c.fill.ensures in
-    let e = whole_cost c.args.n _ _ _ ok _ (filled_ready _ _ c.requires.2 f) c.best_under-whole.result c.best_under-whole.ensures in
+    let e = whole_cost c.args.instance.now.job.n _ _ _ ok _ (filled_ready _ _ c.requires f) c.best_under-whole.result c.best_under-whole.ensures in
     record { total = some_key _ e c.if-whole-lt-NONE.true; work = f }
 
 pub returns-else-whole-lt-NONE : goal.returns-else-whole-lt-NONE
 returns-else-whole-lt-NONE c =
-    let ok = c.requires.0 in
+    let ok = c.args.instance.now.well_formed in
     let f = c.fill.ensures in
-    let e = whole_cost c.args.n _ _ _ ok _ (filled_ready _ _ c.requires.2 f) c.best_under-whole.result c.best_under-whole.ensures in
-    record { total = ap key_total (sym (no_key c.args.n _ _ _ ok (omega (arith, e, c.if-whole-lt-NONE.false)))); work = f }
+    let e = whole_cost c.args.instance.now.job.n _ _ _ ok _ (filled_ready _ _ c.requires f) c.best_under-whole.result c.best_under-whole.ensures in
+    record { total = ap key_total (sym (no_key c.args.instance.now.job.n _ _ _ ok (omega (arith, e, c.if-whole-lt-NONE.false)))); work = f }

@@ -67,7 +67,7 @@ module _ (c : goal.Joined-j-b-gt1) where
   chosen = c.best_in_block-pick.result.at
 
   abbrev middle : ℕ
-  middle = (job c.requires.well_formed.0 c.requires.all_ready.1).b chosen
+  middle = (job c.args.instance.now.well_formed c.requires.all_ready.1).b chosen
 
   abbrev part : Part
   part = top c.loop-count.stack c.loop-count.height
@@ -76,7 +76,7 @@ module _ (c : goal.Joined-j-b-gt1) where
   right : Waits c.if-j-b-gt1.stack c.if-j-b-gt1.height
       (beneath chosen middle part.last ++ waiting c.loop-count.stack (c.loop-count.height - 1))
   right =
-      let ok = c.requires.well_formed.0 in
+      let ok = c.args.instance.now.well_formed in
       let w = rest_waits (tiled ok c.requires.all_ready.1) c.loop-count.invariant
       (due ok c.requires.all_ready.1 c.loop-count.invariant c.loop-count-test.true) in
       elim c.if-j-b-gt1.branch [
@@ -85,42 +85,42 @@ module _ (c : goal.Joined-j-b-gt1) where
         | else-j-b-gt1 z ↦ skip chosen middle part.last w (omega (arith, z.if-j-b-gt1.false)) z.stack-is z.height-is
       ]
 
-  abbrev first_of : chosen ≡ first_triangle (job c.requires.well_formed.0 c.requires.all_ready.1) part
-  first_of = first c.requires.well_formed.0 c.requires.all_ready.1 c.loop-count.invariant c.loop-count-test.true c.args.work.now c.requires.all_ready.0
+  abbrev first_of : chosen ≡ first_triangle (job c.args.instance.now.well_formed c.requires.all_ready.1) part
+  first_of = first c.args.instance.now.well_formed c.requires.all_ready.1 c.loop-count.invariant c.loop-count-test.true c.args.work.now c.requires.all_ready.0
       c.best_in_block-pick.result c.best_in_block-pick.ensures
 
   -- the left part has a place above the right part
   left : 1 < middle - part.first → c.if-j-b-gt1.height < most_parts
   left h =
-      let ok = c.requires.well_formed.0 in
+      let ok = c.args.instance.now.well_formed in
       left_place (tiled ok c.requires.all_ready.1) c.loop-count.invariant
       (due ok c.requires.all_ready.1 c.loop-count.invariant c.loop-count-test.true) chosen first_of h right
 
 pub loop-count-init : goal.loop-count-init
-loop-count-init c = start (tiled c.requires.well_formed.0 c.requires.all_ready.1) c.new-whole.result c.args.triangles.now c.new-whole.ensures
+loop-count-init c = start (tiled c.args.instance.now.well_formed c.requires.all_ready.1) c.new-whole.result c.args.triangles.now c.new-whole.ensures
 
 pub overflow_sub-height : goal.overflow_sub-height
 overflow_sub-height c =
-    let ok = c.requires.well_formed.0 in
+    let ok = c.args.instance.now.well_formed in
     let s = c.requires.all_ready.1 in
     part_waits (tiled ok s) c.loop-count.invariant (due ok s c.loop-count.invariant c.loop-count-test.true)
 
 pub offset_bounds-stack-height : goal.offset_bounds-stack-height
 offset_bounds-stack-height c =
-    omega (arith, place c.requires.well_formed.0 c.requires.all_ready.1 c.loop-count.invariant c.loop-count-test.true)
+    omega (arith, place c.args.instance.now.well_formed c.requires.all_ready.1 c.loop-count.invariant c.loop-count-test.true)
 
 pub bounds-stack-height : goal.bounds-stack-height
-bounds-stack-height c = place c.requires.well_formed.0 c.requires.all_ready.1 c.loop-count.invariant c.loop-count-test.true
+bounds-stack-height c = place c.args.instance.now.well_formed c.requires.all_ready.1 c.loop-count.invariant c.loop-count-test.true
 
 pub best_in_block-pick-requires : goal.best_in_block-pick-requires
 best_in_block-pick-requires c =
-    let s = c.requires.well_formed in
-    let w = whole s.0 c.requires.all_ready.1 c.loop-count.invariant c.loop-count-test.true in
-    (s.1, s.0.rows_ascend, s.2, omega (arith, w.order, w.within, s.0.bounded.few))
+    let ok = c.args.instance.now.well_formed in
+    let w = whole ok c.requires.all_ready.1 c.loop-count.invariant c.loop-count-test.true in
+    (ok.rows_ascend, c.requires.places.0, omega (arith, w.order, w.within, ok.bounded.few))
 
 pub offset_bounds-candidates-u : goal.offset_bounds-candidates-u
 offset_bounds-candidates-u c =
-    let ok = c.requires.well_formed.0 in
+    let ok = c.args.instance.now.well_formed in
     omega (
       arith,
       ok.few,
@@ -130,12 +130,12 @@ offset_bounds-candidates-u c =
 
 pub bounds-candidates-u : goal.bounds-candidates-u
 bounds-candidates-u c =
-    (down c.requires.well_formed.0 c.requires.all_ready.1 c.loop-count.invariant c.loop-count-test.true c.args.work.now c.requires.all_ready.0
+    (down c.args.instance.now.well_formed c.requires.all_ready.1 c.loop-count.invariant c.loop-count-test.true c.args.work.now c.requires.all_ready.0
     c.best_in_block-pick.result c.best_in_block-pick.ensures).valid
 
 pub overflow_cast-triangles : goal.overflow_cast-triangles
 overflow_cast-triangles c =
-    let ok = c.requires.well_formed.0 in
+    let ok = c.args.instance.now.well_formed in
     omega (
       arith,
       ok.few,
@@ -145,13 +145,13 @@ overflow_cast-triangles c =
 
 pub overflow_sub-j : goal.overflow_sub-j
 overflow_sub-j c =
-    let d = down c.requires.well_formed.0 c.requires.all_ready.1 c.loop-count.invariant c.loop-count-test.true c.args.work.now c.requires.all_ready.0
+    let d = down c.args.instance.now.well_formed c.requires.all_ready.1 c.loop-count.invariant c.loop-count-test.true c.args.work.now c.requires.all_ready.0
     c.best_in_block-pick.result c.best_in_block-pick.ensures in
     omega (arith, d.left, d.right)
 
 pub overflow_sub-b : goal.overflow_sub-b
 overflow_sub-b c =
-    let d = down c.requires.well_formed.0 c.requires.all_ready.1 c.loop-count.invariant c.loop-count-test.true c.args.work.now c.requires.all_ready.0
+    let d = down c.args.instance.now.well_formed c.requires.all_ready.1 c.loop-count.invariant c.loop-count-test.true c.args.work.now c.requires.all_ready.0
     c.best_in_block-pick.result c.best_in_block-pick.ensures in
     omega (arith, d.left, d.right)
 
@@ -165,12 +165,12 @@ bounds-stack-height-then-b-i-gt1 c = left (goal.at.bounds-stack-height-then-b-i-
 pub loop-count-preserved : goal.loop-count-preserved
 loop-count-preserved c =
     let j = (goal.at.loop-count-preserved c).Joined-j-b-gt1 in
-    let ok = c.requires.well_formed.0 in
+    let ok = c.args.instance.now.well_formed in
     let s = c.requires.all_ready.1 in
     let u = chosen j in
     let b = middle j in
     one_turn (tiled ok s) c.loop-count.invariant (due ok s c.loop-count.invariant c.loop-count-test.true) u (first_of j)
-    (room ok s c.args.triangles.now c.requires.well_formed.3)
+    (room ok s c.args.triangles.now c.requires.places.1)
     (elim c.if-b-i-gt1.branch [
       | then-b-i-gt1 z ↦ put u (part j).first b (right j) (left j z.if-b-i-gt1.true) z.if-b-i-gt1.true z.new-then-b-i-gt1.ensures z.stack-is z.height-is
       | else-b-i-gt1 z ↦ skip u (part j).first b (right j) z.if-b-i-gt1.false z.stack-is z.height-is
@@ -178,7 +178,7 @@ loop-count-preserved c =
 
 pub returns : goal.returns
 returns c =
-    let ok = c.requires.well_formed.0 in
+    let ok = c.args.instance.now.well_formed in
     let t = tiled ok c.requires.all_ready.1 in
     end t c.loop-count.invariant (omega (arith, c.loop-count-test.false, patch_length t))
-    ∙ ap (λ k. filled (rest_of k) c.args.triangles.now) (sym (answer_whole c.args.n _ _ _ ok))
+    ∙ ap (λ k. filled (rest_of k) c.args.triangles.now) (sym (answer_whole c.args.instance.now.job.n _ _ _ ok))

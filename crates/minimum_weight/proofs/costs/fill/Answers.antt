@@ -4,16 +4,18 @@ use Rattle.minimum_weight.proofs.Filling.{fill_start, fill_end, filled_down, fil
 use Rattle.minimum_weight.proofs.costs.fill.Goals as goal
 
 pub loop-v-init : goal.loop-v-init
-loop-v-init c = let s = c in let ok = s.requires.0 in let b = s.requires.1 in (omega arith, fill_start s.args.n _ _ _ ok _ b s.args.work.now)
+loop-v-init c =
+    let i = c.args.instance.now in
+    (omega arith, fill_start i.job.n _ _ _ i.well_formed _ i.blocks c.args.work.now)
 
 pub fill_block-requires : goal.fill_block-requires
 fill_block-requires c =
     let s = c in
-    let ok = s.requires.0 in
-    let b = s.requires.1 in
+    let ok = s.args.instance.now.well_formed in
+    let b = s.args.instance.now.blocks in
     let l = c.loop-v in record {
-      well_formed = (ok, b, omega (arith, s.requires.2, l.invariant.1.long), omega (arith, l.invariant.0, ok.bounded.few));
-      filled = filled_down _ s.args.starts.now l.v c.loop-v-test.true l.invariant.1;
+      well_formed = (omega (arith, s.requires, l.invariant.1.long), omega (arith, l.invariant.0, ok.bounded.few));
+      filled = filled_down _ s.args.instance.now.starts.now l.v c.loop-v-test.true l.invariant.1;
     }
 
 pub loop-v-preserved : goal.loop-v-preserved
@@ -27,6 +29,6 @@ shape_of-work c = c.loop-v.invariant.1.long
 pub returns : goal.returns
 returns c =
     let s = c in
-    let ok = s.requires.0 in
-    let b = s.requires.1 in
-    filled_is _ _ s.requires.2 (fill_end s.args.n _ _ _ ok _ b c.loop-v-test.false c.loop-v.invariant.1)
+    let ok = s.args.instance.now.well_formed in
+    let b = s.args.instance.now.blocks in
+    filled_is _ _ s.requires (fill_end s.args.instance.now.job.n _ _ _ ok _ b c.loop-v-test.false c.loop-v.invariant.1)

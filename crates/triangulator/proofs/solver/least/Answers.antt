@@ -3,10 +3,12 @@ use Rattle.blocks.proofs.Starts.{starts_of_lem}
 use Rattle.minimum_weight.proofs.Filling.{cleared}
 use Rattle.triangulator.proofs.solver.least.Goals as goal
 
-pub least_total-least-requires : goal.least_total-least-requires
-least_total-least-requires c =
-    let s = c in
-    (s.requires.0, starts_of_lem _ s.requires.0.ascending.by_first c.block_starts-starts.ensures, s.requires.1)
+pub invariant_of-instance : goal.invariant_of-instance
+invariant_of-instance c =
+    let ok = c.requires.0 in record {
+      well_formed = ok;
+      blocks = starts_of_lem _ ok.ascending.by_first c.block_starts-starts.ensures;
+    }
 
 pub returns : goal.returns
 returns c =

@@ -14,18 +14,18 @@ use Rattle.triangulator.proofs.Settling.{listed, not_listed}
 use Rattle.triangulator.proofs.solver.solve.Goals.{in-Some+then-is_listed, in_default, in_default-via-in-None-1, in_default-via-in-Some+else-is_listed}
 use Rattle.triangulator.proofs.solver.solve.Goals as goal
 
-pub least_total-least-requires : goal.least_total-least-requires
-least_total-least-requires c =
-    let s = c in
-    (s.requires.0, starts_of_lem _ s.requires.0.ascending.by_first c.block_starts-starts.ensures, s.requires.1)
+pub invariant_of-instance : goal.invariant_of-instance
+invariant_of-instance c =
+    let ok = c.requires.0 in record {
+      well_formed = ok;
+      blocks = starts_of_lem _ ok.ascending.by_first c.block_starts-starts.ensures;
+    }
 
 pub write_preorder-requires : goal.write_preorder-requires
 write_preorder-requires c =
-    let s = c in
-    let e = c.least_total-least.ensures in
-    let t = starts_of_lem _ s.requires.0.ascending.by_first c.block_starts-starts.ensures in record {
-      well_formed = (s.requires.0, t, omega (arith, s.requires.1, filled_long _ _ s.requires.1 e.work), s.requires.2);
-      all_ready = (filled_ready _ _ s.requires.1 e.work, key_light _ _ _ _ s.requires.0 (sym c.in-Some.is ∙ e.total));
+    let e = c.least_total-least.ensures in record {
+      places = (omega (arith, c.requires.1, filled_long _ _ c.requires.1 e.work), c.requires.2);
+      all_ready = (filled_ready _ _ c.requires.1 e.work, key_light _ _ _ _ c.requires.0 (sym c.in-Some.is ∙ e.total));
     }
 
 pub returns : goal.returns

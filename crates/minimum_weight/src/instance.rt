@@ -1,0 +1,13 @@
+// A job that the dynamic programme takes, and where the block of each first vertex starts.
+ghost use Rattle.blocks.specs.Blocks.{Starts};
+ghost use Rattle.minimum_weight.specs.Tables.{WellFormed};
+
+use jobs::Job;
+
+#[derive(Clone, Copy)]
+pub struct Instance<'a> {
+    pub job: Job<'a>,
+    pub starts: &'a [usize; blocks::STARTS],
+    pub ghost well_formed: { WellFormed job.n job.candidates.now job.weights.now job.rows.now },
+    pub ghost blocks: { Starts job.candidates.now starts.now },
+}
