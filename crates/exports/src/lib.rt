@@ -1,5 +1,6 @@
-// The calls that hosts in C and Rust link: each makes one call of the library, and gives the host its numbers. Each call on a rim file but the conversion
-// stands twice: with the limit that the host asks for, and with the largest.
+// The calls that hosts in C and Rust link: each makes one call of the library, and gives the host its numbers. Names and parameter lists are those of
+// hosts/patch_box.h: a direct job comes as its four parts, and each call on a rim file but the conversion stands twice, with the limit that the host asks
+// for and with the largest, since C has no parameter with a default.
 #![tactic(auto)]
 
 ghost use Rattle.std.specs.Prelude.{◌≡◌};
@@ -37,8 +38,7 @@ pub extern "C" fn patch_box_rim_within(
         ≡ rim_patch_of (patch_file limit file.now (tables triangles.old candidates.old weights.old
         rows.old work.old)) }
 {
-    let outcome = pipeline::patch_file(limit, file, triangles, candidates, weights, rows, work);
-    answers::patch_answer(outcome)
+    pipeline::patch_file(limit, file, triangles, candidates, weights, rows, work).into()
 }
 
 #[unsafe(no_mangle)]
@@ -83,8 +83,7 @@ pub extern "C" fn patch_box_price(
         weights,
         rows,
     };
-    let quote = pricing::price(&job, work);
-    answers::price_answer(quote)
+    pricing::price(&job, work).into()
 }
 
 // The tiler's other call: the patch, where the agreed total is the least.
@@ -108,8 +107,7 @@ pub extern "C" fn patch_box_patch(
         weights,
         rows,
     };
-    let outcome = pricing::patch(&job, agreed, triangles, work);
-    answers::patch_answer(outcome)
+    pricing::patch(&job, agreed, triangles, work).into()
 }
 
 // The judge of a patch from elsewhere, as a list of candidates of a direct job.
@@ -133,8 +131,7 @@ pub extern "C" fn patch_box_judge(
         weights,
         rows,
     };
-    let judgement = judge::judge(&job, list, stated, work);
-    answers::judge_answer(judgement)
+    judge::judge(&job, list, stated, work).into()
 }
 
 // The reader alone.
@@ -142,8 +139,7 @@ pub extern "C" fn patch_box_judge(
 pub extern "C" fn patch_box_read_within(limit: usize, file: &[u8]) -> ReadAnswer
     ensures { result ≡ read_answer_of (reading_of limit file.now) }
 {
-    let reading = reader::read_polygon(limit, file);
-    answers::read_answer(reading)
+    reader::read_polygon(limit, file).into()
 }
 
 #[unsafe(no_mangle)]
@@ -165,8 +161,7 @@ pub extern "C" fn patch_box_find_within(
     ensures { rim_lists result candidates.new weights.new rows.new
         ≡ rim_lists_of (find_file limit file.now candidates.old weights.old rows.old) }
 {
-    let found = pipeline::find_file(limit, file, candidates, weights, rows);
-    answers::find_answer(found)
+    pipeline::find_file(limit, file, candidates, weights, rows).into()
 }
 
 #[unsafe(no_mangle)]
@@ -187,8 +182,7 @@ pub extern "C" fn patch_box_find(
 pub extern "C" fn patch_box_sizes_within(limit: usize, file: &[u8]) -> SizesAnswer
     ensures { result ≡ sizes_answer_of (sizes_file limit file.now) }
 {
-    let sizes = pipeline::table_sizes(limit, file);
-    answers::sizes_answer(sizes)
+    pipeline::table_sizes(limit, file).into()
 }
 
 #[unsafe(no_mangle)]
@@ -203,6 +197,5 @@ pub extern "C" fn patch_box_sizes(file: &[u8]) -> SizesAnswer
 pub extern "C" fn patch_box_convert(file: &[u8], out: &mut [u8]) -> ConvertAnswer
     ensures { file_conversion result out.new ≡ file_conversion_of (convert_call file.now out.old) }
 {
-    let conversion = converter::convert(file, out);
-    answers::convert_answer(conversion)
+    converter::convert(file, out).into()
 }
