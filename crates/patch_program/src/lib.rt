@@ -10,6 +10,7 @@ ghost use Rattle.patch_program.specs.Printing.{printout_of};
 use codes::Refusal;
 use patch_lines::{Line, Listing, TRIANGLES};
 use programs::input;
+use rows::Rows;
 use std::io::Read;
 use std::{fmt, io};
 use triangulator::Patch;
@@ -69,7 +70,7 @@ pub fn printout_of(limit: usize, file: &[u8]) -> Printout
     let listing = Listing {
         candidates: &candidates,
         weights: &weights,
-        rows: &rows[..row_count],
+        rows: Rows::new(&rows[..row_count]),
         patch,
     };
     let lines = listing.lines();
