@@ -67,10 +67,11 @@ pub fn printout_of(limit: usize, file: &[u8]) -> Printout
     let vertices = patch_lines::vertices_of(&outcome);
     let row_count = patch_lines::row_count(&rows);
     let patch = triangulator::part(&triangles, outcome);
+    let rows = Rows::new(&rows[..row_count]);
     let listing = Listing {
         candidates: &candidates,
         weights: &weights,
-        rows: Rows::new(&rows[..row_count]),
+        rows,
         patch,
     };
     let lines = listing.lines();
