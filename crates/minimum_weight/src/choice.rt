@@ -4,11 +4,11 @@ ghost use Rattle.triangulation.specs.Problems.{pair_weight};
 ghost use Rattle.terms.specs.Limits.{max_vertices};
 ghost use Rattle.terms.specs.Entries.{entry_at, vertex_c};
 ghost use Rattle.triangulation.specs.Recursion.{no_total};
-ghost use Rattle.rows.specs.Search.{RowsAscend};
 ghost use Rattle.minimum_weight.specs.Tables.{better_of, pick_under, pick_at_edge};
 
 use crate::NONE;
 use crate::instance::Instance;
+use rows::Rows;
 
 // A total and the candidate that starts it. No candidate is the total NONE, as in the work table: one comparison then tells 'no part' and 'not lower'.
 #[derive(Clone, Copy)]
@@ -23,15 +23,15 @@ fn better(
     p: Pick,
     instance: &Instance,
     work: &[u64],
-    rows: &[[u32; 3]],
+    rows: &Rows<'_>,
     t: usize,
     j: u8,
     u: usize,
 ) -> Pick
     requires { (u < length instance.now.job.candidates.now) × (length instance.now.job.candidates.now ≤ length work.now)
-        × RowsAscend rows.now × (p.cost ≤ no_total) }
+        × (p.cost ≤ no_total) }
     ensures { result
-        ≡ better_of p u (eqb (vertex_c (entry_at instance.now.job.candidates.now u)) j) (get_or work.now u 0) (pair_weight rows.now t u) }
+        ≡ better_of p u (eqb (vertex_c (entry_at instance.now.job.candidates.now u)) j) (get_or work.now u 0) (pair_weight rows.now.rows.now t u) }
 {
     let triangle = instance.job.candidates[u];
     if triangle[2] != j {
@@ -41,7 +41,7 @@ fn better(
     if p.cost <= d {
         return p;
     }
-    let row = u64::from(rows::row_weight(rows, t, u));
+    let row = u64::from(rows.weight(t, u));
     let cost = d + row;
     if cost < p.cost {
         return Pick { cost, at: u };
@@ -53,13 +53,13 @@ fn better(
 pub fn best_in_block(
     instance: &Instance,
     work: &[u64],
-    rows: &[[u32; 3]],
+    rows: &Rows<'_>,
     t: usize,
     i: u8,
     j: u8,
 ) -> Pick
-    requires { RowsAscend rows.now × (length instance.now.job.candidates.now ≤ length work.now) × (i < max_vertices) }
-    ensures { result ≡ pick_under instance.now.job.candidates.now work.now rows.now t i j }
+    requires { (length instance.now.job.candidates.now ≤ length work.now) × (i < max_vertices) }
+    ensures { result ≡ pick_under instance.now.job.candidates.now work.now rows.now.rows.now t i j }
 {
     let block = i as usize;
     let mut p = Pick { cost: NONE, at: 0 };
@@ -74,13 +74,13 @@ pub fn best_in_block(
 pub fn best_under(
     instance: &Instance,
     work: &[u64],
-    rows: &[[u32; 3]],
+    rows: &Rows<'_>,
     t: usize,
     i: u8,
     j: u8,
 ) -> Pick
-    requires { RowsAscend rows.now × (length instance.now.job.candidates.now ≤ length work.now) × (i < j) × (j < max_vertices) }
-    ensures { result ≡ pick_at_edge instance.now.job.candidates.now work.now rows.now t i j }
+    requires { (length instance.now.job.candidates.now ≤ length work.now) × (i < j) × (j < max_vertices) }
+    ensures { result ≡ pick_at_edge instance.now.job.candidates.now work.now rows.now.rows.now t i j }
 {
     if j - i == 1 {
         return Pick { cost: 0, at: 0 };

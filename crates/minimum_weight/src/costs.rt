@@ -12,6 +12,7 @@ ghost use Rattle.minimum_weight.specs.Instances.{problem_at};
 use crate::NONE;
 use crate::choice::best_under;
 use crate::instance::Instance;
+use rows::Rows;
 
 // The total of a triangle of weight w over parts of totals left and right.
 fn join_cost(w: u32, left: u64, right: u64) -> u64
@@ -26,9 +27,9 @@ fn join_cost(w: u32, left: u64, right: u64) -> u64
 }
 
 // The least total of a part that starts with candidate t, by the rows of outer t.
-fn cost_of(instance: &Instance, run: &[[u32; 3]], work: &[u64], t: usize) -> u64
+fn cost_of(instance: &Instance, run: &Rows<'_>, work: &[u64], t: usize) -> u64
     requires well_formed { (length instance.now.job.candidates.now ≤ length work.now)
-        × (t < length instance.now.job.candidates.now) × Run instance.now.job.rows.now t run.now }
+        × (t < length instance.now.job.candidates.now) × Run instance.now.job.rows.now t run.now.rows.now }
     requires ready_beneath { ReadyBeneath (problem_at instance.now) work.now t }
     ensures { result ≡ cost_of (best_from (problem_at instance.now) instance.now.job.n t) }
 {
@@ -44,12 +45,13 @@ fn fill_block(instance: &Instance, work: &mut [u64], v: usize)
     requires filled { Filled (problem_at instance.now) work.old (get_or instance.now.starts.now (v + 1) 0) work.old }
     ensures { Filled (problem_at instance.now) work.old (get_or instance.now.starts.now v 0) work.new }
 {
-    let mut first = rows::lower_bound(instance.job.rows, instance.starts[v], 0);
+    let rows = instance.rows();
+    let mut first = rows.lower_bound(instance.starts[v], 0);
     // A loop over places: what hangs on candidate t reads other places of the table that is written.
     for t in instance.starts[v]..instance.starts[v + 1] {
-        let last = rows::run_end(instance.job.rows, first, t);
-        let run = &instance.job.rows[first..last];
-        work[t] = cost_of(instance, run, work, t);
+        let last = rows.run_end(first, t);
+        let run = Rows::new(&rows.rows[first..last]);
+        work[t] = cost_of(instance, &run, work, t);
         first = last;
     }
 }

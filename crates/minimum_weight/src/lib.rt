@@ -27,7 +27,14 @@ pub fn least_total(instance: &Instance, work: &mut [u64]) -> Option<u64>
     costs::fill(instance, work);
     let job = &instance.job;
     let last = (job.n - 1) as u8;
-    let whole = choice::best_under(instance, work, job.rows, job.candidates.len(), 0, last);
+    let whole = choice::best_under(
+        instance,
+        work,
+        &instance.rows(),
+        job.candidates.len(),
+        0,
+        last,
+    );
     if whole.cost < NONE {
         Some(whole.cost)
     } else {

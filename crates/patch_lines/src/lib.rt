@@ -4,12 +4,12 @@
 ghost use Rattle.std.specs.Prelude.{◌≡◌, ◌≤◌, get_or, length};
 ghost use Rattle.terms.specs.Entries.{triple};
 ghost use Rattle.triangulator.specs.Call.{triangles_of};
-ghost use Rattle.rows.specs.Search.{RowsAscend};
 ghost use Rattle.patch_lines.specs.Lines.{vertices_of, row_under, line_of, lines_of, line_places, in_places};
 ghost use Rattle.patch_lines.specs.Places.{row_count_of};
 
 use codes::Refusal;
 use jobs::pairs::hangs_on;
+use rows::Rows;
 use std::fmt;
 use triangulator::Patch;
 
@@ -53,10 +53,9 @@ pub fn vertices_of(outcome: &Result<Option<Patch>, Refusal>) -> usize
 pub struct Listing<'a> {
     pub candidates: &'a [[u8; 3]],
     pub weights: &'a [u32],
-    pub rows: &'a [[u32; 3]],
+    // They ascend, so a row is found by its pair.
+    pub rows: Rows<'a>,
     pub patch: &'a [u16],
-    // So a row is found by its pair.
-    pub ghost rows_ascend: { RowsAscend rows.now },
 }
 
 impl Listing<'_> {
@@ -69,14 +68,14 @@ impl Listing<'_> {
 
     // The row weight of t and the triangle of the patch that it hangs on, 0 where it hangs on none.
     fn row_under(&self, t: usize) -> u32
-        ensures { result ≡ row_under self.now.candidates.now self.now.rows.now self.now.patch.now t }
+        ensures { result ≡ row_under self.now.candidates.now self.now.rows.rows.now self.now.patch.now t }
     {
         let inner = self.candidate(t);
         for triangle in self.patch {
             let o = usize::from(*triangle);
             let outer = self.candidate(o);
             if hangs_on(inner, outer) {
-                return rows::row_weight(self.rows, o, t);
+                return self.rows.weight(o, t);
             }
         }
         0
@@ -84,7 +83,7 @@ impl Listing<'_> {
 
     // The line of candidate t of the patch.
     fn line(&self, t: usize) -> Line
-        ensures { result ≡ line_of self.now.candidates.now self.now.weights.now self.now.rows.now self.now.patch.now t }
+        ensures { result ≡ line_of self.now.candidates.now self.now.weights.now self.now.rows.rows.now self.now.patch.now t }
     {
         let triangle = self.candidate(t);
         let weight = self.weights.get(t).copied().unwrap_or(0);
@@ -102,7 +101,7 @@ impl Listing<'_> {
     pub fn lines(&self) -> [Line; TRIANGLES]
         requires { length self.now.patch.now ≤ line_places }
         ensures { result
-            ≡ in_places (lines_of self.now.candidates.now self.now.weights.now self.now.rows.now self.now.patch.now) }
+            ≡ in_places (lines_of self.now.candidates.now self.now.weights.now self.now.rows.rows.now self.now.patch.now) }
     {
         let mut lines = [Line::default(); TRIANGLES];
         for (k, t) in self.patch.iter().enumerate() {

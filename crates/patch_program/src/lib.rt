@@ -10,6 +10,7 @@ ghost use Rattle.patch_program.specs.Printing.{printout_of};
 use codes::Refusal;
 use patch_lines::{Line, Listing, TRIANGLES};
 use programs::input;
+use rows::Rows;
 use std::io::Read;
 use std::{fmt, io};
 use triangulator::Patch;
@@ -66,10 +67,11 @@ pub fn printout_of(limit: usize, file: &[u8]) -> Printout
     let vertices = patch_lines::vertices_of(&outcome);
     let row_count = patch_lines::row_count(&rows);
     let patch = triangulator::part(&triangles, outcome);
+    let rows = Rows::new(&rows[..row_count]);
     let listing = Listing {
         candidates: &candidates,
         weights: &weights,
-        rows: &rows[..row_count],
+        rows,
         patch,
     };
     let lines = listing.lines();

@@ -39,12 +39,8 @@ pub fn write_preorder(instance: &Instance, work: &[u64], triangles: &mut [u16])
     requires all_ready { AllReady (problem_at instance.now) work.now × (cost_of (best_key (problem_at instance.now)) < no_total) }
     ensures { triangles.new ≡ filled (rest_of (best_key (problem_at instance.now))) triangles.old }
 {
-    let Job {
-        n,
-        candidates,
-        rows,
-        ..
-    } = instance.job;
+    let Job { n, candidates, .. } = instance.job;
+    let rows = instance.rows();
     let last = (n - 1) as u8;
     let whole = Part::new(candidates.len(), 0, last);
     // No heap: the parts stand in an array, and `height` of them wait.
@@ -58,7 +54,7 @@ pub fn write_preorder(instance: &Instance, work: &[u64], triangles: &mut [u16])
         let t = part.outer;
         let i = part.first;
         let j = part.last;
-        let pick = best_in_block(instance, work, rows, t, i, j);
+        let pick = best_in_block(instance, work, &rows, t, i, j);
         let u = pick.at;
         let triangle = candidates[u];
         let b = triangle[1];

@@ -6,7 +6,8 @@ use mathlib.Core.Logic.{inl, ⊎_elim}
 use mathlib.Core.List.{List, [], ◌∷◌}
 use native.Mathlib.Omega.{arith}
 use lib.ListN.{length, take, drop, get_or, length-drop}
-use lib.Seq.{get_or-take, get_or-drop, length-take-le}
+use lib.Seq.{get_or-take, get_or-drop}
+use Rattle.std.proofs.lemmas.List.{length-take}
 use lib.Dec.{eqb}
 use Rattle.std.specs.List.{prefix_len}
 use Rattle.lists.specs.Lists.{both}
@@ -43,13 +44,23 @@ run_start {rows} {t} c = record {
   right = λ k h l. absurd (omega arith);
 }
 
--- so a run ends after as many rows as are before (t + 1, 0) from its start on
 -- so the run of t ends after as many rows as are before (t + 1, 0) from its start on
 pub run_count : (rows : List (List ℕ)) (t start : ℕ) → RowsAscend rows → start ≡ rows_before rows t 0
     → start + prefix_len (λ r. row_is_before r (t + 1) 0) (drop start rows) ≡ rows_before rows (t + 1) 0
 run_count rows t start sorted e =
     let c = cut_of t 0 rows sorted e in
     prefix_count (λ r. row_is_before r (t + 1) 0) rows [] start (run_start c).left (before_trans (t + 1) 0 rows sorted) c.within
+
+-- a part of rows that ascend ascends
+pub part_ascends : {rows : List (List ℕ)} (first n : ℕ) → RowsAscend rows → RowsAscend (take n (drop first rows))
+part_ascends {rows} first n sorted = record {
+  up = λ k l h m. let e = length-take n (drop first rows) in let f = length-drop first rows in
+      let m' : l < n = omega (arith, e) in let m'' : first + l < length rows = omega (arith, e, f) in
+      rw (at k (omega arith), at l m') (sorted.up (first + k) (first + l) (omega arith) m'');
+}
+  where
+    at : (k : ℕ) → k < n → get_or (take n (drop first rows)) k [] ≡ get_or rows (first + k) []
+    at k h = get_or-take n (drop first rows) k [] h ∙ get_or-drop first rows k []
 
 module _ {rows : List (List ℕ)} (t : ℕ) {first last : ℕ} (sorted : RowsAscend rows) (start : first ≡ rows_before rows t 0)
     (end : last ≡ rows_before rows (t + 1) 0) where
@@ -73,21 +84,9 @@ module _ {rows : List (List ℕ)} (t : ℕ) {first last : ℕ} (sorted : RowsAsc
   abbrev run : List (List ℕ)
   run = take (last - first) (drop first rows)
 
-  run_long : length run ≡ last - first
-  run_long = length-take-le (last - first) (drop first rows) (omega (arith, length-drop first rows, b.within))
-
-  run_at : (k : ℕ) → k < last - first → get_or run k [] ≡ get_or rows (first + k) []
-  run_at k h = get_or-take (last - first) (drop first rows) k [] h ∙ get_or-drop first rows k []
-
-  run_ascends : RowsAscend run
-  run_ascends = record {
-    up = λ k l h m. let m' : l < last - first = omega (arith, run_long) in
-        rw (run_at k (omega arith), run_at l m') (sorted.up (first + k) (first + l) (omega arith) (omega (arith, b.within)));
-  }
-
   pub run_of : Run rows t run
   run_of = record {
-    ascends = run_ascends;
+    ascends = part_ascends first (last - first) sorted;
     same = λ u. front t u (last - first) (drop first rows) (λ k h l. after u k h (omega (arith, length-drop first rows)))
         ∙ sym (skip t u rows first (λ k h. names_false _ _ t u (λ p q. let l = below rows t k (a.left k h) in omega arith)));
   }

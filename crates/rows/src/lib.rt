@@ -25,14 +25,6 @@ fn weight_if(row: [u32; 3], outer: usize, inner: usize) -> u32
     }
 }
 
-// The first row that is not before (outer, inner), by bisection.
-pub fn lower_bound(rows: &[[u32; 3]], outer: usize, inner: usize) -> usize
-    requires { RowsAscend rows.now }
-    ensures { result ≡ rows_before rows.now outer inner }
-{
-    rows.partition_point(|row| is_before(*row, outer, inner))
-}
-
 // How many rows from the first on are before (outer + 1, 0).
 fn run_length(rows: &[[u32; 3]], outer: usize) -> usize
     requires { outer < max_triples }
@@ -44,21 +36,44 @@ fn run_length(rows: &[[u32; 3]], outer: usize) -> usize
         .count()
 }
 
-// Where the rows of an outer end, from where they start: they are one run.
-pub fn run_end(rows: &[[u32; 3]], start: usize, outer: usize) -> usize
-    requires { RowsAscend rows.now × (start ≡ rows_before rows.now outer 0) × (outer < max_triples) }
-    ensures { result ≡ rows_before rows.now (outer + 1) 0 }
-{
-    start + run_length(&rows[start..], outer)
+// Rows that ascend.
+#[derive(Clone, Copy)]
+pub struct Rows<'a> {
+    pub rows: &'a [[u32; 3]],
+    pub ghost ascend: { RowsAscend rows.now },
 }
 
-// The weight of the row (outer, inner), or 0 where there is none.
-pub fn row_weight(rows: &[[u32; 3]], outer: usize, inner: usize) -> u32
-    requires { RowsAscend rows.now }
-    ensures { result ≡ pair_weight rows.now outer inner }
-{
-    match rows.get(lower_bound(rows, outer, inner)) {
-        Some(row) => weight_if(*row, outer, inner),
-        None => 0,
+impl<'a> Rows<'a> {
+    pub fn new(rows: &'a [[u32; 3]]) -> Rows<'a>
+        requires { RowsAscend rows.now }
+        ensures { result.rows.now ≡ rows.now }
+    {
+        Rows { rows }
+    }
+
+    // The first row that is not before (outer, inner), by bisection.
+    pub fn lower_bound(&self, outer: usize, inner: usize) -> usize
+        ensures { result ≡ rows_before self.now.rows.now outer inner }
+    {
+        self.rows
+            .partition_point(|row| is_before(*row, outer, inner))
+    }
+
+    // Where the rows of an outer end, from where they start: they are one run.
+    pub fn run_end(&self, start: usize, outer: usize) -> usize
+        requires { (start ≡ rows_before self.now.rows.now outer 0) × (outer < max_triples) }
+        ensures { result ≡ rows_before self.now.rows.now (outer + 1) 0 }
+    {
+        start + run_length(&self.rows[start..], outer)
+    }
+
+    // The weight of the row (outer, inner), or 0 where there is none.
+    pub fn weight(&self, outer: usize, inner: usize) -> u32
+        ensures { result ≡ pair_weight self.now.rows.now outer inner }
+    {
+        match self.rows.get(self.lower_bound(outer, inner)) {
+            Some(row) => weight_if(*row, outer, inner),
+            None => 0,
+        }
     }
 }

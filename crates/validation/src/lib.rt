@@ -17,6 +17,7 @@ ghost use Rattle.validation.specs.Validation.{is_tiling, list_code};
 
 use codes::Refusal;
 use jobs::Job;
+use rows::Rows;
 use selection::Selection;
 
 // Whether the list is a tiling without repeats. That no candidate stands twice need not be tested: it would have its edges twice.
@@ -38,7 +39,8 @@ pub fn check_list(job: &Job, list: &[u16], stated: u64) -> Result<(), Refusal>
     if !is_tiling(job, list) {
         return Err(Refusal::NOT_A_TRIANGULATION);
     }
-    if totals::total(&Selection::new(job.candidates, list), job.weights, job.rows) != stated {
+    let selection = Selection::new(job.candidates, list);
+    if totals::total(&selection, job.weights, &Rows::new(job.rows)) != stated {
         return Err(Refusal::WRONG_TOTAL);
     }
     Ok(())

@@ -6,9 +6,9 @@ use Rattle.patch_program.proofs.printout_of.Goals as goal
 pub vertices_of-vertices-requires : goal.vertices_of-vertices-requires
 vertices_of-vertices-requires c = few_triangles _ _ _ c.patch_file-outcome.ensures.tables
 
-pub invariant_of-listing : goal.invariant_of-listing
-invariant_of-listing c =
-    record { rows_ascend = (lines_ready _ _ _ c.patch_file-outcome.ensures.tables 4096 refl c.row_count-row_count.ensures.0 c.part-patch.ensures).0 }
+pub new-rows-requires : goal.new-rows-requires
+new-rows-requires c =
+    (lines_ready _ _ _ c.patch_file-outcome.ensures.tables 4096 refl c.row_count-row_count.ensures.0 c.part-patch.ensures).0
 
 pub lines-lines-requires : goal.lines-lines-requires
 lines-lines-requires c =
@@ -17,4 +17,4 @@ lines-lines-requires c =
 pub returns : goal.returns
 returns c =
     printed c.args.limit c.args.file.now c.patch_file-outcome.ensures.tables c.vertices_of-vertices.ensures
-    c.row_count-row_count.ensures.0 c.part-patch.ensures c.lines-lines.ensures
+    c.row_count-row_count.ensures.0 c.part-patch.ensures (rw c.new-rows.ensures at c.lines-lines.ensures)

@@ -8,4 +8,4 @@ use Rattle.minimum_weight.proofs.choice.best_in_block.Given as goal
 abbrev pub invariant-loop-u : goal.invariant-loop-u
 invariant-loop-u l =
     (get_or l.instance.starts.now l.i 0 ≤ l.u) × (l.u ≤ get_or l.instance.starts.now (l.i + 1) 0)
-    × (l.p ≡ pick_below (hung_on_edge l.instance.job.candidates.now l.i l.j) (λ k. get_or l.work k 0) (pair_weight l.rows l.t) l.u)
+    × (l.p ≡ pick_below (hung_on_edge l.instance.job.candidates.now l.i l.j) (λ k. get_or l.work k 0) (pair_weight l.rows.rows.now l.t) l.u)

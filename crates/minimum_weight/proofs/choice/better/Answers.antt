@@ -12,16 +12,16 @@ pub returns-then-p-d : goal.returns-then-p-d
 returns-then-p-d c = no_lower _ _ _ _ _ c.if-p-d.true
 
 pub overflow_add-cost : goal.overflow_add-cost
-overflow_add-cost c = omega (arith, c.if-p-d.false, c.requires.3, c.row_weight.type_inv, c.from-row.ensures)
+overflow_add-cost c = omega (arith, c.if-p-d.false, c.requires.2, c.weight.type_inv, c.from-row.ensures)
 
 pub returns-then-cost-p : goal.returns-then-cost-p
 returns-then-cost-p c =
     is_better _ _ _ _ _ _ (eq-eqb _ _ c.if-triangle-j.false)
-    (omega (arith, c.if-p-d.false, c.requires.3))
-    (c.from-row.ensures ∙ c.row_weight.ensures) (omega (arith, c.if-cost-p.true))
+    (omega (arith, c.if-p-d.false, c.requires.2))
+    (c.from-row.ensures ∙ c.weight.ensures) (omega (arith, c.if-cost-p.true))
 
 pub returns : goal.returns
 returns c =
     no_better _ _ _ _ _ _ (eq-eqb _ _ c.if-triangle-j.false)
-    (omega (arith, c.if-p-d.false, c.requires.3))
-    (c.from-row.ensures ∙ c.row_weight.ensures) (omega (arith, c.if-cost-p.false))
+    (omega (arith, c.if-p-d.false, c.requires.2))
+    (c.from-row.ensures ∙ c.weight.ensures) (omega (arith, c.if-cost-p.false))

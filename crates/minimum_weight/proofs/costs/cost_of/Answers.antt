@@ -10,7 +10,6 @@ best_under-left-requires c =
     let ok = s.args.instance.now.well_formed in
     let v = ok.valid in
     let h = s.requires.well_formed.1 in (
-      s.requires.well_formed.2.ascends,
       s.requires.well_formed.0,
       v.ab s.args.t h,
       omega (arith, v.bc s.args.t h, v.cn s.args.t h, ok.bounded.few),
@@ -22,7 +21,7 @@ best_under-right-requires c =
     let ok = s.args.instance.now.well_formed in
     let v = ok.valid in
     let h = s.requires.well_formed.1 in
-    (s.requires.well_formed.2.ascends, s.requires.well_formed.0, v.bc s.args.t h, omega (arith, v.cn s.args.t h, ok.bounded.few))
+    (s.requires.well_formed.0, v.bc s.args.t h, omega (arith, v.cn s.args.t h, ok.bounded.few))
 
 pub join_cost-requires : goal.join_cost-requires
 join_cost-requires c =

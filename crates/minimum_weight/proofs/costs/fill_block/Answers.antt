@@ -4,12 +4,9 @@ use native.Mathlib.Omega.{arith}
 use borrow.Author.Rules.{rules}
 use lib.ListN.{length}
 use Rattle.blocks.proofs.Starts.{starts_up}
-use Rattle.rows.proofs.Runs.{run_of, run_order, run_within}
+use Rattle.rows.proofs.Runs.{part_ascends, run_of, run_order, run_within}
 use Rattle.minimum_weight.proofs.Filling.{filling_start, filling_next, filling_end, left_ready, right_ready}
 use Rattle.minimum_weight.proofs.costs.fill_block.Goals as goal
-
-pub lower_bound-first-requires : goal.lower_bound-first-requires
-lower_bound-first-requires c = c.args.instance.now.well_formed.rows_ascend
 
 pub loop-t-init : goal.loop-t-init
 loop-t-init c =
@@ -22,31 +19,34 @@ run_end-last-requires c =
     let ok = s.args.instance.now.well_formed in
     let b = s.args.instance.now.blocks in
     let l = c.loop-t in
-    (ok.rows_ascend, l.invariant.1, omega (arith, c.loop-t-test.true, (b.at (s.args.v + 1) (omega (arith, s.requires.well_formed.1))).within, ok.few))
+    (l.invariant.1, omega (arith, c.loop-t-test.true, (b.at (s.args.v + 1) (omega (arith, s.requires.well_formed.1))).within, ok.few))
 
 -- the run of t ends within the rows, and not before it starts
-pub offset_bounds-instance-first : goal.offset_bounds-instance-first
-offset_bounds-instance-first c =
+pub offset_bounds-rows-first : goal.offset_bounds-rows-first
+offset_bounds-rows-first c =
     omega (
       arith,
-      run_order c.loop-t.t c.args.instance.now.well_formed.rows_ascend c.loop-t.invariant.1 c.run_end-last.ensures,
-      run_within c.loop-t.t c.args.instance.now.well_formed.rows_ascend c.loop-t.invariant.1 c.run_end-last.ensures,
+      run_order c.loop-t.t c.rows-rows.result.ascend c.loop-t.invariant.1 c.run_end-last.ensures,
+      run_within c.loop-t.t c.rows-rows.result.ascend c.loop-t.invariant.1 c.run_end-last.ensures,
       c.well_formed,
     )
 
-pub slice_bounds-run-count : goal.slice_bounds-run-count
-slice_bounds-run-count c = omega (arith, run_order c.loop-t.t c.args.instance.now.well_formed.rows_ascend c.loop-t.invariant.1 c.run_end-last.ensures)
+pub slice_bounds-new-count : goal.slice_bounds-new-count
+slice_bounds-new-count c = omega (arith, run_order c.loop-t.t c.rows-rows.result.ascend c.loop-t.invariant.1 c.run_end-last.ensures)
 
-pub slice_bounds-run-start : goal.slice_bounds-run-start
-slice_bounds-run-start c = omega (arith, run_order c.loop-t.t c.args.instance.now.well_formed.rows_ascend c.loop-t.invariant.1 c.run_end-last.ensures)
+pub slice_bounds-new-start : goal.slice_bounds-new-start
+slice_bounds-new-start c = omega (arith, run_order c.loop-t.t c.rows-rows.result.ascend c.loop-t.invariant.1 c.run_end-last.ensures)
 
-pub slice_bounds-run-end : goal.slice_bounds-run-end
-slice_bounds-run-end c =
+pub slice_bounds-new-end : goal.slice_bounds-new-end
+slice_bounds-new-end c =
     omega (
       arith,
-      run_order c.loop-t.t c.args.instance.now.well_formed.rows_ascend c.loop-t.invariant.1 c.run_end-last.ensures,
-      run_within c.loop-t.t c.args.instance.now.well_formed.rows_ascend c.loop-t.invariant.1 c.run_end-last.ensures,
+      run_order c.loop-t.t c.rows-rows.result.ascend c.loop-t.invariant.1 c.run_end-last.ensures,
+      run_within c.loop-t.t c.rows-rows.result.ascend c.loop-t.invariant.1 c.run_end-last.ensures,
     )
+
+pub new-run-requires : goal.new-run-requires
+new-run-requires c = part_ascends _ _ c.rows-rows.result.ascend
 
 pub cost_of-requires : goal.cost_of-requires
 cost_of-requires c =
@@ -58,7 +58,7 @@ cost_of-requires c =
       well_formed = (
         omega (arith, s.requires.well_formed.0, l.invariant.0.long),
         omega (arith, h, (b.at (s.args.v + 1) (omega (arith, s.requires.well_formed.1))).within),
-        run_of l.t ok.rows_ascend l.invariant.1 c.run_end-last.ensures,
+        rw (c.new-run.ensures, ← c.rows-rows.ensures) (run_of l.t c.rows-rows.result.ascend l.invariant.1 c.run_end-last.ensures),
       );
       ready_beneath = (
         left_ready _ _ _ _ ok _ b _ l.work s.args.v l.t s.requires.well_formed.1 l.invariant.0 h,

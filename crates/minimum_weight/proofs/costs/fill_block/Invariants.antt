@@ -9,4 +9,4 @@ use Rattle.minimum_weight.proofs.costs.fill_block.Given as goal
 abbrev pub invariant-loop-t : goal.invariant-loop-t
 invariant-loop-t l =
     Filling (problem_at l.instance) l.initial.work (get_or l.instance.starts.now l.v 0) (get_or l.instance.starts.now (l.v + 1) 0) l.t l.work
-    × (l.first ≡ rows_before l.instance.job.rows.now l.t 0)
+    × (l.first ≡ rows_before l.rows.rows.now l.t 0)

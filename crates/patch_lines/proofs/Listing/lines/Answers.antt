@@ -12,7 +12,7 @@ pub loop-k-init : goal.loop-k-init
 loop-k-init c =
     let s = c in
     let patch = s.args.self.now.patch.now in
-    let f = (line_of s.args.self.now.candidates.now s.args.self.now.weights.now s.args.self.now.rows.now s.args.self.now.patch.now) in
+    let f = (line_of s.args.self.now.candidates.now s.args.self.now.weights.now s.args.self.now.rows.rows.now s.args.self.now.patch.now) in
     let empty : c.default-lines.result ≡ no_line = search rules in
     rw empty (start (map f patch) (replicate line_places no_line) (omega (arith, length-map patch f, s.requires)))
 
@@ -25,12 +25,12 @@ bounds-lines-k c = omega (arith, c.requires)
 pub loop-k-preserved : goal.loop-k-preserved
 loop-k-preserved c =
     let s = c in
-    let f = line_of s.args.self.now.candidates.now s.args.self.now.weights.now s.args.self.now.rows.now s.args.self.now.patch.now in
+    let f = line_of s.args.self.now.candidates.now s.args.self.now.weights.now s.args.self.now.rows.rows.now s.args.self.now.patch.now in
     push (turn (next_line f s.args.self.now.patch.now c.loop-k.k (omega arith)
     c.from.ensures c.line.ensures) c.loop-k.invariant)
 
 pub returns : goal.returns
 returns c =
     let s = c in
-    let f = (line_of s.args.self.now.candidates.now s.args.self.now.weights.now s.args.self.now.rows.now s.args.self.now.patch.now) in
+    let f = (line_of s.args.self.now.candidates.now s.args.self.now.weights.now s.args.self.now.rows.rows.now s.args.self.now.patch.now) in
     (all (turn (rest_end f s.args.self.now.patch.now c.loop-k.k (omega arith)) c.loop-k.invariant)).1

@@ -4,9 +4,6 @@ use native.Mathlib.Omega.{arith}
 use Rattle.patch_lines.proofs.Hanging.{hangs_same, under_found, under_next, under_end}
 use Rattle.patch_lines.proofs.Listing.row_under.Goals as goal
 
-pub row_weight-requires : goal.row_weight-requires
-row_weight-requires c = c.args.self.now.rows_ascend
-
 pub returns-then-hangs_on : goal.returns-then-hangs_on
 returns-then-hangs_on c =
     let s = c in
@@ -15,9 +12,9 @@ returns-then-hangs_on c =
     let o = c.from-o.result in
     let e = sym (hangs_same candidates t o c.candidate-inner.ensures
     c.candidate-outer.ensures) ∙ sym c.hangs_on.ensures ∙ c.if-hangs_on.true in
-    let next = under_found candidates s.args.self.now.rows.now s.args.self.now.patch.now t
+    let next = under_found candidates s.args.self.now.rows.rows.now s.args.self.now.patch.now t
     c.loop-triangle.triangle-index (omega arith) c.from-o.ensures e in
-    c.row_weight.ensures ∙ sym next ∙ c.loop-triangle.invariant
+    c.weight.ensures ∙ sym next ∙ c.loop-triangle.invariant
 
 pub loop-triangle-preserved : goal.loop-triangle-preserved
 loop-triangle-preserved c =
@@ -27,12 +24,12 @@ loop-triangle-preserved c =
     let o = c.from-o.result in
     let e = sym (hangs_same candidates t o c.candidate-inner.ensures
     c.candidate-outer.ensures) ∙ sym c.hangs_on.ensures ∙ c.if-hangs_on.false in
-    let next = under_next candidates s.args.self.now.rows.now s.args.self.now.patch.now t c.loop-triangle.triangle-index
+    let next = under_next candidates s.args.self.now.rows.rows.now s.args.self.now.patch.now t c.loop-triangle.triangle-index
     (omega arith) c.from-o.ensures e in
     sym next ∙ c.loop-triangle.invariant
 
 pub returns : goal.returns
 returns c =
     let s = c in
-    sym (under_end s.args.self.now.candidates.now s.args.self.now.rows.now s.args.self.now.patch.now s.args.t c.loop-triangle.triangle-index (omega arith))
+    sym (under_end s.args.self.now.candidates.now s.args.self.now.rows.rows.now s.args.self.now.patch.now s.args.t c.loop-triangle.triangle-index (omega arith))
     ∙ c.loop-triangle.invariant

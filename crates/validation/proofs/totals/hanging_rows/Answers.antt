@@ -13,12 +13,12 @@ bounds-selection-i c = (triangle_at_lem _ _ c.args.selection.now.triangles c.loo
 pub loop-i-preserved : goal.loop-i-preserved
 loop-i-preserved c =
     let a = c.args in
-    let next = sum_with (hanging_row a.selection.now.candidates.now a.rows.now a.o) a.selection.now.list.now c.loop-i.i-index c.from-i.result c.loop-i-test.true c.from-i.ensures in
+    let next = sum_with (hanging_row a.selection.now.candidates.now a.rows.now.rows.now a.o) a.selection.now.list.now c.loop-i.i-index c.from-i.result c.loop-i-test.true c.from-i.ensures in
     elim c.if-hangs_on.branch [
       | then-hangs_on w ↦
-          let h = row_hangs a.selection.now.candidates.now a.rows.now a.o c.from-i.result c.hangs_on.ensures w.if-hangs_on.true in
-          (omega (arith, w.row_weight.ensures), omega arith)
+          let h = row_hangs a.selection.now.candidates.now a.rows.now.rows.now a.o c.from-i.result c.hangs_on.ensures w.if-hangs_on.true in
+          (omega (arith, w.weight.ensures), omega arith)
       | else-hangs_on w ↦
-          let h = row_apart a.selection.now.candidates.now a.rows.now a.o c.from-i.result c.hangs_on.ensures w.if-hangs_on.false in
+          let h = row_apart a.selection.now.candidates.now a.rows.now.rows.now a.o c.from-i.result c.hangs_on.ensures w.if-hangs_on.false in
           (omega arith, omega arith)
     ]

@@ -8,4 +8,4 @@ use Rattle.validation.proofs.totals.total.Given as goal
 
 abbrev pub invariant-loop-o : goal.invariant-loop-o
 invariant-loop-o l =
-    (l.total ≡ sum (share (problem_from 0 l.selection.candidates.now l.weights l.rows) l.selection.list.now) (take l.o-index l.selection.list.now)) × (l.total ≤ 2 ^ 40 * l.o-index)
+    (l.total ≡ sum (share (problem_from 0 l.selection.candidates.now l.weights l.rows.rows.now) l.selection.list.now) (take l.o-index l.selection.list.now)) × (l.total ≤ 2 ^ 40 * l.o-index)
