@@ -115,7 +115,7 @@ pub loop-a-init : goal.loop-a-init
 loop-a-init c = (omega (arith, c.args.rim.now.valid.least), kept_start)
 
 pub lift_vertices-lifted-requires : goal.lift_vertices-lifted-requires
-lift_vertices-lifted-requires c = (c.args.rim.now.valid, omega (arith, c.loop-a-test.true))
+lift_vertices-lifted-requires c = omega (arith, c.loop-a-test.true)
 
 pub overflow_step-b : goal.overflow_step-b
 overflow_step-b c = omega (arith, c.args.rim.now.valid.most, c.loop-a-test.true)
