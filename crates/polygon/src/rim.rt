@@ -13,11 +13,8 @@ pub struct Rim {
 
 impl Rim {
     ghost use Rattle.std.specs.Prelude.{◌≡◌};
-
     ghost use Rattle.codes.specs.Refusals.{or_refused};
-
     ghost use Rattle.polygon.specs.Polygon.{code_of};
-
     ghost use Rattle.polygon.specs.Rim.{as_polygon};
 
     // The polygon as a rim, or the number due on it.

@@ -21,7 +21,8 @@ use Rattle.delaunay.proofs.is_flat.Goals as goal
 module _ (s : goal.In-loop-seen) where
   seen<n : s.loop-c.c + 1 + s.loop-seen.seen-index < s.args.rim.now.polygon.n
   seen<n =
-      let long = after_long s.args.rim.now.polygon.n s.loop-c.c s.lift_vertices-table.result (omega (arith, s.args.rim.now.valid.most, s.lift_vertices-table.ensures.long)) in
+      let long = after_long s.args.rim.now.polygon.n s.loop-c.c s.lift_vertices-table.result
+      (omega (arith, s.args.rim.now.valid.most, s.lift_vertices-table.ensures.long)) in
       omega (arith, long, s.loop-seen-test.true)
 
 -- the pencil and the sphere, of elements as they are read
@@ -61,9 +62,11 @@ loop-seen-preserved c =
 
 pub loop-c-preserved : goal.loop-c-preserved
 loop-c-preserved c =
-    let long = after_long c.args.rim.now.polygon.n c.loop-c.c c.lift_vertices-table.result (omega (arith, c.args.rim.now.valid.most, c.lift_vertices-table.ensures.long)) in (
+    let long = after_long c.args.rim.now.polygon.n c.loop-c.c c.lift_vertices-table.result
+    (omega (arith, c.args.rim.now.valid.most, c.lift_vertices-table.ensures.long)) in (
       omega (arith, c.loop-c.invariant.0),
-      coplanar_on (pair_after c.args.rim.now.polygon.n c.loop-c.c c.lift_vertices-table.result (pencil_read (goal.at.loop-c-preserved c).After-pencil_through-pencil))
+      coplanar_on (pair_after c.args.rim.now.polygon.n c.loop-c.c c.lift_vertices-table.result
+          (pencil_read (goal.at.loop-c-preserved c).After-pencil_through-pencil))
           (omega (arith, long, c.loop-seen-test.false)) c.loop-seen.invariant
           c.loop-c.invariant.1,
     )

@@ -11,10 +11,11 @@ use Rattle.delaunay_search.proofs.lift_vertices.Goals as goal
 
 pub loop-v-preserved : goal.loop-v-preserved
 loop-v-preserved c =
+    let p = c.args.rim.now.polygon in
     let most = c.args.rim.now.valid.most in
-    let v<n : c.loop-v.v < c.args.rim.now.polygon.n = omega arith in (
+    let v<n : c.loop-v.v < p.n = omega arith in (
       omega arith,
       lifted_more c.lift.result (omega (arith, most))
-          (c.lift.ensures ∙ ap (λ (q : GridPoint). lift_of (vertex c.args.rim.now.polygon c.args.a) q) (get_or-take c.args.rim.now.polygon.n c.args.rim.now.polygon.vertices c.loop-v.v _ v<n))
+          (c.lift.ensures ∙ ap (λ (q : GridPoint). lift_of (vertex p c.args.a) q) (get_or-take p.n p.vertices c.loop-v.v _ v<n))
           c.loop-v.invariant.1,
     )

@@ -121,8 +121,8 @@ module _ (l : goal.At-loop-i) where
       l.lift_vertices-lifted.ensures l.pencil_through-pencil.ensures
 
   through : ball ≡ sphere_of l.pencil_through-pencil.result (get_or l.lift_vertices-lifted.result l.four.d unlifted)
-  through = read (sphere_of l.pencil_through-pencil.result) l.args.rim.now.valid l.lift_vertices-lifted.ensures l.four.d l.four-test.true l.index-lifted-d.result
-      l.circumsphere-ball.ensures
+  through = read (sphere_of l.pencil_through-pencil.result) l.args.rim.now.valid l.lift_vertices-lifted.ensures l.four.d l.four-test.true
+      l.index-lifted-d.result l.circumsphere-ball.ensures
 
   four : FourAt l.three.c l.four.d
   four = record {
@@ -156,7 +156,8 @@ seen_place k =
 place_at : (w : goal.After-locate) → w.locate.result ≡ position_by w.circumsphere-ball.result (get_or w.lift_vertices-lifted.result w.scanned-v.result unlifted)
 place_at w =
     let h = scanned_in _ w.loop-i.last w.loop-i.i w.scanned-v.result w.loop-i.invariant.known.last<n w.loop-i-test.true w.scanned-v.ensures in
-    read (position_by w.circumsphere-ball.result) w.args.rim.now.valid w.lift_vertices-lifted.ensures w.scanned-v.result h w.index-lifted-v.result w.locate.ensures
+    read (position_by w.circumsphere-ball.result) w.args.rim.now.valid w.lift_vertices-lifted.ensures w.scanned-v.result h w.index-lifted-v.result
+    w.locate.ensures
 
 pub overflow_sub-a-end : goal.overflow_sub-a-end
 overflow_sub-a-end c = c.args.rim.now.valid.least

@@ -41,8 +41,8 @@ module _ (g : goal.In-three) where
 
 -- with their circle
 module _ (k : goal.After-circle_through-circle) where
-  triangle : Triangle k.args.rim.now.polygon k.loop-a.a k.loop-b.b k.three.c k.lift_vertices-lifted.result k.circle_through-circle.result k.loop-b.set k.three.set
-      (λ P. left3 k.args.rim.now.polygon.n P k.loop-a.a k.loop-b.b (k.loop-b.b + 1))
+  triangle : Triangle k.args.rim.now.polygon k.loop-a.a k.loop-b.b k.three.c k.lift_vertices-lifted.result k.circle_through-circle.result
+      k.loop-b.set k.three.set (λ P. left3 k.args.rim.now.polygon.n P k.loop-a.a k.loop-b.b (k.loop-b.b + 1))
   triangle = record {
     valid = k.args.rim.now.valid;
     flat = k.requires;
@@ -106,7 +106,8 @@ place_at : (w : goal.After-locate) →
     w.locate.result ≡ position_by w.circle_through-circle.result (get_or w.lift_vertices-lifted.result w.scanned-v.result unlifted)
 place_at w =
     let h = scanned_in _ w.loop-i.last w.loop-i.i w.scanned-v.result w.loop-i.invariant.last<n w.loop-i-test.true w.scanned-v.ensures in
-    read (position_by w.circle_through-circle.result) w.args.rim.now.valid w.lift_vertices-lifted.ensures w.scanned-v.result h w.index-lifted-v.result w.locate.ensures
+    read (position_by w.circle_through-circle.result) w.args.rim.now.valid w.lift_vertices-lifted.ensures w.scanned-v.result h w.index-lifted-v.result
+    w.locate.ensures
 
 pub overflow_sub-a-end : goal.overflow_sub-a-end
 overflow_sub-a-end c = omega (arith, c.args.rim.now.valid.least)

@@ -47,7 +47,8 @@ write_lists-requires c =
 pub returns : goal.returns
 returns c =
     let g = (goal.at.returns c).After-count_places-needed in
-    let enough : Enough c.args.rim.now.polygon (triangles g) c.args.triangle_places c.args.work_places c.args.candidates.now c.args.weights.now c.args.rows.now =
+    let enough : Enough c.args.rim.now.polygon (triangles g) c.args.triangle_places c.args.work_places c.args.candidates.now c.args.weights.now
+    c.args.rows.now =
     record {
       for_triangles = omega (arith, triangles_are g);
       for_work = omega (arith, count_is g);

@@ -43,7 +43,8 @@ own_weight-requires c =
     let s = c.requires.0 in (
       s.corners c.loop-i.i c.loop-i-test.true,
       face_measured s c.loop-i.i c.loop-i-test.true refl
-          (length_is c.args.rim.now.polygon c.args.candidates.now c.args.weights.now c.loop-i.weights c.loop-i.i c.loop-i-test.true c.requires.2 c.loop-i.invariant.kept),
+          (length_is c.args.rim.now.polygon c.args.candidates.now c.args.weights.now c.loop-i.weights c.loop-i.i c.loop-i-test.true
+          c.requires.2 c.loop-i.invariant.kept),
     )
 
 pub loop-i-preserved : goal.loop-i-preserved
