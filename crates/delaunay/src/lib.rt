@@ -2,7 +2,6 @@
 #![tactic(auto)]
 
 ghost use Rattle.std.specs.Prelude.{◌≡◌};
-ghost use Rattle.polygon.specs.Polygon.{ValidPolygon};
 ghost use Rattle.delaunay_search.specs.Search.{Marked};
 ghost use Rattle.delaunay.specs.Candidates.{is_flat, is_candidate, degenerate};
 
@@ -10,15 +9,14 @@ use codes::Refusal;
 use delaunay_search::lift_vertices;
 use faces::TriangleSet;
 use geometry::sphere;
-use polygon::Polygon;
+use polygon::rim::Rim;
 
 // Are all vertices in one plane? They are where every two more are in one plane with vertices 0 and 1, which are two points.
-fn is_flat(p: Polygon) -> bool
-    requires { ValidPolygon p }
-    ensures { result ≡ is_flat p }
+fn is_flat(rim: &Rim) -> bool
+    ensures { result ≡ is_flat rim.now.polygon }
 {
-    let n = p.n;
-    let table = lift_vertices(p, 0);
+    let n = rim.polygon.n;
+    let table = lift_vertices(rim, 0);
     let lifted = &table[..];
     // A loop over the number c: each vertex after it is looked at with it.
     for c in 2..n {
@@ -34,13 +32,12 @@ fn is_flat(p: Polygon) -> bool
 }
 
 // Puts the candidates into the set. Where 12 is due, the set is left empty.
-pub fn mark_candidates(p: Polygon, set: &mut TriangleSet) -> Result<(), Refusal>
-    requires { ValidPolygon p }
-    ensures { Marked (is_candidate p) (degenerate p) set.old result set.new }
+pub fn mark_candidates(rim: &Rim, set: &mut TriangleSet) -> Result<(), Refusal>
+    ensures { Marked (is_candidate rim.now.polygon) (degenerate rim.now.polygon) set.old result set.new }
 {
-    if is_flat(p) {
-        delaunay_triangles::mark_triangles(p, set)
+    if is_flat(rim) {
+        delaunay_triangles::mark_triangles(rim, set)
     } else {
-        delaunay_tetrahedra::mark_tetrahedra(p, set)
+        delaunay_tetrahedra::mark_tetrahedra(rim, set)
     }
 }

@@ -4,18 +4,18 @@
 ghost use Rattle.std.specs.Prelude.{◌≡◌, not, ◌<◌};
 ghost use Rattle.lists.specs.Lists.{both};
 ghost use Rattle.faces.specs.Faces.{is_one_of};
-ghost use Rattle.polygon.specs.Polygon.{ValidPolygon};
 ghost use Rattle.delaunay_search.specs.Search.{Lifts, is_on, scanned_at};
 
 use geometry::sphere;
 use geometry::sphere::{Lifted, Position};
-use polygon::Polygon;
+use polygon::rim::Rim;
 
 // The vertices as seen from vertex a.
-pub fn lift_vertices(p: Polygon, a: usize) -> [Lifted; terms::MAX_VERTICES]
-    requires { (ValidPolygon p) × (a < p.n) }
-    ensures { Lifts p a result }
+pub fn lift_vertices(rim: &Rim, a: usize) -> [Lifted; terms::MAX_VERTICES]
+    requires { a < rim.now.polygon.n }
+    ensures { Lifts rim.now.polygon a result }
 {
+    let p = &rim.polygon;
     let n = p.n;
     let base = p.vertices[a];
     let own = sphere::lift(base, base);

@@ -5,7 +5,6 @@ ghost use Rattle.std.specs.Prelude.{◌≡◌, not, true, ◌≤◌, ◌<◌, eq
 ghost use Rattle.terms.specs.Limits.{max_vertices};
 ghost use Rattle.geometry.specs.Facets.{refuted_by};
 ghost use Rattle.lists.specs.Lists.{both, either};
-ghost use Rattle.polygon.specs.Polygon.{ValidPolygon};
 ghost use Rattle.faces.specs.Faces.{is_one_of};
 ghost use Rattle.delaunay_tetrahedra.specs.Tetrahedra.{is_face_of_four, cospherical};
 ghost use Rattle.delaunay_search.specs.Search.{Marked, is_on};
@@ -15,7 +14,7 @@ use delaunay_search::{is_fourth, lift_vertices, scanned};
 use faces::TriangleSet;
 use geometry::sphere::{Lifted, Pencil, Position};
 use geometry::{facet, sphere};
-use polygon::Polygon;
+use polygon::rim::Rim;
 
 // Is vertex v, which lies at this place, a fifth on the sphere of the four corners?
 fn is_fifth(place: Position, a: usize, b: usize, c: usize, d: usize, v: usize) -> bool
@@ -36,15 +35,14 @@ fn still_refuted(n: usize, c: usize, pencil: Pencil, one: Lifted, other: Lifted)
 // emptied. A vertex inside the sphere drops the four; where the plane of (a, b, c) separates it from d, no four of this three counts, and the three is
 // left. The vertex that dropped the last four is looked at first, and with the d of the last three that was left it is tried on the next one.
 // The loops run through the numbers a < b < c < d of vertices, which go into the set, and through the turns of a scan, not through a table.
-pub fn mark_tetrahedra(p: Polygon, set: &mut TriangleSet) -> Result<(), Refusal>
-    requires { ValidPolygon p }
-    ensures { Marked (is_face_of_four p) (cospherical p) set.old result set.new }
+pub fn mark_tetrahedra(rim: &Rim, set: &mut TriangleSet) -> Result<(), Refusal>
+    ensures { Marked (is_face_of_four rim.now.polygon) (cospherical rim.now.polygon) set.old result set.new }
 {
-    let n = p.n;
+    let n = rim.polygon.n;
     let mut last = 0;
     let mut apex = 0;
     for a in 0..n - 3 {
-        let lifted = lift_vertices(p, a);
+        let lifted = lift_vertices(rim, a);
         for b in a + 1..n - 2 {
             'three: for c in b + 1..n - 1 {
                 let pencil = sphere::pencil_through(lifted[b], lifted[c]);

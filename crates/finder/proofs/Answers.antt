@@ -13,6 +13,7 @@ use Rattle.codes.specs.Refusals.{refusal, number_of, or_refused}
 use Rattle.codes.proofs.Refusals.{number_answered, none_answered, refused_answered, handed_on}
 use Rattle.terms.specs.Limits.{max_triples}
 use Rattle.polygon.specs.declared.Polygon.{Polygon}
+use Rattle.polygon.specs.declared.rim.Rim.{Rim}
 use Rattle.polygon.specs.Polygon.{code_of, ValidPolygon}
 use Rattle.polygon.proofs.Validity.{code_valid}
 use Rattle.delaunay.specs.Candidates.{candidates_of, degenerate, is_candidate}
@@ -28,7 +29,7 @@ use Rattle.finder.specs.declared.Places.{Places}
 use Rattle.finder.specs.Sizes.{Sizes, places_of, places_in, due_places, sizes_by, sizes_of}
 use Rattle.finder.specs.Finding.{Found, counts, Finding, finding, values_of, due_values, short, short_tables, short_beside}
 use Rattle.finder.specs.Finding.{number_due, find_by, find_number, beside_number, find_beside_call}
-use Rattle.finder.specs.Filling.{places_for, Searched, Room, Written, fill_or13}
+use Rattle.finder.specs.Filling.{faces_of, places_for, Searched, Room, Written, fill_or13}
 
 -- neither of two tests
 neither : {a b : Bool} → a ≡ false → b ≡ false → either a b ≡ false
@@ -93,14 +94,19 @@ module _ (p : Polygon) where
   code_due (suc k) m e h =
       let due : number_due false p ≡ suc k = no _ _ (ne_eqb (code_of p) 0 (λ z. h (e ∙ z))) ∙ sym e in
       record {
-        is_due = ap (λ (r : Refusal). Err r) m ∙ sym (ap (λ (k : ℕ). or_refused k tt) due);
+        is_due = ap (λ (r : Refusal). Err r) m ∙ sym (ap (λ (k : ℕ). or_refused k p) due);
         listed = λ z. absurd (let y = sym due ∙ z in omega (arith, y));
       }
 
-  pub marked_searched : {masks : List ℕ} {answer : Result Unit Refusal} → code_of p ≡ 0 →
-      Marked (is_candidate p) (degenerate p) empty_set answer masks → Searched p answer masks
+  -- 12
+  pub record MarkedDue (answer : Result Unit Refusal) (masks : List ℕ) : Type 0 where
+    pub is_due : answer ≡ or_refused (number_due false p) tt
+    pub listed : number_due false p ≡ 0 → faces_of p masks ≡ candidates_of p
+
+  marked_due : {masks : List ℕ} {answer : Result Unit Refusal} → code_of p ≡ 0 →
+      Marked (is_candidate p) (degenerate p) empty_set answer masks → MarkedDue answer masks
   unfolding number_due
-  marked_searched e m =
+  marked_due e m =
       let due : number_due false p ≡ cond (degenerate p) 12 0 = yes _ _ (eq-eqb (code_of p) 0 e) in
       record {
         is_due = m.searched.found ∙ ap (λ (k : ℕ). or_refused k tt) (sym due);
@@ -108,15 +114,30 @@ module _ (p : Polygon) where
             (λ t. let y = ap (λ (b : Bool). cond b 12 0) (sym t) ∙ sym due ∙ z in absurd (omega (arith, y)))) m;
       }
 
-  pub none_due : {x : Unit} → Ok x ≡ or_refused {A = Unit} (number_due false p) tt → number_due false p ≡ 0
-  none_due e = (none_answered (number_due false p) e).0
+  pub twelve_searched : {r : Refusal} {masks : List ℕ} → code_of p ≡ 0 →
+      Marked (is_candidate p) (degenerate p) empty_set (Err r) masks → Searched p (Err r) masks
+  twelve_searched e m =
+      let d = marked_due e m in
+      record { is_due = handed_on (number_due false p) tt p d.is_due; listed = d.listed }
+
+  pub rim_searched : {rim : Rim} {u : Unit} {masks : List ℕ} → code_of p ≡ 0 → rim.polygon ≡ p →
+      Marked (is_candidate p) (degenerate p) empty_set (Ok u) masks → Searched p (Ok rim) masks
+  rim_searched e same m =
+      let d = marked_due e m in
+      record {
+        is_due = ap (λ (q : Polygon). Ok q) same ∙ sym (ap (λ (k : ℕ). or_refused k p) (none_answered (number_due false p) d.is_due).0);
+        listed = d.listed;
+      }
+
+  pub none_due : {x : Polygon} → Ok x ≡ or_refused (number_due false p) p → (number_due false p ≡ 0) × (x ≡ p)
+  none_due e = none_answered (number_due false p) e
 
   pub due_valid : number_due false p ≡ 0 → ValidPolygon p
   due_valid e = code_valid p (clear false e).code
 
   -- ---- the places
-  pub sizes_refused : {r : Refusal} → Err r ≡ or_refused {A = Unit} (number_due false p) tt → Err r ≡ sizes_of p
-  sizes_refused e = handed_on (number_due false p) tt (places_of p) e
+  pub sizes_refused : {r : Refusal} → Err r ≡ or_refused (number_due false p) p → Err r ≡ sizes_of p
+  sizes_refused e = handed_on (number_due false p) p (places_of p) e
 
   pub sizes_known : {places : Places} {found : List (List ℕ)} → number_due false p ≡ 0 → found ≡ candidates_of p →
       places ≡ places_for p.n found → Ok places ≡ sizes_of p
@@ -148,14 +169,14 @@ module _ (p : Polygon) (trianglePlaces workPlaces : ℕ) (candidates : List (Lis
   abbrev too_short : Bool
   too_short = either (short_beside p trianglePlaces workPlaces) (short_tables p candidates weights rows)
 
-  pub find_refused : {r : Refusal} → Err r ≡ or_refused {A = Unit} (number_due false p) tt →
+  pub find_refused : {r : Refusal} → Err r ≡ or_refused (number_due false p) p →
       finding (Err r) candidates weights rows ≡ find_beside_call p trianglePlaces workPlaces candidates weights rows
   find_refused e = go (number_due false p) e ∙ ap (λ (k : ℕ). find_by k p candidates weights rows) (sym (thirteen_last p too_short))
     where
-      go : (k : ℕ) {r : Refusal} → Err r ≡ or_refused {A = Unit} k tt →
+      go : (k : ℕ) {r : Refusal} → Err r ≡ or_refused k p →
           finding (Err r) candidates weights rows ≡ find_by (then13 k too_short) p candidates weights rows
       go zero e = absurd cc
-      go (suc k) e = ap (λ (r : Refusal). finding (Err r) candidates weights rows) (refused_answered (suc k) tt e).1
+      go (suc k) e = ap (λ (r : Refusal). finding (Err r) candidates weights rows) (refused_answered (suc k) p e).1
 
   pub filled_is : number_due false p ≡ 0 → fill_or13 p (candidates_of p) trianglePlaces workPlaces candidates weights rows
       ≡ find_beside_call p trianglePlaces workPlaces candidates weights rows

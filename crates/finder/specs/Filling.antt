@@ -3,6 +3,8 @@ use Rattle.std.specs.Prelude.{◌≡◌, cond, false, List, ℕ, ◌-◌, ◌≤
 use Rattle.codes.specs.declared.Refusal.{Refusal}
 use Rattle.codes.specs.Refusals.{refusal, or_refused}
 use Rattle.polygon.specs.declared.Polygon.{Polygon}
+use Rattle.polygon.specs.declared.rim.Rim.{Rim}
+use Rattle.polygon.specs.Rim.{as_polygon}
 use Rattle.faces.specs.Faces.{triples_of}
 use Rattle.faces.specs.Masks.{has}
 use Rattle.delaunay.specs.Candidates.{candidates_of}
@@ -17,9 +19,9 @@ use Rattle.finder.specs.Finding.{counts, Finding, finding, short, number_due}
 abbrev pub faces_of : Polygon → List ℕ → List (List ℕ)
 faces_of p masks = triples_of p.n (has masks)
 
--- the number due before the tables are looked at; where none is, the set has the candidates
-pub record Searched (p : Polygon) (answer : Result Unit Refusal) (masks : List ℕ) : Type 0 where
-  pub is_due : answer ≡ or_refused (number_due false p) tt
+-- the number due before the tables are looked at; where none is, the polygon is a rim, and the set has the candidates
+pub record Searched (p : Polygon) (answer : Result Rim Refusal) (masks : List ℕ) : Type 0 where
+  pub is_due : as_polygon answer ≡ or_refused (number_due false p) p
   pub listed : number_due false p ≡ 0 → faces_of p masks ≡ candidates_of p
 
 -- the places for the triangles of a set, the rows counted as hanging pairs

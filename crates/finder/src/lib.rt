@@ -1,10 +1,8 @@
 // The candidate finder: from a polygon to its candidates, their weights and the rows of hanging pairs.
 #![tactic(auto)]
 
-ghost use Rattle.std.specs.Prelude.{◌≡◌, false, ◌≤◌};
-ghost use Rattle.terms.specs.Limits.{min_vertices, max_vertices};
-ghost use Rattle.faces.specs.Faces.{triples_of};
-ghost use Rattle.faces.specs.Masks.{has, empty_set};
+ghost use Rattle.std.specs.Prelude.{◌≡◌, false};
+ghost use Rattle.faces.specs.Masks.{empty_set};
 ghost use Rattle.dihedrals.specs.Lists.{ProperCandidates};
 ghost use Rattle.codes.specs.Refusals.{number_of};
 ghost use Rattle.finder.specs.Finding.{values_of, due_values, finding, number_due, find_number, find_call, beside_number, find_beside_call};
@@ -14,6 +12,7 @@ ghost use Rattle.finder.specs.Filling.{faces_of, places_for, Searched, Room, Wri
 use codes::Refusal;
 use faces::TriangleSet;
 use polygon::Polygon;
+use polygon::rim::Rim;
 
 // How many candidates and rows the lists have.
 #[derive(Clone, Copy, Debug, PartialEq, Eq)]
@@ -30,19 +29,20 @@ pub struct Places {
     pub rows: usize,
 }
 
-// The number due on the polygon, then 12. Where none is due, the candidates are in the set.
-fn search(p: Polygon, set: &mut TriangleSet) -> Result<(), Refusal>
+// The polygon as a rim, or the number due on it, then 12. Where none is due, the candidates are in the set.
+fn search(p: Polygon, set: &mut TriangleSet) -> Result<Rim, Refusal>
     requires { set.old ≡ empty_set }
     ensures { Searched p result set.new }
 {
-    polygon::check(p)?;
-    delaunay::mark_candidates(p, set)
+    let rim = Rim::new(p)?;
+    delaunay::mark_candidates(&rim, set)?;
+    Ok(rim)
 }
 
-fn count_places(n: usize, set: &TriangleSet) -> Places
-    requires { (min_vertices ≤ n) × (n ≤ max_vertices) }
-    ensures { result ≡ places_for n (triples_of n (has set.now)) }
+fn count_places(rim: &Rim, set: &TriangleSet) -> Places
+    ensures { result ≡ places_for rim.now.polygon.n (faces_of rim.now.polygon set.now) }
 {
+    let n = rim.polygon.n;
     let candidates = set.count(n);
     let pairs = hinges::count_rows(set, n);
     Places {
@@ -58,34 +58,36 @@ pub fn table_sizes(p: Polygon) -> Result<Places, Refusal>
     ensures values { (number_of result ≡ number_due false p) × (places_in result ≡ due_places (number_due false p) p) }
 {
     let mut set = TriangleSet::new();
-    search(p, &mut set)?;
-    Ok(count_places(p.n, &set))
+    let rim = search(p, &mut set)?;
+    Ok(count_places(&rim, &set))
 }
 
 // Writes the lists of the set's triangles. The weight table holds the lengths of the normals until the rows are made.
 fn write_lists(
-    p: Polygon,
+    rim: &Rim,
     set: &TriangleSet,
     candidates: &mut [[u8; 3]],
     weights: &mut [u32],
     rows: &mut [[u32; 3]],
 )
-    requires { (ProperCandidates p (faces_of p set.now)) × Room p (faces_of p set.now) candidates.old weights.old rows.old }
-    ensures { Written p (faces_of p set.now) candidates.old weights.old rows.old
+    requires { (ProperCandidates rim.now.polygon (faces_of rim.now.polygon set.now))
+        × Room rim.now.polygon (faces_of rim.now.polygon set.now) candidates.old weights.old rows.old }
+    ensures { Written rim.now.polygon (faces_of rim.now.polygon set.now) candidates.old weights.old rows.old
         candidates.new weights.new rows.new }
 {
+    let p = rim.polygon;
     let n = p.n;
     let count = set.list(n, candidates);
     let found = &candidates[..count];
     let starts = blocks::block_starts(found);
     dihedrals::write_lengths(p, found, weights);
     dihedrals::write_rows(p, found, &starts, &weights[..count], rows);
-    weights::write_weights(p, found, weights);
+    weights::write_weights(rim, found, weights);
 }
 
 // 13, or the lists of the set's triangles. They are counted first: all tables are tested before one is written. (C lends the tables one by one.)
 fn fill(
-    p: Polygon,
+    rim: &Rim,
     set: &TriangleSet,
     triangle_places: usize,
     work_places: usize,
@@ -93,11 +95,11 @@ fn fill(
     weights: &mut [u32],
     rows: &mut [[u32; 3]],
 ) -> Result<Counts, Refusal>
-    requires { ProperCandidates p (faces_of p set.now) }
+    requires { ProperCandidates rim.now.polygon (faces_of rim.now.polygon set.now) }
     ensures { finding result candidates.new weights.new rows.new
-        ≡ fill_or13 p (faces_of p set.now) triangle_places work_places candidates.old weights.old rows.old }
+        ≡ fill_or13 rim.now.polygon (faces_of rim.now.polygon set.now) triangle_places work_places candidates.old weights.old rows.old }
 {
-    let needed = count_places(p.n, set);
+    let needed = count_places(rim, set);
     let count = needed.candidates;
     if triangle_places < needed.triangles
         || work_places < count
@@ -107,7 +109,7 @@ fn fill(
     {
         return Err(Refusal::TABLE_TOO_SHORT);
     }
-    write_lists(p, set, candidates, weights, rows);
+    write_lists(rim, set, candidates, weights, rows);
     Ok(Counts {
         candidates: count,
         rows: needed.rows,
@@ -130,9 +132,9 @@ pub fn find_beside(
         ≡ due_values (beside_number p triangle_places work_places candidates.old weights.old rows.old) p }
 {
     let mut set = TriangleSet::new();
-    search(p, &mut set)?;
+    let rim = search(p, &mut set)?;
     fill(
-        p,
+        &rim,
         &set,
         triangle_places,
         work_places,

@@ -1,3 +1,4 @@
 pub mod Normal
 pub mod Polygon
 pub mod Due
+pub mod Rim

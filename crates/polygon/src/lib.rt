@@ -6,6 +6,7 @@ use grid::GridPoint;
 use normal::Normal;
 
 pub mod normal;
+pub mod rim;
 
 ghost use Rattle.std.specs.Prelude.{◌≡◌, ◌≤◌};
 ghost use Rattle.terms.specs.Limits.{max_vertices};

@@ -19,9 +19,10 @@ use Rattle.delaunay.proofs.is_flat.Goals as goal
 
 -- at a vertex of the last loop
 module _ (s : goal.In-loop-seen) where
-  seen<n : s.loop-c.c + 1 + s.loop-seen.seen-index < s.args.p.n
+  seen<n : s.loop-c.c + 1 + s.loop-seen.seen-index < s.args.rim.now.polygon.n
   seen<n =
-      let long = after_long s.args.p.n s.loop-c.c s.lift_vertices-table.result (omega (arith, s.requires.most, s.lift_vertices-table.ensures.long)) in
+      let long = after_long s.args.rim.now.polygon.n s.loop-c.c s.lift_vertices-table.result
+      (omega (arith, s.args.rim.now.valid.most, s.lift_vertices-table.ensures.long)) in
       omega (arith, long, s.loop-seen-test.true)
 
 -- the pencil and the sphere, of elements as they are read
@@ -29,16 +30,16 @@ pencil_read : (k : goal.After-pencil_through-pencil) →
     k.pencil_through-pencil.result ≡ pencil_of (get_or k.lift_vertices-table.result 1 unlifted) (get_or k.lift_vertices-table.result k.loop-c.c unlifted)
 pencil_read k =
     let lifts = k.lift_vertices-table.ensures in
-    let first = read (λ (w : Lifted). w) k.requires lifts 1 (omega (arith, k.requires.least)) k.index-lifted-1.result k.index-lifted-1.is in
-    let second = read (λ (w : Lifted). w) k.requires lifts k.loop-c.c k.loop-c-test.true k.index-lifted-c.result k.index-lifted-c.is in
+    let first = read (λ (w : Lifted). w) k.args.rim.now.valid lifts 1 (omega (arith, k.args.rim.now.valid.least)) k.index-lifted-1.result k.index-lifted-1.is in
+    let second = read (λ (w : Lifted). w) k.args.rim.now.valid lifts k.loop-c.c k.loop-c-test.true k.index-lifted-c.result k.index-lifted-c.is in
     k.pencil_through-pencil.ensures ∙ (λ i. pencil_of (first i) (second i))
 
 sphere_read : (e : goal.After-circumsphere-ball) → e.circumsphere-ball.result
-    ≡ sphere_of e.pencil_through-pencil.result (get_or (after e.args.p.n e.loop-c.c e.lift_vertices-table.result) e.loop-seen.seen-index unlifted)
+    ≡ sphere_of e.pencil_through-pencil.result (get_or (after e.args.rim.now.polygon.n e.loop-c.c e.lift_vertices-table.result) e.loop-seen.seen-index unlifted)
 sphere_read e =
     e.circumsphere-ball.ensures
     ∙ ap (sphere_of e.pencil_through-pencil.result)
-    (e.seen-item.is ∙ get_or_default (after e.args.p.n e.loop-c.c e.lift_vertices-table.result) e.loop-seen.seen-index e.seen-item.result unlifted
+    (e.seen-item.is ∙ get_or_default (after e.args.rim.now.polygon.n e.loop-c.c e.lift_vertices-table.result) e.loop-seen.seen-index e.seen-item.result unlifted
     e.loop-seen-test.true)
 
 pub loop-c-init : goal.loop-c-init
@@ -48,8 +49,8 @@ pub returns-then-ball-ne0 : goal.returns-then-ball-ne0
 returns-then-ball-ne0 c =
     let s = (goal.at.returns-then-ball-ne0 c).In-loop-seen in
     let k = pencil_read (goal.at.returns-then-ball-ne0 c).After-pencil_through-pencil in
-    let e = pair_after c.args.p.n c.loop-c.c c.lift_vertices-table.result k c.loop-seen.seen-index (seen<n s) in
-    sym (found_solid c.requires c.lift_vertices-table.ensures c.loop-c.c (c.loop-c.c + 1 + c.loop-seen.seen-index) c.loop-c.invariant.0
+    let e = pair_after c.args.rim.now.polygon.n c.loop-c.c c.lift_vertices-table.result k c.loop-seen.seen-index (seen<n s) in
+    sym (found_solid c.args.rim.now.valid c.lift_vertices-table.ensures c.loop-c.c (c.loop-c.c + 1 + c.loop-seen.seen-index) c.loop-c.invariant.0
     (omega arith) (seen<n s) (sym e ∙ ap (λ (b : Sphere). equal b.orient (pos 0)) (sym (sphere_read (goal.at.returns-then-ball-ne0 c).After-circumsphere-ball))
     ∙ sym (λ i. equal (c.ball.view_is i).orient (pos 0)) ∙ other_bits c.ball.inside.orient c.if-ball-ne0.true))
 
@@ -61,14 +62,16 @@ loop-seen-preserved c =
 
 pub loop-c-preserved : goal.loop-c-preserved
 loop-c-preserved c =
-    let long = after_long c.args.p.n c.loop-c.c c.lift_vertices-table.result (omega (arith, c.requires.most, c.lift_vertices-table.ensures.long)) in (
+    let long = after_long c.args.rim.now.polygon.n c.loop-c.c c.lift_vertices-table.result
+    (omega (arith, c.args.rim.now.valid.most, c.lift_vertices-table.ensures.long)) in (
       omega (arith, c.loop-c.invariant.0),
-      coplanar_on (pair_after c.args.p.n c.loop-c.c c.lift_vertices-table.result (pencil_read (goal.at.loop-c-preserved c).After-pencil_through-pencil))
+      coplanar_on (pair_after c.args.rim.now.polygon.n c.loop-c.c c.lift_vertices-table.result
+          (pencil_read (goal.at.loop-c-preserved c).After-pencil_through-pencil))
           (omega (arith, long, c.loop-seen-test.false)) c.loop-seen.invariant
           c.loop-c.invariant.1,
     )
 
 pub returns : goal.returns
 returns c =
-    sym (all_coplanar c.requires c.lift_vertices-table.ensures c.loop-c.c
+    sym (all_coplanar c.args.rim.now.valid c.lift_vertices-table.ensures c.loop-c.c
     (λ h. omega (arith, c.loop-c-test.false)) c.loop-c.invariant.1)

@@ -11,10 +11,11 @@ use Rattle.delaunay_search.proofs.lift_vertices.Goals as goal
 
 pub loop-v-preserved : goal.loop-v-preserved
 loop-v-preserved c =
-    let most = c.requires.0.most in
-    let v<n : c.loop-v.v < c.args.p.n = omega arith in (
+    let p = c.args.rim.now.polygon in
+    let most = c.args.rim.now.valid.most in
+    let v<n : c.loop-v.v < p.n = omega arith in (
       omega arith,
       lifted_more c.lift.result (omega (arith, most))
-          (c.lift.ensures ∙ ap (λ (q : GridPoint). lift_of (vertex c.args.p c.args.a) q) (get_or-take c.args.p.n c.args.p.vertices c.loop-v.v _ v<n))
+          (c.lift.ensures ∙ ap (λ (q : GridPoint). lift_of (vertex p c.args.a) q) (get_or-take p.n p.vertices c.loop-v.v _ v<n))
           c.loop-v.invariant.1,
     )

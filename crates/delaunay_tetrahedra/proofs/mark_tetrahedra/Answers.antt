@@ -50,10 +50,10 @@ three_of {b = b} {c = c} {lifted = lifted} x y valid a<n b<n c<n lifts spans = r
 -- at three corners
 module _ (g : goal.In-three) where
   abbrev polygon : Polygon
-  polygon = g.args.p
+  polygon = g.args.rim.now.polygon
 
   valid : ValidPolygon polygon
-  valid = g.requires
+  valid = g.args.rim.now.valid
 
   abbrev A : ℕ
   A = g.loop-a.a
@@ -82,8 +82,8 @@ module _ (g : goal.In-three) where
 
 -- with their pencil
 module _ (k : goal.After-pencil_through-pencil) where
-  three : Three k.args.p k.loop-a.a k.loop-b.b k.three.c k.lift_vertices-lifted.result k.pencil_through-pencil.result
-  three = three_of k.index-lifted-b.result k.index-lifted-c.result k.requires k.loop-a-test.true k.loop-b-test.true k.three-test.true
+  three : Three k.args.rim.now.polygon k.loop-a.a k.loop-b.b k.three.c k.lift_vertices-lifted.result k.pencil_through-pencil.result
+  three = three_of k.index-lifted-b.result k.index-lifted-c.result k.args.rim.now.valid k.loop-a-test.true k.loop-b-test.true k.three-test.true
       k.lift_vertices-lifted.ensures k.pencil_through-pencil.ensures
 
 -- at four corners
@@ -91,14 +91,14 @@ module _ (s : goal.In-four) where
   abbrev D : ℕ
   D = s.four.d
 
-  d<n : D < s.args.p.n
+  d<n : D < s.args.rim.now.polygon.n
   d<n = s.four-test.true
 
-  known : Hints s.args.p.n s.four.last s.four.apex
+  known : Hints s.args.rim.now.polygon.n s.four.last s.four.apex
   known = s.four.invariant.1
 
-  triangle : Three s.args.p s.loop-a.a s.loop-b.b s.three.c s.lift_vertices-lifted.result s.pencil_through-pencil.result
-  triangle = three_of s.index-lifted-b.result s.index-lifted-c.result s.requires s.loop-a-test.true s.loop-b-test.true s.three-test.true
+  triangle : Three s.args.rim.now.polygon s.loop-a.a s.loop-b.b s.three.c s.lift_vertices-lifted.result s.pencil_through-pencil.result
+  triangle = three_of s.index-lifted-b.result s.index-lifted-c.result s.args.rim.now.valid s.loop-a-test.true s.loop-b-test.true s.three-test.true
       s.lift_vertices-lifted.ensures s.pencil_through-pencil.ensures
 
 -- the orientation of a sphere, read from its fields
@@ -112,17 +112,17 @@ module _ (l : goal.At-loop-i) where
 
   abbrev FourAt : ℕ → ℕ → Type 0
   FourAt c d =
-      Four l.args.p l.loop-a.a l.loop-b.b c d l.lift_vertices-lifted.result l.pencil_through-pencil.result ball l.three.set l.four.set
-      (λ P. left4 l.args.p.n P l.loop-a.a l.loop-b.b l.three.c (l.three.c + 1))
+      Four l.args.rim.now.polygon l.loop-a.a l.loop-b.b c d l.lift_vertices-lifted.result l.pencil_through-pencil.result ball l.three.set l.four.set
+      (λ P. left4 l.args.rim.now.polygon.n P l.loop-a.a l.loop-b.b l.three.c (l.three.c + 1))
 
-  triangle_of : Three l.args.p l.loop-a.a l.loop-b.b l.three.c l.lift_vertices-lifted.result l.pencil_through-pencil.result
+  triangle_of : Three l.args.rim.now.polygon l.loop-a.a l.loop-b.b l.three.c l.lift_vertices-lifted.result l.pencil_through-pencil.result
   triangle_of =
-      three_of l.index-lifted-b.result l.index-lifted-c.result l.requires l.loop-a-test.true l.loop-b-test.true l.three-test.true
+      three_of l.index-lifted-b.result l.index-lifted-c.result l.args.rim.now.valid l.loop-a-test.true l.loop-b-test.true l.three-test.true
       l.lift_vertices-lifted.ensures l.pencil_through-pencil.ensures
 
   through : ball ≡ sphere_of l.pencil_through-pencil.result (get_or l.lift_vertices-lifted.result l.four.d unlifted)
-  through = read (sphere_of l.pencil_through-pencil.result) l.requires l.lift_vertices-lifted.ensures l.four.d l.four-test.true l.index-lifted-d.result
-      l.circumsphere-ball.ensures
+  through = read (sphere_of l.pencil_through-pencil.result) l.args.rim.now.valid l.lift_vertices-lifted.ensures l.four.d l.four-test.true
+      l.index-lifted-d.result l.circumsphere-ball.ensures
 
   four : FourAt l.three.c l.four.d
   four = record {
@@ -134,86 +134,87 @@ module _ (l : goal.At-loop-i) where
   }
 
   -- no vertex is inside
-  full : l.args.p.n + 1 ≤ l.loop-i.i → counts l.args.p l.loop-a.a l.loop-b.b l.three.c l.four.d ≡ true
+  full : l.args.rim.now.polygon.n + 1 ≤ l.loop-i.i → counts l.args.rim.now.polygon l.loop-a.a l.loop-b.b l.three.c l.four.d ≡ true
   full h = four_counts four (l.loop-i.i - 1) (omega (arith, h)) l.loop-i.invariant.scanned
 
 -- at the vertex of a turn
-v<n : (w : goal.After-scanned-v) → w.scanned-v.result < w.args.p.n
+v<n : (w : goal.After-scanned-v) → w.scanned-v.result < w.args.rim.now.polygon.n
 v<n w = scanned_in _ w.loop-i.last w.loop-i.i w.scanned-v.result w.loop-i.invariant.known.last<n w.loop-i-test.true w.scanned-v.ensures
 
 -- at a vertex of the last loop
-looked<n : (w : goal.In-loop-v) → w.loop-v.v < w.args.p.n
-looked<n w = omega (arith, seen_long w.requires w.lift_vertices-lifted.ensures, w.loop-v-test.true)
+looked<n : (w : goal.In-loop-v) → w.loop-v.v < w.args.rim.now.polygon.n
+looked<n w = omega (arith, seen_long w.args.rim.now.valid w.lift_vertices-lifted.ensures, w.loop-v-test.true)
 
 seen_place : (k : goal.After-locate-in-loop-v) →
     k.locate-in-loop-v.result ≡ position_by k.circumsphere-ball.result (get_or k.lift_vertices-lifted.result k.loop-v.v unlifted)
 seen_place k =
-    let h : k.loop-v.v < k.args.p.n = omega (arith, seen_long k.requires k.lift_vertices-lifted.ensures, k.loop-v-test.true) in
+    let h : k.loop-v.v < k.args.rim.now.polygon.n = omega (arith, seen_long k.args.rim.now.valid k.lift_vertices-lifted.ensures, k.loop-v-test.true) in
     k.locate-in-loop-v.ensures ∙ ap (λ (s : Lifted). position_by k.circumsphere-ball.result s)
-    (seen_read k.requires k.lift_vertices-lifted.ensures k.loop-v.v h k.seen-item.result k.seen-item.is)
+    (seen_read k.args.rim.now.valid k.lift_vertices-lifted.ensures k.loop-v.v h k.seen-item.result k.seen-item.is)
 
 -- what the calls say of elements
 place_at : (w : goal.After-locate) → w.locate.result ≡ position_by w.circumsphere-ball.result (get_or w.lift_vertices-lifted.result w.scanned-v.result unlifted)
 place_at w =
     let h = scanned_in _ w.loop-i.last w.loop-i.i w.scanned-v.result w.loop-i.invariant.known.last<n w.loop-i-test.true w.scanned-v.ensures in
-    read (position_by w.circumsphere-ball.result) w.requires w.lift_vertices-lifted.ensures w.scanned-v.result h w.index-lifted-v.result w.locate.ensures
+    read (position_by w.circumsphere-ball.result) w.args.rim.now.valid w.lift_vertices-lifted.ensures w.scanned-v.result h w.index-lifted-v.result
+    w.locate.ensures
 
 pub overflow_sub-a-end : goal.overflow_sub-a-end
-overflow_sub-a-end c = c.requires.least
+overflow_sub-a-end c = c.args.rim.now.valid.least
 
 pub loop-a-init : goal.loop-a-init
-loop-a-init c = (omega (arith, c.requires.least), kept_start)
+loop-a-init c = (omega (arith, c.args.rim.now.valid.least), kept_start)
 
 pub lift_vertices-lifted-requires : goal.lift_vertices-lifted-requires
-lift_vertices-lifted-requires c = (c.requires, omega (arith, c.loop-a-test.true))
+lift_vertices-lifted-requires c = omega (arith, c.loop-a-test.true)
 
 pub overflow_step-b : goal.overflow_step-b
-overflow_step-b c = omega (arith, c.requires.most, c.loop-a-test.true)
+overflow_step-b c = omega (arith, c.args.rim.now.valid.most, c.loop-a-test.true)
 
 pub overflow_sub-b-end : goal.overflow_sub-b-end
-overflow_sub-b-end c = omega (arith, c.requires.least)
+overflow_sub-b-end c = omega (arith, c.args.rim.now.valid.least)
 
 pub loop-b-init : goal.loop-b-init
 loop-b-init c = (c.loop-a.invariant.0, kept_start)
 
 pub overflow_step-c : goal.overflow_step-c
-overflow_step-c c = omega (arith, c.requires.most, c.loop-b-test.true)
+overflow_step-c c = omega (arith, c.args.rim.now.valid.most, c.loop-b-test.true)
 
 pub overflow_sub-c-end : goal.overflow_sub-c-end
-overflow_sub-c-end c = omega (arith, c.requires.least)
+overflow_sub-c-end c = omega (arith, c.args.rim.now.valid.least)
 
 pub three-init : goal.three-init
 three-init c = (c.loop-b.invariant.0, kept_start)
 
 pub offset_bounds-lifted-b : goal.offset_bounds-lifted-b
-offset_bounds-lifted-b c = omega (arith, c.requires.most, b<n (goal.at.offset_bounds-lifted-b c).In-three)
+offset_bounds-lifted-b c = omega (arith, c.args.rim.now.valid.most, b<n (goal.at.offset_bounds-lifted-b c).In-three)
 
 pub bounds-lifted-b : goal.bounds-lifted-b
-bounds-lifted-b c = omega (arith, c.requires.most, b<n (goal.at.bounds-lifted-b c).In-three)
+bounds-lifted-b c = omega (arith, c.args.rim.now.valid.most, b<n (goal.at.bounds-lifted-b c).In-three)
 
 pub offset_bounds-lifted-c : goal.offset_bounds-lifted-c
-offset_bounds-lifted-c c = omega (arith, c.requires.most, c<n (goal.at.offset_bounds-lifted-c c).In-three)
+offset_bounds-lifted-c c = omega (arith, c.args.rim.now.valid.most, c<n (goal.at.offset_bounds-lifted-c c).In-three)
 
 pub bounds-lifted-c : goal.bounds-lifted-c
-bounds-lifted-c c = omega (arith, c.requires.most, c<n (goal.at.bounds-lifted-c c).In-three)
+bounds-lifted-c c = omega (arith, c.args.rim.now.valid.most, c<n (goal.at.bounds-lifted-c c).In-three)
 
 pub offset_bounds-lifted-apex : goal.offset_bounds-lifted-apex
-offset_bounds-lifted-apex c = omega (arith, c.requires.most, (hints (goal.at.offset_bounds-lifted-apex c).In-three).apex<n)
+offset_bounds-lifted-apex c = omega (arith, c.args.rim.now.valid.most, (hints (goal.at.offset_bounds-lifted-apex c).In-three).apex<n)
 
 pub bounds-lifted-apex : goal.bounds-lifted-apex
-bounds-lifted-apex c = omega (arith, c.requires.most, (hints (goal.at.bounds-lifted-apex c).In-three).apex<n)
+bounds-lifted-apex c = omega (arith, c.args.rim.now.valid.most, (hints (goal.at.bounds-lifted-apex c).In-three).apex<n)
 
 pub offset_bounds-lifted-last : goal.offset_bounds-lifted-last
-offset_bounds-lifted-last c = let g = (goal.at.offset_bounds-lifted-last c).In-three in omega (arith, c.requires.most, (hints g).last<n)
+offset_bounds-lifted-last c = let g = (goal.at.offset_bounds-lifted-last c).In-three in omega (arith, c.args.rim.now.valid.most, (hints g).last<n)
 
 pub bounds-lifted-last : goal.bounds-lifted-last
-bounds-lifted-last c = let g = (goal.at.bounds-lifted-last c).In-three in omega (arith, c.requires.most, (hints g).last<n)
+bounds-lifted-last c = let g = (goal.at.bounds-lifted-last c).In-three in omega (arith, c.args.rim.now.valid.most, (hints g).last<n)
 
 pub still_refuted-requires : goal.still_refuted-requires
-still_refuted-requires c = let g = (goal.at.still_refuted-requires c).In-three in (c.requires.most, c<n g)
+still_refuted-requires c = let g = (goal.at.still_refuted-requires c).In-three in (c.args.rim.now.valid.most, c<n g)
 
 pub overflow_step-c-then-still_refuted : goal.overflow_step-c-then-still_refuted
-overflow_step-c-then-still_refuted c = let g = (goal.at.overflow_step-c-then-still_refuted c).In-three in omega (arith, c.requires.most, c<n g)
+overflow_step-c-then-still_refuted c = let g = (goal.at.overflow_step-c-then-still_refuted c).In-three in omega (arith, c.args.rim.now.valid.most, c<n g)
 
 pub three-smaller-then-still_refuted : goal.three-smaller-then-still_refuted
 three-smaller-then-still_refuted c = let g = (goal.at.three-smaller-then-still_refuted c).In-three in omega (arith, c<n g)
@@ -225,26 +226,26 @@ three-preserved-then-still_refuted c =
     let lifts = c.lift_vertices-lifted.ensures in
     let lifted = c.lift_vertices-lifted.result in
     let pencil = c.pencil_through-pencil.result in
-    let refuted = sym (read (λ (w : Lifted). refuted_by pencil (get_or lifted c.three.apex unlifted) w) c.requires lifts c.three.last (hints g).last<n
+    let refuted = sym (read (λ (w : Lifted). refuted_by pencil (get_or lifted c.three.apex unlifted) w) c.args.rim.now.valid lifts c.three.last (hints g).last<n
     c.index-lifted-last.result
-    (read (λ (s : Lifted). refuted_by pencil s (get_or lifted c.three.last c.index-lifted-last.result)) c.requires lifts c.three.apex (hints g).apex<n
+    (read (λ (s : Lifted). refuted_by pencil s (get_or lifted c.three.last c.index-lifted-last.result)) c.args.rim.now.valid lifts c.three.apex (hints g).apex<n
     c.index-lifted-apex.result (sym (c.still_refuted.ensures c.if-still_refuted.true)))) in
     (hints g, kept_leave _ _ _ _ _ (entered g) (none_counts (three k) _ _ (hints g).apex<n (hints g).last<n refuted))
 
 pub overflow_step-d : goal.overflow_step-d
-overflow_step-d c = let g = (goal.at.overflow_step-d c).In-three in omega (arith, c.requires.most, c<n g)
+overflow_step-d c = let g = (goal.at.overflow_step-d c).In-three in omega (arith, c.args.rim.now.valid.most, c<n g)
 
 pub four-init : goal.four-init
 four-init c = (refl, hints (goal.at.four-init c).In-three, kept_start)
 
 pub offset_bounds-lifted-d : goal.offset_bounds-lifted-d
-offset_bounds-lifted-d c = omega (arith, c.requires.most, d<n (goal.at.offset_bounds-lifted-d c).In-four)
+offset_bounds-lifted-d c = omega (arith, c.args.rim.now.valid.most, d<n (goal.at.offset_bounds-lifted-d c).In-four)
 
 pub bounds-lifted-d : goal.bounds-lifted-d
-bounds-lifted-d c = omega (arith, c.requires.most, d<n (goal.at.bounds-lifted-d c).In-four)
+bounds-lifted-d c = omega (arith, c.args.rim.now.valid.most, d<n (goal.at.bounds-lifted-d c).In-four)
 
 pub overflow_step-d-then-ball-eq0 : goal.overflow_step-d-then-ball-eq0
-overflow_step-d-then-ball-eq0 c = let s = (goal.at.overflow_step-d-then-ball-eq0 c).In-four in omega (arith, c.requires.most, d<n s)
+overflow_step-d-then-ball-eq0 c = let s = (goal.at.overflow_step-d-then-ball-eq0 c).In-four in omega (arith, c.args.rim.now.valid.most, d<n s)
 
 pub four-smaller-then-ball-eq0 : goal.four-smaller-then-ball-eq0
 four-smaller-then-ball-eq0 c = let s = (goal.at.four-smaller-then-ball-eq0 c).In-four in omega (arith, d<n s)
@@ -252,41 +253,41 @@ four-smaller-then-ball-eq0 c = let s = (goal.at.four-smaller-then-ball-eq0 c).In
 pub four-preserved-then-ball-eq0 : goal.four-preserved-then-ball-eq0
 four-preserved-then-ball-eq0 c =
     let s = (goal.at.four-preserved-then-ball-eq0 c).In-four in
-    let e = read (sphere_of c.pencil_through-pencil.result) c.requires c.lift_vertices-lifted.ensures (D s) (d<n s) c.index-lifted-d.result
+    let e = read (sphere_of c.pencil_through-pencil.result) c.args.rim.now.valid c.lift_vertices-lifted.ensures (D s) (d<n s) c.index-lifted-d.result
     c.circumsphere-ball.ensures in
     let flat = seen_orient c.ball.view_is ∙ zero_bits c.ball.inside.orient (signed_fits tt c.ball.invariant.orient_in) c.if-ball-eq0.true in
     (refl, known s, kept_skip _ _ _ _ (D s) s.four.invariant.2 (d<n s) (not_counts_flat _ _ _ _ _ (sym (flat_is (triangle s) (D s) (d<n s) e) ∙ flat)))
 
 pub overflow_add-i-end : goal.overflow_add-i-end
-overflow_add-i-end c = let s = (goal.at.overflow_add-i-end c).In-four in omega (arith, c.requires.most)
+overflow_add-i-end c = let s = (goal.at.overflow_add-i-end c).In-four in omega (arith, c.args.rim.now.valid.most)
 
 pub loop-i-init : goal.loop-i-init
 loop-i-init c = record { same_c = refl; same_d = refl; ahead = omega arith; known = known (goal.at.loop-i-init c).In-four; scanned = refl }
 
 pub offset_bounds-lifted-v : goal.offset_bounds-lifted-v
-offset_bounds-lifted-v c = omega (arith, c.requires.most, v<n (goal.at.offset_bounds-lifted-v c).After-scanned-v)
+offset_bounds-lifted-v c = omega (arith, c.args.rim.now.valid.most, v<n (goal.at.offset_bounds-lifted-v c).After-scanned-v)
 
 pub bounds-lifted-v : goal.bounds-lifted-v
-bounds-lifted-v c = omega (arith, c.requires.most, v<n (goal.at.bounds-lifted-v c).After-scanned-v)
+bounds-lifted-v c = omega (arith, c.args.rim.now.valid.most, v<n (goal.at.bounds-lifted-v c).After-scanned-v)
 
 pub offset_bounds-lifted-d-then-eq : goal.offset_bounds-lifted-d-then-eq
-offset_bounds-lifted-d-then-eq c = let f = four (goal.at.offset_bounds-lifted-d-then-eq c).At-loop-i in omega (arith, c.requires.most, f.d<n)
+offset_bounds-lifted-d-then-eq c = let f = four (goal.at.offset_bounds-lifted-d-then-eq c).At-loop-i in omega (arith, c.args.rim.now.valid.most, f.d<n)
 
 pub bounds-lifted-d-then-eq : goal.bounds-lifted-d-then-eq
-bounds-lifted-d-then-eq c = let f = four (goal.at.bounds-lifted-d-then-eq c).At-loop-i in omega (arith, c.requires.most, f.d<n)
+bounds-lifted-d-then-eq c = let f = four (goal.at.bounds-lifted-d-then-eq c).At-loop-i in omega (arith, c.args.rim.now.valid.most, f.d<n)
 
 pub offset_bounds-lifted-v-then-eq : goal.offset_bounds-lifted-v-then-eq
-offset_bounds-lifted-v-then-eq c = let w = (goal.at.offset_bounds-lifted-v-then-eq c).After-scanned-v in omega (arith, c.requires.most, v<n w)
+offset_bounds-lifted-v-then-eq c = let w = (goal.at.offset_bounds-lifted-v-then-eq c).After-scanned-v in omega (arith, c.args.rim.now.valid.most, v<n w)
 
 pub bounds-lifted-v-then-eq : goal.bounds-lifted-v-then-eq
-bounds-lifted-v-then-eq c = let w = (goal.at.bounds-lifted-v-then-eq c).After-scanned-v in omega (arith, c.requires.most, v<n w)
+bounds-lifted-v-then-eq c = let w = (goal.at.bounds-lifted-v-then-eq c).After-scanned-v in omega (arith, c.args.rim.now.valid.most, v<n w)
 
 pub listed-then-eq-2 : goal.listed-then-eq-2
 listed-then-eq-2 c =
-    omega (arith, c.requires.most, c.lift_vertices-lifted.ensures.long, v<n (goal.at.listed-then-eq-2 c).After-scanned-v)
+    omega (arith, c.args.rim.now.valid.most, c.lift_vertices-lifted.ensures.long, v<n (goal.at.listed-then-eq-2 c).After-scanned-v)
 
 pub overflow_step-c-then-separates : goal.overflow_step-c-then-separates
-overflow_step-c-then-separates c = let f = four (goal.at.overflow_step-c-then-separates c).At-loop-i in omega (arith, c.requires.most, f.three.c<n)
+overflow_step-c-then-separates c = let f = four (goal.at.overflow_step-c-then-separates c).At-loop-i in omega (arith, c.args.rim.now.valid.most, f.three.c<n)
 
 pub three-smaller-then-separates : goal.three-smaller-then-separates
 three-smaller-then-separates c = let l = (goal.at.three-smaller-then-separates c).At-loop-i in
@@ -300,9 +301,9 @@ three-preserved-then-separates c =
     let lifts = c.lift_vertices-lifted.ensures in
     let lifted = c.lift_vertices-lifted.result in
     let pencil = c.pencil_through-pencil.result in
-    let parted = read (λ (u : Lifted). separates_by pencil (get_or lifted c.four.d unlifted) u) c.requires lifts c.scanned-v.result (v<n w)
+    let parted = read (λ (u : Lifted). separates_by pencil (get_or lifted c.four.d unlifted) u) c.args.rim.now.valid lifts c.scanned-v.result (v<n w)
     c.index-lifted-v-then-eq.result
-    (read (λ (s : Lifted). separates_by pencil s (get_or lifted c.scanned-v.result c.index-lifted-v-then-eq.result)) c.requires lifts c.four.d f.d<n
+    (read (λ (s : Lifted). separates_by pencil s (get_or lifted c.scanned-v.result c.index-lifted-v-then-eq.result)) c.args.rim.now.valid lifts c.four.d f.d<n
     c.index-lifted-d-then-eq.result c.separates.ensures) in (
       record { last<n = v<n w; apex<n = f.d<n },
       kept_then (entered (goal.at.three-preserved-then-separates c).In-three)
@@ -311,7 +312,7 @@ three-preserved-then-separates c =
     )
 
 pub overflow_step-d-then-eq : goal.overflow_step-d-then-eq
-overflow_step-d-then-eq c = let f = four (goal.at.overflow_step-d-then-eq c).At-loop-i in omega (arith, c.requires.most, f.d<n)
+overflow_step-d-then-eq c = let f = four (goal.at.overflow_step-d-then-eq c).At-loop-i in omega (arith, c.args.rim.now.valid.most, f.d<n)
 
 pub four-smaller-then-eq : goal.four-smaller-then-eq
 four-smaller-then-eq c = let l = (goal.at.four-smaller-then-eq c).At-loop-i in omega (arith, d<n (goal.at.four-smaller-then-eq c).In-four)
@@ -327,7 +328,7 @@ four-preserved-then-eq c =
     )
 
 pub overflow_step-i : goal.overflow_step-i
-overflow_step-i c = let w = (goal.at.overflow_step-i c).After-scanned-v in omega (arith, c.requires.most, w.loop-i-test.true)
+overflow_step-i c = let w = (goal.at.overflow_step-i c).After-scanned-v in omega (arith, c.args.rim.now.valid.most, w.loop-i-test.true)
 
 pub loop-i-smaller : goal.loop-i-smaller
 loop-i-smaller c = omega (arith, c.loop-i-test.true)
@@ -350,8 +351,8 @@ pub returns-then-is_fifth : goal.returns-then-is_fifth
 returns-then-is_fifth c =
     let l = (goal.at.returns-then-is_fifth c).At-loop-i in
     let g = (goal.at.returns-then-is_fifth c).In-three in
-    let P = has_fifth c.args.p in
-    twelve_due c.args.p
+    let P = has_fifth c.args.rim.now.polygon in
+    twelve_due c.args.rim.now.polygon
     (sym g.loop-a.invariant.1.twelve ∙ into2 _ P _ (a<n g)
     ∙ sym g.loop-b.invariant.1.twelve ∙ into3 _ P _ _ (b<n g)
     ∙ sym (entered g).twelve
@@ -359,7 +360,7 @@ returns-then-is_fifth c =
     (seen_place (goal.at.returns-then-is_fifth c).After-locate-in-loop-v) c.is_fifth.ensures c.if-is_fifth.true) c.clear.ensures
 
 pub overflow_step-v : goal.overflow_step-v
-overflow_step-v c = omega (arith, c.requires.most, c.loop-v-test.true)
+overflow_step-v c = omega (arith, c.args.rim.now.valid.most, c.loop-v-test.true)
 
 pub loop-v-smaller : goal.loop-v-smaller
 loop-v-smaller c = omega (arith, c.loop-v-test.true)
@@ -375,11 +376,11 @@ loop-v-preserved c =
 pub insert_faces-requires : goal.insert_faces-requires
 insert_faces-requires c =
     let f = four (goal.at.insert_faces-requires c).At-loop-i in
-    let m = c.requires.most in
+    let m = c.args.rim.now.valid.most in
     (omega (arith, m, f.three.a<n), omega (arith, m, f.three.b<n), omega (arith, m, f.three.c<n), omega (arith, m, f.d<n))
 
 pub overflow_step-d-in-four : goal.overflow_step-d-in-four
-overflow_step-d-in-four c = let f = four (goal.at.overflow_step-d-in-four c).At-loop-i in omega (arith, c.requires.most, f.d<n)
+overflow_step-d-in-four c = let f = four (goal.at.overflow_step-d-in-four c).At-loop-i in omega (arith, c.args.rim.now.valid.most, f.d<n)
 
 pub four-smaller : goal.four-smaller
 four-smaller c = let l = (goal.at.four-smaller c).At-loop-i in omega (arith, d<n (goal.at.four-smaller c).In-four)
@@ -387,7 +388,7 @@ four-smaller c = let l = (goal.at.four-smaller c).At-loop-i in omega (arith, d<n
 pub four-preserved : goal.four-preserved
 four-preserved c =
     let l = (goal.at.four-preserved c).At-loop-i in
-    let seen = seen_long c.requires c.lift_vertices-lifted.ensures in (
+    let seen = seen_long c.args.rim.now.valid c.lift_vertices-lifted.ensures in (
       refl,
       l.loop-i.invariant.known,
       four_marked (four l) (full l c.loop-i-test.false) _ (omega (arith, seen, c.loop-v-test.false)) c.loop-v.invariant.passed
@@ -396,7 +397,7 @@ four-preserved c =
     )
 
 pub overflow_step-c-in-three : goal.overflow_step-c-in-three
-overflow_step-c-in-three c = let g = (goal.at.overflow_step-c-in-three c).In-three in omega (arith, c.requires.most, c<n g)
+overflow_step-c-in-three c = let g = (goal.at.overflow_step-c-in-three c).In-three in omega (arith, c.args.rim.now.valid.most, c<n g)
 
 pub three-smaller : goal.three-smaller
 three-smaller c = let g = (goal.at.three-smaller c).In-three in omega (arith, c<n g)
@@ -423,4 +424,4 @@ loop-a-preserved c = (
 )
 
 pub returns : goal.returns
-returns c = all_marked c.args.p _ (omega (arith, c.loop-a-test.false)) c.loop-a.invariant.1
+returns c = all_marked c.args.rim.now.polygon _ (omega (arith, c.loop-a-test.false)) c.loop-a.invariant.1

@@ -33,26 +33,26 @@ use Rattle.delaunay_triangles.proofs.mark_triangles.Goals as goal
 
 -- at three corners
 module _ (g : goal.In-three) where
-  a<n : g.loop-a.a < g.args.p.n
+  a<n : g.loop-a.a < g.args.rim.now.polygon.n
   a<n = omega (arith, g.loop-a-test.true)
 
-  b<n : g.loop-b.b < g.args.p.n
+  b<n : g.loop-b.b < g.args.rim.now.polygon.n
   b<n = omega (arith, g.loop-b-test.true)
 
 -- with their circle
 module _ (k : goal.After-circle_through-circle) where
-  triangle : Triangle k.args.p k.loop-a.a k.loop-b.b k.three.c k.lift_vertices-lifted.result k.circle_through-circle.result k.loop-b.set k.three.set
-      (λ P. left3 k.args.p.n P k.loop-a.a k.loop-b.b (k.loop-b.b + 1))
+  triangle : Triangle k.args.rim.now.polygon k.loop-a.a k.loop-b.b k.three.c k.lift_vertices-lifted.result k.circle_through-circle.result
+      k.loop-b.set k.three.set (λ P. left3 k.args.rim.now.polygon.n P k.loop-a.a k.loop-b.b (k.loop-b.b + 1))
   triangle = record {
-    valid = k.requires.0;
-    flat = k.requires.1;
+    valid = k.args.rim.now.valid;
+    flat = k.requires;
     a<n = omega (arith, k.loop-a-test.true);
     b<n = omega (arith, k.loop-b-test.true);
     c<n = k.three-test.true;
     lifts = k.lift_vertices-lifted.ensures;
-    through = read (circle_of (get_or k.lift_vertices-lifted.result k.loop-b.b unlifted)) k.requires.0 k.lift_vertices-lifted.ensures
+    through = read (circle_of (get_or k.lift_vertices-lifted.result k.loop-b.b unlifted)) k.args.rim.now.valid k.lift_vertices-lifted.ensures
         k.three.c k.three-test.true k.index-lifted-c.result
-        (read (λ (u : Lifted). circle_of u (get_or k.lift_vertices-lifted.result k.three.c k.index-lifted-c.result)) k.requires.0
+        (read (λ (u : Lifted). circle_of u (get_or k.lift_vertices-lifted.result k.three.c k.index-lifted-c.result)) k.args.rim.now.valid
         k.lift_vertices-lifted.ensures k.loop-b.b (omega (arith, k.loop-b-test.true)) k.index-lifted-b.result k.circle_through-circle.ensures);
     kept = k.three.invariant.1;
   }
@@ -63,89 +63,90 @@ seen_orient e = sym (λ i. equal (e i).orient (pos 0))
 
 -- in the scan: they are not on one line
 module _ (l : goal.At-loop-i) where
-  three : Triangle l.args.p l.loop-a.a l.loop-b.b l.three.c l.lift_vertices-lifted.result l.circle_through-circle.result l.loop-b.set l.three.set
-      (λ P. left3 l.args.p.n P l.loop-a.a l.loop-b.b (l.loop-b.b + 1))
+  three : Triangle l.args.rim.now.polygon l.loop-a.a l.loop-b.b l.three.c l.lift_vertices-lifted.result l.circle_through-circle.result l.loop-b.set l.three.set
+      (λ P. left3 l.args.rim.now.polygon.n P l.loop-a.a l.loop-b.b (l.loop-b.b + 1))
   three = record {
-    valid = l.requires.0;
-    flat = l.requires.1;
+    valid = l.args.rim.now.valid;
+    flat = l.requires;
     a<n = omega (arith, l.loop-a-test.true);
     b<n = omega (arith, l.loop-b-test.true);
     c<n = l.three-test.true;
     lifts = l.lift_vertices-lifted.ensures;
-    through = read (circle_of (get_or l.lift_vertices-lifted.result l.loop-b.b unlifted)) l.requires.0 l.lift_vertices-lifted.ensures
+    through = read (circle_of (get_or l.lift_vertices-lifted.result l.loop-b.b unlifted)) l.args.rim.now.valid l.lift_vertices-lifted.ensures
         l.three.c l.three-test.true l.index-lifted-c.result
-        (read (λ (u : Lifted). circle_of u (get_or l.lift_vertices-lifted.result l.three.c l.index-lifted-c.result)) l.requires.0
+        (read (λ (u : Lifted). circle_of u (get_or l.lift_vertices-lifted.result l.three.c l.index-lifted-c.result)) l.args.rim.now.valid
         l.lift_vertices-lifted.ensures l.loop-b.b (omega (arith, l.loop-b-test.true)) l.index-lifted-b.result l.circle_through-circle.ensures);
     kept = l.three.invariant.1;
   }
 
-  proper : collinear (vertex l.args.p l.loop-a.a) (vertex l.args.p l.loop-b.b) (vertex l.args.p l.three.c) ≡ false
+  proper : collinear (vertex l.args.rim.now.polygon l.loop-a.a) (vertex l.args.rim.now.polygon l.loop-b.b) (vertex l.args.rim.now.polygon l.three.c) ≡ false
   proper = sym (line_is three) ∙ seen_orient l.circle.view_is ∙ other_bits l.circle.inside.orient l.if-circle-eq0.false
 
   -- no vertex is inside
-  full : l.args.p.n + 1 ≤ l.loop-i.i → counts_in_plane l.args.p l.loop-a.a l.loop-b.b l.three.c ≡ true
+  full : l.args.rim.now.polygon.n + 1 ≤ l.loop-i.i → counts_in_plane l.args.rim.now.polygon l.loop-a.a l.loop-b.b l.three.c ≡ true
   full h = three_counts three proper (l.loop-i.i - 1) (omega (arith, h)) l.loop-i.invariant.scanned
 
 -- at the vertex of a turn
-v<n : (w : goal.After-scanned-v) → w.scanned-v.result < w.args.p.n
+v<n : (w : goal.After-scanned-v) → w.scanned-v.result < w.args.rim.now.polygon.n
 v<n w = scanned_in _ w.loop-i.last w.loop-i.i _ w.loop-i.invariant.last<n w.loop-i-test.true w.scanned-v.ensures
 
 -- at a vertex of the last loop
-w<n : (w : goal.In-loop-w) → w.loop-w.w < w.args.p.n
-w<n w = omega (arith, seen_long w.requires.0 w.lift_vertices-lifted.ensures, w.loop-w-test.true)
+w<n : (w : goal.In-loop-w) → w.loop-w.w < w.args.rim.now.polygon.n
+w<n w = omega (arith, seen_long w.args.rim.now.valid w.lift_vertices-lifted.ensures, w.loop-w-test.true)
 
 seen_place : (k : goal.After-locate-in-loop-w) →
     k.locate-in-loop-w.result ≡ position_by k.circle_through-circle.result (get_or k.lift_vertices-lifted.result k.loop-w.w unlifted)
 seen_place k =
-    let h : k.loop-w.w < k.args.p.n = omega (arith, seen_long k.requires.0 k.lift_vertices-lifted.ensures, k.loop-w-test.true) in
+    let h : k.loop-w.w < k.args.rim.now.polygon.n = omega (arith, seen_long k.args.rim.now.valid k.lift_vertices-lifted.ensures, k.loop-w-test.true) in
     k.locate-in-loop-w.ensures ∙ ap (λ (s : Lifted). position_by k.circle_through-circle.result s)
-    (seen_read k.requires.0 k.lift_vertices-lifted.ensures k.loop-w.w h k.seen-item.result k.seen-item.is)
+    (seen_read k.args.rim.now.valid k.lift_vertices-lifted.ensures k.loop-w.w h k.seen-item.result k.seen-item.is)
 
 -- where the vertex of a turn lies
 place_at : (w : goal.After-locate) →
     w.locate.result ≡ position_by w.circle_through-circle.result (get_or w.lift_vertices-lifted.result w.scanned-v.result unlifted)
 place_at w =
     let h = scanned_in _ w.loop-i.last w.loop-i.i w.scanned-v.result w.loop-i.invariant.last<n w.loop-i-test.true w.scanned-v.ensures in
-    read (position_by w.circle_through-circle.result) w.requires.0 w.lift_vertices-lifted.ensures w.scanned-v.result h w.index-lifted-v.result w.locate.ensures
+    read (position_by w.circle_through-circle.result) w.args.rim.now.valid w.lift_vertices-lifted.ensures w.scanned-v.result h w.index-lifted-v.result
+    w.locate.ensures
 
 pub overflow_sub-a-end : goal.overflow_sub-a-end
-overflow_sub-a-end c = omega (arith, c.requires.0.least)
+overflow_sub-a-end c = omega (arith, c.args.rim.now.valid.least)
 
 pub loop-a-init : goal.loop-a-init
-loop-a-init c = (omega (arith, c.requires.0.least), kept_start)
+loop-a-init c = (omega (arith, c.args.rim.now.valid.least), kept_start)
 
 pub lift_vertices-lifted-requires : goal.lift_vertices-lifted-requires
-lift_vertices-lifted-requires c = (c.requires.0, omega (arith, c.loop-a-test.true))
+lift_vertices-lifted-requires c = omega (arith, c.loop-a-test.true)
 
 pub overflow_step-b : goal.overflow_step-b
-overflow_step-b c = omega (arith, c.requires.0.most, c.loop-a-test.true)
+overflow_step-b c = omega (arith, c.args.rim.now.valid.most, c.loop-a-test.true)
 
 pub overflow_sub-b-end : goal.overflow_sub-b-end
-overflow_sub-b-end c = omega (arith, c.requires.0.least)
+overflow_sub-b-end c = omega (arith, c.args.rim.now.valid.least)
 
 pub loop-b-init : goal.loop-b-init
 loop-b-init c = (c.loop-a.invariant.0, kept_start)
 
 pub overflow_step-c : goal.overflow_step-c
-overflow_step-c c = omega (arith, c.requires.0.most, c.loop-b-test.true)
+overflow_step-c c = omega (arith, c.args.rim.now.valid.most, c.loop-b-test.true)
 
 pub three-init : goal.three-init
 three-init c = (c.loop-b.invariant.0, kept_start)
 
 pub offset_bounds-lifted-b : goal.offset_bounds-lifted-b
-offset_bounds-lifted-b c = omega (arith, c.requires.0.most, b<n (goal.at.offset_bounds-lifted-b c).In-three)
+offset_bounds-lifted-b c = omega (arith, c.args.rim.now.valid.most, b<n (goal.at.offset_bounds-lifted-b c).In-three)
 
 pub bounds-lifted-b : goal.bounds-lifted-b
-bounds-lifted-b c = omega (arith, c.requires.0.most, b<n (goal.at.bounds-lifted-b c).In-three)
+bounds-lifted-b c = omega (arith, c.args.rim.now.valid.most, b<n (goal.at.bounds-lifted-b c).In-three)
 
 pub offset_bounds-lifted-c : goal.offset_bounds-lifted-c
-offset_bounds-lifted-c c = omega (arith, c.requires.0.most, c.three-test.true)
+offset_bounds-lifted-c c = omega (arith, c.args.rim.now.valid.most, c.three-test.true)
 
 pub bounds-lifted-c : goal.bounds-lifted-c
-bounds-lifted-c c = omega (arith, c.requires.0.most, c.three-test.true)
+bounds-lifted-c c = omega (arith, c.args.rim.now.valid.most, c.three-test.true)
 
 pub overflow_step-c-then-circle-eq0 : goal.overflow_step-c-then-circle-eq0
-overflow_step-c-then-circle-eq0 c = omega (arith, c.requires.0.most, c.three-test.true)
+overflow_step-c-then-circle-eq0 c = omega (arith, c.args.rim.now.valid.most, c.three-test.true)
 
 pub three-smaller-then-circle-eq0 : goal.three-smaller-then-circle-eq0
 three-smaller-then-circle-eq0 c = omega (arith, c.three-test.true)
@@ -160,16 +161,16 @@ three-preserved-then-circle-eq0 c =
     )
 
 pub overflow_add-i-end : goal.overflow_add-i-end
-overflow_add-i-end c = omega (arith, c.requires.0.most, c.three-test.true)
+overflow_add-i-end c = omega (arith, c.args.rim.now.valid.most, c.three-test.true)
 
 pub loop-i-init : goal.loop-i-init
 loop-i-init c = record { same_c = refl; ahead = omega arith; last<n = c.three.invariant.0; scanned = refl }
 
 pub offset_bounds-lifted-v : goal.offset_bounds-lifted-v
-offset_bounds-lifted-v c = omega (arith, c.requires.0.most, v<n (goal.at.offset_bounds-lifted-v c).After-scanned-v)
+offset_bounds-lifted-v c = omega (arith, c.args.rim.now.valid.most, v<n (goal.at.offset_bounds-lifted-v c).After-scanned-v)
 
 pub bounds-lifted-v : goal.bounds-lifted-v
-bounds-lifted-v c = omega (arith, c.requires.0.most, v<n (goal.at.bounds-lifted-v c).After-scanned-v)
+bounds-lifted-v c = omega (arith, c.args.rim.now.valid.most, v<n (goal.at.bounds-lifted-v c).After-scanned-v)
 
 pub three-preserved-then-eq : goal.three-preserved-then-eq
 three-preserved-then-eq c =
@@ -181,7 +182,7 @@ three-preserved-then-eq c =
     )
 
 pub overflow_step-i : goal.overflow_step-i
-overflow_step-i c = let w = (goal.at.overflow_step-i c).After-scanned-v in omega (arith, c.requires.0.most, c.three-test.true, w.loop-i-test.true)
+overflow_step-i c = let w = (goal.at.overflow_step-i c).After-scanned-v in omega (arith, c.args.rim.now.valid.most, c.three-test.true, w.loop-i-test.true)
 
 pub loop-i-smaller : goal.loop-i-smaller
 loop-i-smaller c = let w = (goal.at.loop-i-smaller c).After-scanned-v in omega (arith, c.three-test.true, w.loop-i-test.true)
@@ -204,15 +205,15 @@ returns-then-is_fourth c =
     let l = (goal.at.returns-then-is_fourth c).At-loop-i in
     let g = (goal.at.returns-then-is_fourth c).In-three in
     let k = (goal.at.returns-then-is_fourth c).After-locate-in-loop-w in
-    let P = has_fourth c.args.p in
-    twelve_due c.args.p
+    let P = has_fourth c.args.rim.now.polygon in
+    twelve_due c.args.rim.now.polygon
     (sym g.loop-a.invariant.1.twelve ∙ into2 _ P _ (a<n g)
     ∙ sym g.loop-b.invariant.1.twelve ∙ into3 _ P _ _ (b<n g)
     ∙ three_cocircular (three l) (proper l) (full l c.loop-i-test.false) _ (w<n (goal.at.returns-then-is_fourth c).In-loop-w)
     (seen_place k) c.is_fourth.ensures c.if-is_fourth.true) c.clear.ensures
 
 pub overflow_step-w : goal.overflow_step-w
-overflow_step-w c = omega (arith, c.requires.0.most, c.loop-w-test.true)
+overflow_step-w c = omega (arith, c.args.rim.now.valid.most, c.loop-w-test.true)
 
 pub loop-w-smaller : goal.loop-w-smaller
 loop-w-smaller c = omega (arith, c.loop-w-test.true)
@@ -228,11 +229,11 @@ loop-w-preserved c =
 pub insert-requires : goal.insert-requires
 insert-requires c =
     let t = three (goal.at.insert-requires c).At-loop-i in
-    let m = c.requires.0.most in
+    let m = c.args.rim.now.valid.most in
     (omega (arith, m, t.a<n), omega (arith, m, t.b<n), omega (arith, m, t.c<n))
 
 pub overflow_step-c-in-three : goal.overflow_step-c-in-three
-overflow_step-c-in-three c = let t = three (goal.at.overflow_step-c-in-three c).At-loop-i in omega (arith, c.requires.0.most, t.c<n)
+overflow_step-c-in-three c = let t = three (goal.at.overflow_step-c-in-three c).At-loop-i in omega (arith, c.args.rim.now.valid.most, t.c<n)
 
 pub three-smaller : goal.three-smaller
 three-smaller c = omega (arith, c.three-test.true)
@@ -240,7 +241,7 @@ three-smaller c = omega (arith, c.three-test.true)
 pub three-preserved : goal.three-preserved
 three-preserved c =
     let l = (goal.at.three-preserved c).At-loop-i in
-    let seen = seen_long c.requires.0 c.lift_vertices-lifted.ensures in (
+    let seen = seen_long c.args.rim.now.valid c.lift_vertices-lifted.ensures in (
       l.loop-i.invariant.last<n,
       three_marked (three l) (proper l) (full l c.loop-i-test.false) _ (omega (arith, seen, c.loop-w-test.false)) c.loop-w.invariant.passed
           (subst (λ (s : List ℕ). Joined s (same_triple c.loop-a.a c.loop-b.b c.three.c) c.insert.new.self)
@@ -264,4 +265,4 @@ loop-a-preserved c = (
 )
 
 pub returns : goal.returns
-returns c = all_marked c.args.p _ (omega (arith, c.loop-a-test.false)) c.loop-a.invariant.1
+returns c = all_marked c.args.rim.now.polygon _ (omega (arith, c.loop-a-test.false)) c.loop-a.invariant.1

@@ -3,4 +3,4 @@ use Prim.Native.Nat.{◌-◌}
 use Rattle.finder.proofs.count_places.Goals as goal
 
 pub returns : goal.returns
-returns c = λ i. record { triangles = c.args.n - 2; candidates = c.count-candidates.ensures i; rows = c.count_rows-pairs.ensures i }
+returns c = λ i. record { triangles = c.args.rim.now.polygon.n - 2; candidates = c.count-candidates.ensures i; rows = c.count_rows-pairs.ensures i }

@@ -49,62 +49,64 @@ module _ (polygon : Polygon) (masks : List ℕ) {candidates rows out : List (Lis
 
 pub slice_bounds-found-end-2 : goal.slice_bounds-found-end-2
 slice_bounds-found-end-2 c = c.list-count.ensures.0
-    ∙ sym (ap length (found_are c.args.p c.args.set.now c.requires.0 c.requires.1 c.list-count.ensures.0 c.list-count.ensures.1))
+    ∙ sym (ap length (found_are c.args.rim.now.polygon c.args.set.now c.requires.0 c.requires.1 c.list-count.ensures.0 c.list-count.ensures.1))
 
 pub block_starts-starts-requires : goal.block_starts-starts-requires
-block_starts-starts-requires c = (proper c.args.p c.args.set.now c.requires.0 c.requires.1 c.list-count.ensures.0 c.list-count.ensures.1).sorted.by_first
+block_starts-starts-requires c =
+    (proper c.args.rim.now.polygon c.args.set.now c.requires.0 c.requires.1 c.list-count.ensures.0 c.list-count.ensures.1).sorted.by_first
 
 pub write_lengths-requires : goal.write_lengths-requires
 write_lengths-requires c = (
-  proper c.args.p c.args.set.now c.requires.0 c.requires.1 c.list-count.ensures.0 c.list-count.ensures.1,
+  proper c.args.rim.now.polygon c.args.set.now c.requires.0 c.requires.1 c.list-count.ensures.0 c.list-count.ensures.1,
   omega
-      (arith, ap length (found_are c.args.p c.args.set.now c.requires.0 c.requires.1 c.list-count.ensures.0 c.list-count.ensures.1), c.requires.1.for_weights),
+      (arith, ap length (found_are c.args.rim.now.polygon c.args.set.now c.requires.0 c.requires.1 c.list-count.ensures.0 c.list-count.ensures.1),
+      c.requires.1.for_weights),
 )
 
 pub slice_bounds-write_rows-end-2 : goal.slice_bounds-write_rows-end-2
 slice_bounds-write_rows-end-2 c = sym (length-take-le c.list-count.result c.write_lengths.new.out
-    (room c.args.p c.args.set.now c.requires.0 c.requires.1 c.list-count.ensures.0 c.list-count.ensures.1 c.write_lengths.ensures))
+    (room c.args.rim.now.polygon c.args.set.now c.requires.0 c.requires.1 c.list-count.ensures.0 c.list-count.ensures.1 c.write_lengths.ensures))
 
 pub write_rows-requires : goal.write_rows-requires
 write_rows-requires c =
-    let v = proper c.args.p c.args.set.now c.requires.0 c.requires.1 c.list-count.ensures.0 c.list-count.ensures.1 in (
+    let v = proper c.args.rim.now.polygon c.args.set.now c.requires.0 c.requires.1 c.list-count.ensures.0 c.list-count.ensures.1 in (
       v,
       starts_of_lem (take c.list-count.result c.list-count.new.out) v.sorted.by_first c.block_starts-starts.ensures,
-      lengths_are c.args.p c.args.set.now c.requires.0 c.requires.1 c.list-count.ensures.0 c.list-count.ensures.1 c.write_lengths.ensures,
+      lengths_are c.args.rim.now.polygon c.args.set.now c.requires.0 c.requires.1 c.list-count.ensures.0 c.list-count.ensures.1 c.write_lengths.ensures,
       omega (
         arith,
-        ap (λ (l : List (List ℕ)). length (rows_of c.args.p l))
-            (found_are c.args.p c.args.set.now c.requires.0 c.requires.1 c.list-count.ensures.0 c.list-count.ensures.1),
+        ap (λ (l : List (List ℕ)). length (rows_of c.args.rim.now.polygon l))
+            (found_are c.args.rim.now.polygon c.args.set.now c.requires.0 c.requires.1 c.list-count.ensures.0 c.list-count.ensures.1),
         c.requires.1.for_rows,
       ),
     )
 
 pub write_weights-requires : goal.write_weights-requires
 write_weights-requires c =
-    let same = sym (ap length (found_are c.args.p c.args.set.now c.requires.0 c.requires.1 c.list-count.ensures.0 c.list-count.ensures.1)) in (
-      proper c.args.p c.args.set.now c.requires.0 c.requires.1 c.list-count.ensures.0 c.list-count.ensures.1,
+    let same = sym (ap length (found_are c.args.rim.now.polygon c.args.set.now c.requires.0 c.requires.1 c.list-count.ensures.0 c.list-count.ensures.1)) in (
+      proper c.args.rim.now.polygon c.args.set.now c.requires.0 c.requires.1 c.list-count.ensures.0 c.list-count.ensures.1,
       omega (
         arith,
         c.list-count.ensures.0,
         same,
-        room c.args.p c.args.set.now c.requires.0 c.requires.1 c.list-count.ensures.0 c.list-count.ensures.1
+        room c.args.rim.now.polygon c.args.set.now c.requires.0 c.requires.1 c.list-count.ensures.0 c.list-count.ensures.1
             c.write_lengths.ensures,
       ),
       ap (λ (k : ℕ). take k c.write_lengths.new.out) (sym same ∙ sym c.list-count.ensures.0)
-          ∙ lengths_are c.args.p c.args.set.now c.requires.0 c.requires.1 c.list-count.ensures.0 c.list-count.ensures.1 c.write_lengths.ensures,
+          ∙ lengths_are c.args.rim.now.polygon c.args.set.now c.requires.0 c.requires.1 c.list-count.ensures.0 c.list-count.ensures.1 c.write_lengths.ensures,
     )
 
 pub returns : goal.returns
 returns c =
-    let p = c.args.p in
+    let p = c.args.rim.now.polygon in
     let triangles = faces_of p c.args.set.now in
-    let are = found_are c.args.p c.args.set.now c.requires.0 c.requires.1 c.list-count.ensures.0 c.list-count.ensures.1 in
+    let are = found_are c.args.rim.now.polygon c.args.set.now c.requires.0 c.requires.1 c.list-count.ensures.0 c.list-count.ensures.1 in
     record {
       the_candidates = c.list-count.ensures.1;
       the_weights =
           c.write_weights.ensures
           ∙ (λ i. filled (weights_of p (are i))
-          (made c.args.p c.args.set.now c.requires.0 c.requires.1 c.list-count.ensures.0 c.list-count.ensures.1 c.write_lengths.ensures i))
+          (made c.args.rim.now.polygon c.args.set.now c.requires.0 c.requires.1 c.list-count.ensures.0 c.list-count.ensures.1 c.write_lengths.ensures i))
           ∙ filled_over (weights_of p triangles) (lengths_of p triangles) c.args.weights.now
           (length-map triangles (own_weight p) ∙ sym (length-map triangles (λ t. length_of (face_normal p t))));
       the_rows = c.write_rows.ensures ∙ ap (λ (l : List (List ℕ)). filled (rows_of p l) c.args.rows.now) are;

@@ -41,14 +41,14 @@ next p list i w s below own written =
 pub own_weight-requires : goal.own_weight-requires
 own_weight-requires c =
     let s = c.requires.0 in (
-      s.valid,
       s.corners c.loop-i.i c.loop-i-test.true,
       face_measured s c.loop-i.i c.loop-i-test.true refl
-          (length_is c.args.p c.args.candidates.now c.args.weights.now c.loop-i.weights c.loop-i.i c.loop-i-test.true c.requires.2 c.loop-i.invariant.kept),
+          (length_is c.args.rim.now.polygon c.args.candidates.now c.args.weights.now c.loop-i.weights c.loop-i.i c.loop-i-test.true
+          c.requires.2 c.loop-i.invariant.kept),
     )
 
 pub loop-i-preserved : goal.loop-i-preserved
-loop-i-preserved c = push (next c.args.p c.args.candidates.now c.loop-i.i c.own_weight.result c.requires.0 c.loop-i-test.true
+loop-i-preserved c = push (next c.args.rim.now.polygon c.args.candidates.now c.loop-i.i c.own_weight.result c.requires.0 c.loop-i-test.true
     c.own_weight.ensures c.loop-i.invariant)
 
 pub returns : goal.returns
