@@ -61,6 +61,7 @@ pub fn best_in_block(
     requires { (length instance.now.job.candidates.now ≤ length work.now) × (i < max_vertices) }
     ensures { result ≡ pick_under instance.now.job.candidates.now work.now rows.now.rows.now t i j }
 {
+    // With `usize::from` four answers of this crate stayed open.
     let block = i as usize;
     let mut p = Pick { cost: NONE, at: 0 };
     // A loop over places: candidates, work and rows are asked by u, and the pick names it.

@@ -58,9 +58,11 @@ block_starts-starts-requires c =
 pub write_lengths-requires : goal.write_lengths-requires
 write_lengths-requires c = (
   proper c.args.rim.now.polygon c.args.set.now c.requires.0 c.requires.1 c.list-count.ensures.0 c.list-count.ensures.1,
-  omega
-      (arith, ap length (found_are c.args.rim.now.polygon c.args.set.now c.requires.0 c.requires.1 c.list-count.ensures.0 c.list-count.ensures.1),
-      c.requires.1.for_weights),
+  omega (
+    arith,
+    ap length (found_are c.args.rim.now.polygon c.args.set.now c.requires.0 c.requires.1 c.list-count.ensures.0 c.list-count.ensures.1),
+    c.requires.1.for_weights,
+  ),
 )
 
 pub slice_bounds-write_rows-end-2 : goal.slice_bounds-write_rows-end-2
