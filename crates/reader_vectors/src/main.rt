@@ -3,19 +3,18 @@
 // printed with the answer that came: a number, or ok.
 #![tactic(auto)]
 
+mod answers;
 mod cases;
-mod expected;
+mod compare;
 mod file;
+mod text;
 
 use programs::input;
-use std::{io, str};
-
-// Room for the text.
-const ROOM: usize = 24576;
+use std::io;
 
 fn main(rt: HostRuntime) -> io::Result<()> {
-    let mut buffer = [0u8; ROOM];
-    let length = input::read_full(&mut rt.stdin(), &mut buffer)?;
-    let text = str::from_utf8(&buffer[..length]).unwrap_or("");
-    cases::run(&rt, text)
+    let mut text = [0u8; text::ROOM];
+    input::read_full(&mut rt.stdin(), &mut text)?;
+    let mut file = [0u8; file::SPACE];
+    cases::run(&rt, &mut file, &text)
 }
