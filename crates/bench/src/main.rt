@@ -7,6 +7,7 @@ ghost use Rattle.pipeline.specs.Patching.{patch_file};
 ghost use Rattle.patch_program.specs.Run.{empty_tables};
 
 use codes::Refusal;
+use programs::input;
 use std::io;
 use triangulator::Patch;
 
@@ -18,5 +19,8 @@ fn close(rt: &impl Print, file: &[u8]) -> (Result<Option<Patch>, Refusal>, io::R
 }
 
 fn main(rt: HostRuntime) -> io::Result<()> {
-    patch_program::close_input(&mut rt.stdin(), |file| close(&rt, file))
+    let mut file = [0u8; input::BUFFER];
+    let length = input::read(&mut rt.stdin(), &mut file)?;
+    let (_, printed) = close(&rt, &file[..length]);
+    printed
 }

@@ -46,8 +46,8 @@ weights_sum f [] = refl
 weights_sum f (t ∷ l) = ap (λ (x : ℕ). (f t).weight + (f t).row + x) (weights_sum f l)
 
 -- where nothing is handed back
-empty : (file : List ℕ) (o : Outcome) (left : Tables) → part_of o left.triangles ≡ [] → total_of o ≡ 0 → ((count total : ℕ) → o ≡ Ok (Some (patch_with count total)) → ⊥) →
-    LinesHold file (patching o left)
+empty : (file : List ℕ) (o : Outcome) (left : Tables) → part_of o left.triangles ≡ [] → total_of o ≡ 0
+    → ((count total : ℕ) → o ≡ Ok (Some (patch_with count total)) → ⊥) → LinesHold file (patching o left)
 empty file o left e z n = record {
   line_count = length-map (part_of o left.triangles) (line_of left.candidates left.weights left.rows (part_of o left.triangles));
   corners = λ k h. absurd (none h);
@@ -77,7 +77,8 @@ module _ (file : List ℕ) (v : ValidPolygon (polygon_of file)) (lent : Tables) 
   left triangles work =
       tables triangles (filled (candidates_of p) lent.candidates) (filled (weights_in p) lent.weights) (filled (rows_in p) lent.rows) work
 
-  module _ (triangles work : List ℕ) (size total : ℕ) (many : size ≡ job.n - 2) (h : HandedBack job total (part_of (Ok (Some (patch_with size total))) triangles)) where
+  module _ (triangles work : List ℕ) (size total : ℕ) (many : size ≡ job.n - 2)
+      (h : HandedBack job total (part_of (Ok (Some (patch_with size total))) triangles)) where
     abbrev patch : List ℕ
     patch = part_of (Ok (Some (patch_with size total))) triangles
 

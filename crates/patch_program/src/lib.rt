@@ -94,15 +94,3 @@ pub fn run(
     let outcome = printout.outcome;
     (outcome, print!(rt; "{printout}"))
 }
-
-// The rim file on an input, handed to the call by which a program closes it; answers whether all could be read and written.
-pub fn close_input<R: Read, F>(reader: &mut R, close: F) -> io::Result<()>
-where
-    F: FnOnce(&[u8]) -> (Result<Option<Patch>, Refusal>, io::Result<()>),
-    requires { F.IsAlwaysCallable close }
-{
-    let mut file = [0u8; input::BUFFER];
-    let length = input::read(reader, &mut file)?;
-    let (_, printed) = close(&file[..length]);
-    printed
-}
