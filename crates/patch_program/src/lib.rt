@@ -9,9 +9,7 @@ ghost use Rattle.patch_program.specs.Printing.{printout_of};
 
 use codes::Refusal;
 use patch_lines::{Line, Listing, TRIANGLES};
-use programs::input;
 use rows::Rows;
-use std::io::Read;
 use std::{fmt, io};
 use triangulator::Patch;
 
