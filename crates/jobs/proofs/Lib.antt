@@ -7,3 +7,4 @@ pub mod Acceptance
 pub mod Calls
 pub mod Count
 pub mod Cases
+pub mod Neighbours

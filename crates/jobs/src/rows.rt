@@ -23,10 +23,11 @@ fn row_comes_before(r: &[u32; 3], s: &[u32; 3]) -> bool
     (r[0], r[1]) < (s[0], s[1])
 }
 
+// One pass, which ends at the first place that fails: each row after the first is tested beside the one before it.
 pub fn rows_fit(candidates: &[[u8; 3]], rows: &[[u32; 3]]) -> bool
     ensures { result ≡ rows_fit candidates.now rows.now }
 {
-    rows.iter()
-        .all(|row| names_pair(candidates, row[0], row[1]))
-        && rows.is_sorted_by(row_comes_before)
+    rows.first()
+        .is_none_or(|row| names_pair(candidates, row[0], row[1]))
+        && rows.is_sorted_by(|r, s| names_pair(candidates, s[0], s[1]) && row_comes_before(r, s))
 }

@@ -1,24 +1,21 @@
 -- `jobs::rows::rows_fit` meets its contract. Assumes nothing.
 use Rattle.std.proofs.Common.{ℕ, List, [], rules, tests}
-use Rattle.std.proofs.lemmas.Iterator.{YieldsList-from_slice}
-use Rattle.std.proofs.lemmas.Iterator.Search.{all_from_yields_List}
-use Rattle.std.proofs.lemmas.List.Sorted.{answers_always}
-use Rattle.lists.proofs.Elements.{every_then, every_else}
+use Rattle.std.proofs.lemmas.Fn.{always_returns_same}
+use Rattle.lists.specs.Lists.{both}
 use Rattle.terms.specs.Entries.{row_before, outer, inner}
 use Rattle.jobs.specs.Job.{names_pair, row_fits}
+use Rattle.jobs.proofs.Neighbours.{first_then, first_else}
 use Rattle.jobs.proofs.rows.rows_fit.Goals as goal
 
-pub returns-then-all : goal.returns-then-all
+pub returns-then-is_none_or : goal.returns-then-is_none_or
 unfolding row_fits
-returns-then-all c =
+returns-then-is_none_or c =
     let test = λ (r : List ℕ). names_pair c.args.candidates.now (outer r) (inner r) in
-    let each = all_from_yields_List test _ _ c.all.result c.all.ensures.ran (YieldsList-from_slice c.args.rows.now cc) (λ x b q k. search (rules, tests)) in
-    every_then test row_before [] c.args.rows.now each c.if-all.true
-    (c.is_sorted_by.ensures.cases row_before (answers_always _ _ _ (λ f a r h q. q.met)))
+    first_then test row_before [] c.args.rows.now (λ h. search (rules, tests))
+    (c.is_sorted_by.ensures.cases (λ r s. both (test s) (row_before r s)) (always_returns_same _ _ _ (λ a r f q. search (rules, tests))))
 
-pub returns-else-all : goal.returns-else-all
+pub returns-else-is_none_or : goal.returns-else-is_none_or
 unfolding row_fits
-returns-else-all c =
+returns-else-is_none_or c =
     let test = λ (r : List ℕ). names_pair c.args.candidates.now (outer r) (inner r) in
-    let each = all_from_yields_List test _ _ c.all.result c.all.ensures.ran (YieldsList-from_slice c.args.rows.now cc) (λ x b q k. search (rules, tests)) in
-    every_else test row_before [] c.args.rows.now each c.if-all.false
+    first_else test row_before [] c.args.rows.now c.if-is_none_or.false (search (rules, tests)) (search (rules, tests))
