@@ -1,5 +1,5 @@
 -- The finder's answer, test by test. Assumes nothing.
-use mathlib.Core.Path.{◌≡◌, refl, sym, ◌∙◌, ap}
+use mathlib.Core.Path.{◌≡◌, refl, sym, ◌∙◌, ap, subst}
 use mathlib.Core.Bool.{Bool, true, false, cond}
 use mathlib.Core.List.{List}
 use Prim.Native.Nat.{ℕ, zero, suc, ◌-◌, ◌≤◌, ◌<◌}
@@ -21,7 +21,7 @@ use Rattle.dihedrals.specs.Dihedrals.{rows_of}
 use Rattle.dihedrals.proofs.Rows.{row_count}
 use Rattle.faces.specs.Masks.{empty_set, pair_count, has}
 use Rattle.faces.proofs.Sets.{triples_bound, none_in}
-use Rattle.delaunay_search.specs.Search.{Marked}
+use Rattle.delaunay_search.specs.Search.{twelve_if, Marked}
 use Rattle.delaunay.proofs.Marking.{listed_are}
 use Rattle.lists.specs.Lists.{either}
 use Rattle.lists.proofs.Choice.{Truth, holds, fails, truth, yes, no, true_not_false, not_true_false, either_neither, not_false_true}
@@ -123,6 +123,15 @@ module _ (p : Polygon) where
   twelve_searched e m =
       let d = marked_due e m in
       record { is_due = handed_on (number_due false p) tt p d.is_due; listed = d.listed }
+
+  -- so a refusal of the search is 12
+  pub twelve_given : {r : Refusal} {masks : List ℕ} → code_of p ≡ 0 →
+      Marked (is_candidate p) (degenerate p) empty_set (Err r) masks → Searched p (Err (refusal 12)) masks
+  twelve_given {r} {masks} e m = subst (λ (x : Refusal). Searched p (Err x) masks) (by (degenerate p) m.searched.found) (twelve_searched e m)
+    where
+      by : (d : Bool) → Err r ≡ twelve_if d → r ≡ refusal 12
+      by true f = cc
+      by false f = absurd cc
 
   pub rim_searched : {rim : Rim} {u : Unit} {masks : List ℕ} → code_of p ≡ 0 → rim.polygon ≡ p →
       Marked (is_candidate p) (degenerate p) empty_set (Ok u) masks → Searched p (Ok rim) masks
