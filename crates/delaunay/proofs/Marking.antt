@@ -2,7 +2,7 @@
 use mathlib.Core.Path.{◌≡◌, sym, ◌∙◌, ap}
 use mathlib.Core.Bool.{Bool, true, false}
 use mathlib.Core.List.{List}
-use Prim.Native.Nat.{ℕ, ◌≤◌}
+use Prim.Native.Nat.{ℕ, ◌≤◌, ◌<◌}
 use native.Mathlib.Omega.{arith}
 use Rattle.terms.specs.Limits.{max_vertices}
 use Rattle.polygon.specs.declared.Polygon.{Polygon}
@@ -11,8 +11,8 @@ use Rattle.lists.proofs.Choice.{yes, no}
 use Rattle.faces.specs.Faces.{triples_of}
 use Rattle.std.proofs.Common.{Result}
 use Rattle.codes.specs.declared.Refusal.{Refusal}
-use Rattle.faces.specs.Masks.{has, pair_count, empty_set}
-use Rattle.faces.proofs.Sets.{none_in, triples_same}
+use Rattle.faces.specs.Masks.{has}
+use Rattle.faces.proofs.Sets.{triples_same}
 use Rattle.delaunay_search.specs.Search.{twelve_if, Marked}
 use Rattle.delaunay_tetrahedra.specs.Tetrahedra.{is_face_of_four, cospherical}
 use Rattle.delaunay_triangles.specs.Triangles.{is_counted_three, cocircular}
@@ -46,11 +46,12 @@ module _ (p : Polygon) {marks₀ marks : List ℕ} {answer : Result (Unit {0}) R
     empty = λ h. s.empty (sym d ∙ h);
   }
 
--- what was marked in an empty set lists the candidates
-pub listed_are : (p : Polygon) {marks : List ℕ} {answer : Result (Unit {0}) Refusal} → p.n ≤ max_vertices → degenerate p ≡ false →
-    Marked (is_candidate p) (degenerate p) empty_set answer marks → triples_of p.n (has marks) ≡ candidates_of p
-listed_are p {marks} h e m =
-    triples_same p.n (has marks) (is_candidate p)
-    (λ x y z hx hy hz. (m.searched.put e).at x y z (omega arith) (omega arith) (omega arith)
-    ∙ ap (λ (t : Bool). either t (is_candidate p x y z))
-    (none_in pair_count (omega arith) (record { first = omega arith; second = omega arith; third = omega arith })))
+module _ (p : Polygon) where
+  -- what was marked in an empty set lists the candidates
+  pub listed_are : {marks₀ marks : List ℕ} {answer : Result (Unit {0}) Refusal} → p.n ≤ max_vertices →
+      ((x y z : ℕ) → x < max_vertices → y < max_vertices → z < max_vertices → has marks₀ x y z ≡ false) → degenerate p ≡ false →
+      Marked (is_candidate p) (degenerate p) marks₀ answer marks → triples_of p.n (has marks) ≡ candidates_of p
+  listed_are {marks₀} {marks} h none e m =
+      triples_same p.n (has marks) (is_candidate p)
+      (λ x y z hx hy hz. (m.searched.put e).at x y z (omega arith) (omega arith) (omega arith)
+      ∙ ap (λ (t : Bool). either t (is_candidate p x y z)) (none x y z (omega arith) (omega arith) (omega arith)))

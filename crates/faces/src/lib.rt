@@ -10,7 +10,7 @@ ghost use Rattle.faces.specs.Masks.{pair_at, with_vertex, has_vertex, has, empty
 use std::marker::Model;
 
 // A mask for each pair of vertices.
-const PAIRS: usize = terms::MAX_VERTICES * terms::MAX_VERTICES;
+pub const PAIRS: usize = terms::MAX_VERTICES * terms::MAX_VERTICES;
 
 // No more candidates than triples of vertices.
 pub const TRIPLES: usize = terms::MAX_VERTICES

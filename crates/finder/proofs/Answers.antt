@@ -1,8 +1,8 @@
 -- The finder's answer, test by test. Assumes nothing.
-use mathlib.Core.Path.{◌≡◌, refl, sym, ◌∙◌, ap}
+use mathlib.Core.Path.{◌≡◌, refl, sym, ◌∙◌, ap, subst}
 use mathlib.Core.Bool.{Bool, true, false, cond}
 use mathlib.Core.List.{List}
-use Prim.Native.Nat.{ℕ, zero, suc, ◌-◌, ◌≤◌}
+use Prim.Native.Nat.{ℕ, zero, suc, ◌-◌, ◌≤◌, ◌<◌}
 use native.Mathlib.Omega.{arith}
 use borrow.Author.Tests.{eq-eqb, ne_eqb, le-ltb, eqb-true, ltb-false}
 use lib.Dec.{eqb}
@@ -11,7 +11,7 @@ use Rattle.codes.specs.declared.Refusal.{Refusal}
 use Rattle.std.specs.Prelude.{Result, Ok, Err}
 use Rattle.codes.specs.Refusals.{refusal, number_of, or_refused}
 use Rattle.codes.proofs.Refusals.{number_answered, none_answered, refused_answered, handed_on}
-use Rattle.terms.specs.Limits.{max_triples}
+use Rattle.terms.specs.Limits.{max_vertices, max_triples}
 use Rattle.polygon.specs.declared.Polygon.{Polygon}
 use Rattle.polygon.specs.declared.rim.Rim.{Rim}
 use Rattle.polygon.specs.Polygon.{code_of, ValidPolygon}
@@ -19,9 +19,9 @@ use Rattle.polygon.proofs.Validity.{code_valid}
 use Rattle.delaunay.specs.Candidates.{candidates_of, degenerate, is_candidate}
 use Rattle.dihedrals.specs.Dihedrals.{rows_of}
 use Rattle.dihedrals.proofs.Rows.{row_count}
-use Rattle.faces.specs.Masks.{empty_set}
-use Rattle.faces.proofs.Sets.{triples_bound}
-use Rattle.delaunay_search.specs.Search.{Marked}
+use Rattle.faces.specs.Masks.{empty_set, pair_count, has}
+use Rattle.faces.proofs.Sets.{triples_bound, none_in}
+use Rattle.delaunay_search.specs.Search.{twelve_if, Marked}
 use Rattle.delaunay.proofs.Marking.{listed_are}
 use Rattle.lists.specs.Lists.{either}
 use Rattle.lists.proofs.Choice.{Truth, holds, fails, truth, yes, no, true_not_false, not_true_false, either_neither, not_false_true}
@@ -38,6 +38,10 @@ neither {a} {b} p q = ap (λ x. either x b) p ∙ q
 first_fails : (a b : Bool) → either a b ≡ false → a ≡ false
 first_fails true b e = absurd (true_not_false refl e)
 first_fails false b e = refl
+
+-- no triple is in the empty set
+none_marked : (x y z : ℕ) → x < max_vertices → y < max_vertices → z < max_vertices → has empty_set x y z ≡ false
+none_marked x y z hx hy hz = none_in pair_count (omega arith) (record { first = hx; second = hy; third = hz })
 
 -- ---- the number due
 -- a number that is due, and else 13
@@ -110,7 +114,7 @@ module _ (p : Polygon) where
       let due : number_due false p ≡ cond (degenerate p) 12 0 = yes _ _ (eq-eqb (code_of p) 0 e) in
       record {
         is_due = m.searched.found ∙ ap (λ (k : ℕ). or_refused k tt) (sym due);
-        listed = λ z. listed_are p (code_valid p e).most (not_true_false (degenerate p)
+        listed = λ z. listed_are p (code_valid p e).most none_marked (not_true_false (degenerate p)
             (λ t. let y = ap (λ (b : Bool). cond b 12 0) (sym t) ∙ sym due ∙ z in absurd (omega (arith, y)))) m;
       }
 
@@ -119,6 +123,15 @@ module _ (p : Polygon) where
   twelve_searched e m =
       let d = marked_due e m in
       record { is_due = handed_on (number_due false p) tt p d.is_due; listed = d.listed }
+
+  -- so a refusal of the search is 12
+  pub twelve_given : {r : Refusal} {masks : List ℕ} → code_of p ≡ 0 →
+      Marked (is_candidate p) (degenerate p) empty_set (Err r) masks → Searched p (Err (refusal 12)) masks
+  twelve_given {r} {masks} e m = subst (λ (x : Refusal). Searched p (Err x) masks) (by (degenerate p) m.searched.found) (twelve_searched e m)
+    where
+      by : (d : Bool) → Err r ≡ twelve_if d → r ≡ refusal 12
+      by true f = cc
+      by false f = absurd cc
 
   pub rim_searched : {rim : Rim} {u : Unit} {masks : List ℕ} → code_of p ≡ 0 → rim.polygon ≡ p →
       Marked (is_candidate p) (degenerate p) empty_set (Ok u) masks → Searched p (Ok rim) masks

@@ -35,7 +35,9 @@ fn search(p: Polygon, set: &mut TriangleSet) -> Result<Rim, Refusal>
     ensures { Searched p result set.new }
 {
     let rim = Rim::new(p)?;
-    delaunay::mark_candidates(&rim, set)?;
+    let Ok(()) = delaunay::mark_candidates(&rim, set) else {
+        return Err(Refusal::COSPHERICAL);
+    };
     Ok(rim)
 }
 

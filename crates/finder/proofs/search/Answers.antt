@@ -13,7 +13,7 @@ use Rattle.polygon.specs.Polygon.{code_of}
 use Rattle.polygon.specs.Rim.{as_polygon}
 use Rattle.delaunay.specs.Candidates.{is_candidate, degenerate}
 use Rattle.delaunay_search.specs.Search.{Marked}
-use Rattle.finder.proofs.Answers.{code_due, twelve_searched, rim_searched}
+use Rattle.finder.proofs.Answers.{code_due, twelve_given, rim_searched}
 use Rattle.finder.proofs.search.Goals as goal
 
 -- what the search promises of the rim's polygon, of the one that was given and the empty set
@@ -29,14 +29,13 @@ returns-in_err-rim c =
     let due = refused_answered (code_of p) p (ap as_polygon (sym c.in_err-rim.was) ∙ c.new.ensures) in
     rw (e.1, e.2) (code_due p (code_of p) due.1 refl (λ z. omega (arith, z, due.0)))
 
-pub returns-in_err-mark_candidates : goal.returns-in_err-mark_candidates
-returns-in_err-mark_candidates c =
+pub returns-in_default : goal.returns-in_default
+returns-in_default c =
     let p = c.args.p in
     let known = none_answered (code_of p) c.in_ok-rim.ensures in
-    let e = err_from_is_err_and c.from_residual-in_err-mark_candidates.result c.from_residual-in_err-mark_candidates.ensures.1 in
-    rw (e.1, e.2) (twelve_searched p known.0 (of_given known.1 c.requires c.in_err-mark_candidates.was c.mark_candidates.ensures))
+    twelve_given p known.0 (of_given known.1 c.requires c.in_default.is c.mark_candidates.ensures)
 
 pub returns : goal.returns
 returns c =
     let known = none_answered (code_of c.args.p) c.in_ok-rim.ensures in
-    rim_searched c.args.p known.0 known.1 (of_given known.1 c.requires c.in_ok-mark_candidates.was c.mark_candidates.ensures)
+    rim_searched c.args.p known.0 known.1 (of_given known.1 c.requires c.in-Ok.is c.mark_candidates.ensures)
