@@ -15,7 +15,7 @@ use Rattle.std.proofs.lemmas.List.Sums.{prefix_len-le-length}
 use Rattle.lists.proofs.Points.{prefix_passes, prefix_count}
 use Rattle.terms.specs.Entries.{entry_at, vertex_a}
 use Rattle.blocks.specs.Blocks.{start_count, ByFirst, start_of, starts_of}
-use Rattle.blocks.proofs.Starts.{starts_are}
+use Rattle.blocks.proofs.Starts.{starts_by_place}
 
 module _ (cs : List (List ℕ)) where
   -- the starts of the blocks before that of k are placed, and the first `passed` candidates have a first vertex below k
@@ -50,4 +50,4 @@ module _ (cs : List (List ℕ)) where
         before q l = lt-ltb (vertex_a (entry_at cs q)) k (p.front q l)
 
   pub placed_all : {starts : List ℕ} {k passed : ℕ} → Placed starts k passed → start_count ≤ k → starts ≡ starts_of cs
-  placed_all p h = starts_are cs _ p.size (λ j l. p.at j (omega arith))
+  placed_all p h = starts_by_place cs _ p.size (λ j l. p.at j (omega arith))

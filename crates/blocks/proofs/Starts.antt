@@ -3,10 +3,10 @@ use mathlib.Core.Path.{◌≡◌, refl, sym, ap, ◌∙◌, subst}
 use mathlib.Core.List.{List}
 use Prim.Native.Nat.{ℕ, zero, suc, ◌+◌, ◌-◌, ◌≤◌, ◌<◌}
 use native.Mathlib.Omega.{arith}
-use borrow.Author.Tests.{ltb-true, ltb-false, lt-ltb}
+use borrow.Author.Tests.{ltb-true, ltb-false, lt-ltb, le-ltb}
 use lib.ListN.{length, get_or}
 use lib.Seq.{ext_get_or}
-use Rattle.lists.proofs.Fronts.{front_of}
+use Rattle.lists.proofs.Fronts.{front_count, front_of}
 use Rattle.lists.proofs.Ranges.{over_length, over_at}
 use Rattle.terms.specs.Limits.{max_vertices}
 use Rattle.terms.specs.Entries.{entry_at, vertex_a}
@@ -33,9 +33,22 @@ module _ (cs : List (List ℕ)) where
 
 -- a block starts after as many candidates as have a first vertex below its own
 module _ (cs : List (List ℕ)) where
-  pub starts_are : (starts : List ℕ) → length starts ≡ start_count → ((k : ℕ) → k < start_count → get_or starts k 0 ≡ start_of cs k) → starts ≡ starts_of cs
-  starts_are starts e at = ext_get_or 0 starts (starts_of cs) (e ∙ sym (over_length 0 start_count (start_of cs)))
+  pub start_count_lem : {k r : ℕ} → BlockStart cs k r → r ≡ start_of cs k
+  start_count_lem {k} b =
+      front_count (record {
+        within = b.within;
+        before = λ i h. lt-ltb (vertex_a (entry_at cs i)) k (b.below i h);
+        after = λ i l h. le-ltb (vertex_a (entry_at cs i)) k (b.above i l h);
+      })
+
+  -- a list with these numbers in its places is the list of all starts
+  pub starts_by_place : (starts : List ℕ) → length starts ≡ start_count → ((k : ℕ) → k < start_count → get_or starts k 0 ≡ start_of cs k)
+      → starts ≡ starts_of cs
+  starts_by_place starts e at = ext_get_or 0 starts (starts_of cs) (e ∙ sym (over_length 0 start_count (start_of cs)))
       (λ k h. at k (omega arith) ∙ sym (over_at 0 start_count (start_of cs) 0 k (omega arith) ∙ ap (start_of cs) (omega arith)))
+
+  pub starts_are : (starts : List ℕ) → length starts ≡ start_count → Starts cs starts → starts ≡ starts_of cs
+  starts_are starts e s = starts_by_place starts e (λ k h. start_count_lem (s.at k h))
 
   module _ (up : ByFirst cs) where
     pub start_of_lem : (k : ℕ) → BlockStart cs k (start_of cs k)

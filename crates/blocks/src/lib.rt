@@ -4,10 +4,18 @@
 ghost use Rattle.std.specs.Prelude.{◌≡◌, ◌≤◌, length, ltb};
 ghost use Rattle.std.specs.List.{prefix_len};
 ghost use Rattle.terms.specs.Entries.{vertex_a};
-ghost use Rattle.blocks.specs.Blocks.{ByFirst, starts_of};
+ghost use Rattle.blocks.specs.Blocks.{ByFirst, Starts, starts_of};
 
 // A start for each vertex, and the end of the last block.
 pub const STARTS: usize = terms::MAX_VERTICES + 1;
+
+// Candidates, and where the block of each first vertex starts.
+#[derive(Clone, Copy)]
+pub struct Blocked<'a> {
+    pub candidates: &'a [[u8; 3]],
+    pub starts: &'a [usize; STARTS],
+    pub ghost blocks: { Starts candidates.now starts.now },
+}
 
 // How many candidates from the first on have a first vertex below k.
 fn count_below(candidates: &[[u8; 3]], k: usize) -> usize

@@ -7,7 +7,7 @@ ghost use Rattle.triangulation.specs.Recursion.{no_total};
 ghost use Rattle.minimum_weight.specs.Tables.{better_of, pick_under, pick_at_edge};
 
 use crate::NONE;
-use crate::instance::Instance;
+use blocks::Blocked;
 use rows::Rows;
 
 // A total and the candidate that starts it. No candidate is the total NONE, as in the work table: one comparison then tells 'no part' and 'not lower'.
@@ -21,19 +21,18 @@ pub struct Pick {
 // total without it is.
 fn better(
     p: Pick,
-    instance: &Instance,
+    candidates: &[[u8; 3]],
     work: &[u64],
     rows: &Rows<'_>,
     t: usize,
     j: u8,
     u: usize,
 ) -> Pick
-    requires { (u < length instance.now.job.candidates.now) × (length instance.now.job.candidates.now ≤ length work.now)
-        × (p.cost ≤ no_total) }
+    requires { (u < length candidates.now) × (length candidates.now ≤ length work.now) × (p.cost ≤ no_total) }
     ensures { result
-        ≡ better_of p u (eqb (vertex_c (entry_at instance.now.job.candidates.now u)) j) (get_or work.now u 0) (pair_weight rows.now.rows.now t u) }
+        ≡ better_of p u (eqb (vertex_c (entry_at candidates.now u)) j) (get_or work.now u 0) (pair_weight rows.now.rows.now t u) }
 {
-    let triangle = instance.job.candidates[u];
+    let triangle = candidates[u];
     if triangle[2] != j {
         return p;
     }
@@ -51,40 +50,41 @@ fn better(
 
 // The best candidate (i, x, j) under t, the first of equal ones: all of them stand in the block of i.
 pub fn best_in_block(
-    instance: &Instance,
+    blocked: &Blocked<'_>,
     work: &[u64],
     rows: &Rows<'_>,
     t: usize,
     i: u8,
     j: u8,
 ) -> Pick
-    requires { (length instance.now.job.candidates.now ≤ length work.now) × (i < max_vertices) }
-    ensures { result ≡ pick_under instance.now.job.candidates.now work.now rows.now.rows.now t i j }
+    requires { (length blocked.now.candidates.now ≤ length work.now) × (i < max_vertices) }
+    ensures { result ≡ pick_under blocked.now.candidates.now work.now rows.now.rows.now t i j }
 {
     // With `usize::from` four answers of this crate stayed open.
     let block = i as usize;
+    let candidates = blocked.candidates;
     let mut p = Pick { cost: NONE, at: 0 };
     // A loop over places: candidates, work and rows are asked by u, and the pick names it.
-    for u in instance.starts[block]..instance.starts[block + 1] {
-        p = better(p, instance, work, rows, t, j, u);
+    for u in blocked.starts[block]..blocked.starts[block + 1] {
+        p = better(p, candidates, work, rows, t, j, u);
     }
     p
 }
 
 // The best beneath the edge (i, j) of t: nothing beneath a rim edge (i, i + 1).
 pub fn best_under(
-    instance: &Instance,
+    blocked: &Blocked<'_>,
     work: &[u64],
     rows: &Rows<'_>,
     t: usize,
     i: u8,
     j: u8,
 ) -> Pick
-    requires { (length instance.now.job.candidates.now ≤ length work.now) × (i < j) × (j < max_vertices) }
-    ensures { result ≡ pick_at_edge instance.now.job.candidates.now work.now rows.now.rows.now t i j }
+    requires { (length blocked.now.candidates.now ≤ length work.now) × (i < j) × (j < max_vertices) }
+    ensures { result ≡ pick_at_edge blocked.now.candidates.now work.now rows.now.rows.now t i j }
 {
     if j - i == 1 {
         return Pick { cost: 0, at: 0 };
     }
-    best_in_block(instance, work, rows, t, i, j)
+    best_in_block(blocked, work, rows, t, i, j)
 }

@@ -33,9 +33,10 @@ fn cost_of(instance: &Instance, run: &Rows<'_>, work: &[u64], t: usize) -> u64
     requires ready_beneath { ReadyBeneath (problem_at instance.now) work.now t }
     ensures { result ≡ cost_of (best_from (problem_at instance.now) instance.now.job.n t) }
 {
+    let blocked = instance.blocked();
     let [a, b, c] = instance.job.candidates[t];
-    let left = best_under(instance, work, run, t, a, b);
-    let right = best_under(instance, work, run, t, b, c);
+    let left = best_under(&blocked, work, run, t, a, b);
+    let right = best_under(&blocked, work, run, t, b, c);
     join_cost(instance.job.weights[t], left.cost, right.cost)
 }
 

@@ -3,6 +3,7 @@ ghost use Rattle.std.specs.Prelude.{◌≡◌};
 ghost use Rattle.blocks.specs.Blocks.{Starts};
 ghost use Rattle.minimum_weight.specs.Tables.{WellFormed};
 
+use blocks::Blocked;
 use jobs::Job;
 use rows::Rows;
 
@@ -20,5 +21,15 @@ impl Instance<'_> {
         ensures { result.rows.now ≡ self.now.job.rows.now }
     {
         Rows::new(self.job.rows)
+    }
+
+    // The candidates of the job with the starts of their blocks.
+    pub fn blocked(&self) -> Blocked<'_>
+        ensures { (result.candidates.now ≡ self.now.job.candidates.now) × (result.starts.now ≡ self.now.starts.now) }
+    {
+        Blocked {
+            candidates: self.job.candidates,
+            starts: self.starts,
+        }
     }
 }

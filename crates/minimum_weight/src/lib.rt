@@ -28,7 +28,7 @@ pub fn least_total(instance: &Instance, work: &mut [u64]) -> Option<u64>
     let job = &instance.job;
     let last = (job.n - 1) as u8;
     let whole = choice::best_under(
-        instance,
+        &instance.blocked(),
         work,
         &instance.rows(),
         job.candidates.len(),

@@ -40,6 +40,7 @@ pub fn write_preorder(instance: &Instance, work: &[u64], triangles: &mut [u16])
     ensures { triangles.new ≡ filled (rest_of (best_key (problem_at instance.now))) triangles.old }
 {
     let Job { n, candidates, .. } = instance.job;
+    let blocked = instance.blocked();
     let rows = instance.rows();
     let last = (n - 1) as u8;
     let whole = Part::new(candidates.len(), 0, last);
@@ -54,7 +55,7 @@ pub fn write_preorder(instance: &Instance, work: &[u64], triangles: &mut [u16])
         let t = part.outer;
         let i = part.first;
         let j = part.last;
-        let pick = best_in_block(instance, work, &rows, t, i, j);
+        let pick = best_in_block(&blocked, work, &rows, t, i, j);
         let u = pick.at;
         let triangle = candidates[u];
         let b = triangle[1];

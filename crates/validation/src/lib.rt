@@ -6,14 +6,14 @@ mod names;
 mod selection;
 mod totals;
 
-ghost use Rattle.std.specs.Prelude.{◌≡◌, ◌≤◌, length};
+ghost use Rattle.std.specs.Prelude.{◌≡◌, ◌≤◌, true, length, eqb};
 ghost use Rattle.codes.specs.Refusals.{or_refused};
 ghost use Rattle.terms.specs.Limits.{max_vertices};
-ghost use Rattle.jobs.specs.Job.{job_in};
+ghost use Rattle.jobs.specs.Job.{job_in, unless};
 ghost use Rattle.triangulation.specs.Triangulations.{ValidProblem};
 ghost use Rattle.triangulation.specs.Problems.{problem_of};
 ghost use Rattle.rows.specs.Search.{RowsAscend};
-ghost use Rattle.validation.specs.Validation.{is_tiling, list_code};
+ghost use Rattle.validation.specs.Validation.{is_tiling, list_total, list_code};
 
 use codes::Refusal;
 use jobs::Job;
@@ -29,6 +29,30 @@ fn is_tiling(job: &Job, list: &[u16]) -> bool
         && edges::is_triangulation(job.n, &Selection::new(job.candidates, list))
 }
 
+// Whether a tiling has the stated total.
+fn has_total(job: &Job, list: &[u16], stated: u64) -> bool
+    requires { ValidProblem (problem_of (job_in job.now)) × (job.now.n ≤ max_vertices)
+        × (length job.now.candidates.now ≤ length job.now.weights.now) × RowsAscend job.now.rows.now
+        × (is_tiling (problem_of (job_in job.now)) list.now ≡ true) }
+    ensures { result ≡ eqb stated (list_total (problem_of (job_in job.now)) list.now) }
+{
+    let selection = Selection::new(job.candidates, list);
+    stated == totals::total(&selection, job.weights, &Rows::new(job.rows))
+}
+
+// The first number due of 21 and 22.
+fn check(tiling: bool, total: bool) -> Result<(), Refusal>
+    ensures { result ≡ or_refused (unless tiling 21 (unless total 22 0)) tt }
+{
+    if !tiling {
+        return Err(Refusal::NOT_A_TRIANGULATION);
+    }
+    if !total {
+        return Err(Refusal::WRONG_TOTAL);
+    }
+    Ok(())
+}
+
 // The first of 21 and 22 that is due on a list.
 #[tactic(auto, unfolding(crate::specs::Validation::list_code))]
 pub fn check_list(job: &Job, list: &[u16], stated: u64) -> Result<(), Refusal>
@@ -36,12 +60,6 @@ pub fn check_list(job: &Job, list: &[u16], stated: u64) -> Result<(), Refusal>
         × (length job.now.candidates.now ≤ length job.now.weights.now) × RowsAscend job.now.rows.now }
     ensures { result ≡ or_refused (list_code (problem_of (job_in job.now)) list.now stated) tt }
 {
-    if !is_tiling(job, list) {
-        return Err(Refusal::NOT_A_TRIANGULATION);
-    }
-    let selection = Selection::new(job.candidates, list);
-    if totals::total(&selection, job.weights, &Rows::new(job.rows)) != stated {
-        return Err(Refusal::WRONG_TOTAL);
-    }
-    Ok(())
+    let tiling = is_tiling(job, list);
+    check(tiling, tiling && has_total(job, list, stated))
 }

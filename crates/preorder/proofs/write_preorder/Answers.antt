@@ -87,7 +87,7 @@ module _ (c : goal.Joined-j-b-gt1) where
 
   abbrev first_of : chosen ≡ first_triangle (job c.args.instance.now.well_formed c.requires.all_ready.1) part
   first_of = first c.args.instance.now.well_formed c.requires.all_ready.1 c.loop-count.invariant c.loop-count-test.true c.args.work.now c.requires.all_ready.0
-      c.best_in_block-pick.result (rw c.rows-rows.ensures at c.best_in_block-pick.ensures)
+      c.best_in_block-pick.result (rw (c.blocked-blocked.ensures.0, c.rows-rows.ensures) at c.best_in_block-pick.ensures)
 
   -- the left part has a place above the right part
   left : 1 < middle - part.first → c.if-j-b-gt1.height < most_parts
@@ -116,7 +116,7 @@ pub best_in_block-pick-requires : goal.best_in_block-pick-requires
 best_in_block-pick-requires c =
     let ok = c.args.instance.now.well_formed in
     let w = whole ok c.requires.all_ready.1 c.loop-count.invariant c.loop-count-test.true in
-    (c.requires.places.0, omega (arith, w.order, w.within, ok.bounded.few))
+    (rw c.blocked-blocked.ensures.0 c.requires.places.0, omega (arith, w.order, w.within, ok.bounded.few))
 
 pub offset_bounds-candidates-u : goal.offset_bounds-candidates-u
 offset_bounds-candidates-u c =
@@ -125,13 +125,13 @@ offset_bounds-candidates-u c =
       arith,
       ok.few,
       (down ok c.requires.all_ready.1 c.loop-count.invariant c.loop-count-test.true c.args.work.now c.requires.all_ready.0
-          c.best_in_block-pick.result (rw c.rows-rows.ensures at c.best_in_block-pick.ensures)).valid,
+          c.best_in_block-pick.result (rw (c.blocked-blocked.ensures.0, c.rows-rows.ensures) at c.best_in_block-pick.ensures)).valid,
     )
 
 pub bounds-candidates-u : goal.bounds-candidates-u
 bounds-candidates-u c =
     (down c.args.instance.now.well_formed c.requires.all_ready.1 c.loop-count.invariant c.loop-count-test.true c.args.work.now c.requires.all_ready.0
-    c.best_in_block-pick.result (rw c.rows-rows.ensures at c.best_in_block-pick.ensures)).valid
+    c.best_in_block-pick.result (rw (c.blocked-blocked.ensures.0, c.rows-rows.ensures) at c.best_in_block-pick.ensures)).valid
 
 pub overflow_cast-triangles : goal.overflow_cast-triangles
 overflow_cast-triangles c =
@@ -140,19 +140,19 @@ overflow_cast-triangles c =
       arith,
       ok.few,
       (down ok c.requires.all_ready.1 c.loop-count.invariant c.loop-count-test.true c.args.work.now c.requires.all_ready.0
-          c.best_in_block-pick.result (rw c.rows-rows.ensures at c.best_in_block-pick.ensures)).valid,
+          c.best_in_block-pick.result (rw (c.blocked-blocked.ensures.0, c.rows-rows.ensures) at c.best_in_block-pick.ensures)).valid,
     )
 
 pub overflow_sub-j : goal.overflow_sub-j
 overflow_sub-j c =
     let d = down c.args.instance.now.well_formed c.requires.all_ready.1 c.loop-count.invariant c.loop-count-test.true c.args.work.now c.requires.all_ready.0
-    c.best_in_block-pick.result (rw c.rows-rows.ensures at c.best_in_block-pick.ensures) in
+    c.best_in_block-pick.result (rw (c.blocked-blocked.ensures.0, c.rows-rows.ensures) at c.best_in_block-pick.ensures) in
     omega (arith, d.left, d.right)
 
 pub overflow_sub-b : goal.overflow_sub-b
 overflow_sub-b c =
     let d = down c.args.instance.now.well_formed c.requires.all_ready.1 c.loop-count.invariant c.loop-count-test.true c.args.work.now c.requires.all_ready.0
-    c.best_in_block-pick.result (rw c.rows-rows.ensures at c.best_in_block-pick.ensures) in
+    c.best_in_block-pick.result (rw (c.blocked-blocked.ensures.0, c.rows-rows.ensures) at c.best_in_block-pick.ensures) in
     omega (arith, d.left, d.right)
 
 pub offset_bounds-stack-height-then-b-i-gt1 : goal.offset_bounds-stack-height-then-b-i-gt1

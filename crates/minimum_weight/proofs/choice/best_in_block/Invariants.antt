@@ -7,5 +7,5 @@ use Rattle.minimum_weight.proofs.choice.best_in_block.Given as goal
 
 abbrev pub invariant-loop-u : goal.invariant-loop-u
 invariant-loop-u l =
-    (get_or l.instance.starts.now l.i 0 ≤ l.u) × (l.u ≤ get_or l.instance.starts.now (l.i + 1) 0)
-    × (l.p ≡ pick_below (hung_on_edge l.instance.job.candidates.now l.i l.j) (λ k. get_or l.work k 0) (pair_weight l.rows.rows.now l.t) l.u)
+    (get_or l.blocked.starts.now l.i 0 ≤ l.u) × (l.u ≤ get_or l.blocked.starts.now (l.i + 1) 0)
+    × (l.p ≡ pick_below (hung_on_edge l.blocked.candidates.now l.i l.j) (λ k. get_or l.work k 0) (pair_weight l.rows.rows.now l.t) l.u)
