@@ -6,13 +6,16 @@ use Prim.Native.Nat.{ℕ, suc, ◌+◌, ◌-◌, ◌*◌, ◌≤◌}
 use native.Mathlib.Omega.{arith}
 use lib.ListN.{length, replicate, length-append, length-replicate}
 use lib.Seq.{sets}
+use lib.Dec.{eqb}
 use Rattle.lists.specs.Lists.{over}
 use Rattle.lists.proofs.Choice.{yes, no}
 use Rattle.rim_file.specs.declared.Layout.{Layout}
-use Rattle.rim_file.specs.File.{is_edition2, marker_size, header_size, record_size1, record_size2, header_start, record_count}
+use Rattle.rim_file.specs.File.{is_edition2, marker_size, header_size, record_size1, record_size2, layout1, layout2, layout_of, header_start, record_count}
+use Rattle.rim_file.proofs.Layouts.{edition1, edition2, layout_is}
 use Rattle.rim_file.proofs.Lengths.{Whole}
-use Rattle.conversion.specs.Converted.{bytes_at, header_bytes, record_bytes, laid_out, marker_byte, converted, other_edition}
-use Rattle.conversion.specs.Steps.{target_of, ending_in, in_layout}
+use Rattle.conversion.specs.Converted.{bytes_at, header_bytes, record_bytes, laid_out, marker_byte, converted, other_edition, target_edition}
+use Rattle.conversion.specs.Steps.{other, target_of, ending_in, in_layout}
+use Rattle.conversion.specs.declared.Target.{Target}
 use Rattle.rim_file.specs.File.{edition_of, edition_number, layout_in}
 use Rattle.rim_file.specs.declared.edition.Edition.{Edition}
 use Rattle.rim_file.specs.declared.edition.Edition.TheVariants.{One, Two}
@@ -29,20 +32,68 @@ pub edition_bounds : (e : Edition) → Bounds (layout_in e)
 edition_bounds One = record { header = omega arith; least = omega arith; most = omega arith }
 edition_bounds Two = record { header = omega arith; least = omega arith; most = omega arith }
 
+-- of an edition's layout the target is the other edition with its own layout
+pub target_of_edition : (e : Edition) → target_of (layout_in e) ≡ record { edition = other e; layout = layout_in (other e) }
+target_of_edition One = refl
+target_of_edition Two = refl
+
+pub target_bounds : (l : Layout) → Bounds (target_of l).layout
+target_bounds l = by (eqb l.record_size record_size1)
+  where
+    by : (b : Bool) → Bounds (cond {A = Target} b (record { edition = Two; layout = layout2 }) (record { edition = One; layout = layout1 })).layout
+    by true = record { header = omega arith; least = omega arith; most = omega arith }
+    by false = record { header = omega arith; least = omega arith; most = omega arith }
+
+-- the number of the edition that a file is carried to
+pub target_number : (s : List ℕ) → edition_number (target_edition s) ≡ other_edition s
+target_number s = by (is_edition2 s)
+  where
+    by : (b : Bool) → edition_number (cond b One Two) ≡ cond b 1 2
+    by true = refl
+    by false = refl
+
 -- ---- the file in them
 module _ (s : List ℕ) where
-  -- the edition that is not the file's own, with the converted file in it
-  pub record Carried (t : Edition) : Type 0 where
-    pub edition : edition_number t ≡ other_edition s
-    pub bytes : in_layout (layout_in t) s ≡ converted s
+  -- the target of the file's own layout, with the converted file in it
+  pub record Carried (t : Target) : Type 0 where
+    pub edition : t.edition ≡ target_edition s
+    pub number : edition_number t.edition ≡ other_edition s
+    pub bounds : Bounds t.layout
+    pub bytes : in_layout t.layout s ≡ converted s
 
-  by_edition : (b : Bool) → is_edition2 s ≡ b → Carried (target_of (cond b Two One))
+  pub carried : {t : Target} → t ≡ target_of (layout_of s) → Carried t
   unfolding converted
-  by_edition true d = record { edition = sym (yes 1 2 d); bytes = sym (yes _ _ d) }
-  by_edition false d = record { edition = sym (no 1 2 d); bytes = sym (no _ _ d) }
+  carried {t} e = by (is_edition2 s) refl
+    where
+      bounded : Bounds t.layout
+      bounded = subst (λ (u : Target). Bounds u.layout) (sym e) (target_bounds (layout_of s))
 
-  pub carried : {t : Edition} → t ≡ target_of (edition_of s) → Carried t
-  carried e = subst Carried (sym e) (by_edition (is_edition2 s) refl)
+      by : (b : Bool) → is_edition2 s ≡ b → Carried t
+      by true d =
+          let is : t ≡ record { edition = One; layout = layout1 } = e ∙ ap target_of (edition2 s d) in
+          let named = ap (λ (x : Target). x.edition) is ∙ sym (yes One Two d) in
+          record {
+            edition = named;
+            number = ap edition_number named ∙ target_number s;
+            bounds = bounded;
+            bytes = ap (λ (x : Target). in_layout x.layout s) is ∙ sym (yes _ _ d);
+          }
+      by false d =
+          let is : t ≡ record { edition = Two; layout = layout2 } = e ∙ ap target_of (edition1 s d) in
+          let named = ap (λ (x : Target). x.edition) is ∙ sym (no One Two d) in
+          record {
+            edition = named;
+            number = ap edition_number named ∙ target_number s;
+            bounds = bounded;
+            bytes = ap (λ (x : Target). in_layout x.layout s) is ∙ sym (no _ _ d);
+          }
+
+  -- and that of the file's edition
+  pub carried_by_name : {e : Edition} → e ≡ other (edition_of s) → Carried (record { edition = e; layout = layout_in e })
+  carried_by_name h =
+      carried (ap (λ (x : Edition). record { edition = x; layout = layout_in x }) h
+      ∙ sym (target_of_edition (edition_of s))
+      ∙ ap target_of (layout_is s refl))
 
   module _ (w : Whole s) where
     -- its length, with any opening and ending, and in a layout

@@ -4,6 +4,8 @@ use Rattle.lists.specs.Lists.{over, some}
 use Rattle.polygon.specs.Normal.{is_none}
 use Rattle.rim_file.specs.File.{is_edition2, header_size, record_size1, header_start, record_count, offset}
 use Rattle.rim_file.specs.Record.{normal_in}
+use Rattle.rim_file.specs.declared.edition.Edition.{Edition}
+use Rattle.rim_file.specs.declared.edition.Edition.TheVariants.{One, Two}
 
 -- k bytes of a file, from place i on
 abbrev pub bytes_at : List ℕ → ℕ → ℕ → List ℕ
@@ -34,9 +36,12 @@ zero_normal = replicate 6 0
 unfoldable pub converted : List ℕ → List ℕ
 converted s = cond (is_edition2 s) (laid_out [] [] s) (laid_out marker_bytes zero_normal s)
 
--- the edition that it has then
+-- the edition that it has then, by its number and by its name
 abbrev pub other_edition : List ℕ → ℕ
 other_edition s = cond (is_edition2 s) 1 2
+
+abbrev pub target_edition : List ℕ → Edition
+target_edition s = cond (is_edition2 s) One Two
 
 -- a record, whether the chain reaches it or not, has a normal other than three zeros (rule 4.19); in edition 1 none has (rule 1.13)
 unfoldable pub normal_lost : List ℕ → Bool

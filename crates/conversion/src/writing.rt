@@ -2,11 +2,12 @@
 ghost use Rattle.std.specs.Prelude.{◌≡◌, ◌++◌, suc, ◌+◌, ◌≤◌, length, replicate};
 ghost use Rattle.std.proofs.lemmas.List.Edits.{sets};
 ghost use Rattle.lists.specs.Lists.{over};
-ghost use Rattle.rim_file.specs.File.{header_size, record_count, layout_in};
+ghost use Rattle.rim_file.specs.File.{header_size, record_count};
 ghost use Rattle.conversion.specs.Converted.{bytes_at, record_bytes};
 ghost use Rattle.conversion.specs.Steps.{ending_in, in_layout, Room};
 
-use rim_file::edition::{Edition, HEADER_SIZE, RECORD_SIZE_1};
+use rim_file::Layout;
+use rim_file::edition::{self, HEADER_SIZE, RECORD_SIZE_1};
 use rim_file::file::RimFile;
 
 // Both bytes of the marker.
@@ -27,30 +28,35 @@ fn fill(out: &mut [u8], to: usize, count: usize, byte: u8)
 }
 
 // All records, each at its place, with zeros for its normal where the layout has one.
-fn write_records(file: &RimFile<'_>, target: Edition, out: &mut [u8])
-    requires { Room file.now.bytes.now (layout_in target) out.old }
+fn write_records(file: &RimFile<'_>, target: Layout, out: &mut [u8])
+    requires { Room file.now.bytes.now target out.old }
     ensures { out.new
-        ≡ sets out.old ((layout_in target).header + header_size) (over 1 (suc (record_count file.now.bytes.now)) (λ k. record_bytes
-        file.now.bytes.now k ++ ending_in (layout_in target))) }
+        ≡ sets out.old (target.header + header_size) (over 1 (suc (record_count file.now.bytes.now)) (λ k. record_bytes
+        file.now.bytes.now k ++ ending_in target)) }
 {
     // Records go by number, as in the file: they have other sizes and places there than here.
     let count = file.record_count();
     for k in 1..=count {
         let from = file.record_start(k);
-        let to = target.record_start(k);
+        let to = edition::record_start(target, k);
         copy(file.bytes, from, RECORD_SIZE_1, out, to);
         let end = to + RECORD_SIZE_1;
-        fill(out, end, target.layout().record_size - RECORD_SIZE_1, 0);
+        fill(out, end, target.record_size - RECORD_SIZE_1, 0);
     }
 }
 
 // The whole file: the marker where the layout has one, the header, the records.
-pub fn write_file(file: &RimFile<'_>, target: Edition, out: &mut [u8])
-    requires { Room file.now.bytes.now (layout_in target) out.old }
-    ensures { out.new ≡ sets out.old 0 (in_layout (layout_in target) file.now.bytes.now) }
+pub fn write_file(file: &RimFile<'_>, target: Layout, out: &mut [u8])
+    requires { Room file.now.bytes.now target out.old }
+    ensures { out.new ≡ sets out.old 0 (in_layout target file.now.bytes.now) }
 {
-    let header = target.layout().header;
-    fill(out, 0, header, MARKER_BYTE);
-    copy(file.bytes, file.layout().header, HEADER_SIZE, out, header);
+    fill(out, 0, target.header, MARKER_BYTE);
+    copy(
+        file.bytes,
+        file.layout().header,
+        HEADER_SIZE,
+        out,
+        target.header,
+    );
     write_records(file, target, out);
 }

@@ -17,10 +17,8 @@ use Rattle.reader.specs.Reading.{polygon_of, reading_of}
 use Rattle.polygon.specs.declared.Polygon.{Polygon}
 use Rattle.reader.specs.Reading as reader
 use Rattle.reader.proofs.FirstNumber.{no_number_read}
-use Rattle.rim_file.specs.File.{edition_of}
 use Rattle.rim_file.specs.declared.edition.Edition.{Edition}
-use Rattle.conversion.specs.Converted.{converted}
-use Rattle.conversion.specs.Steps.{target_of}
+use Rattle.conversion.specs.Converted.{converted, target_edition}
 use Rattle.converter.specs.Call.{conversion_code, conversion_number, converting, convert_by, convert_call}
 
 -- 13 is not due where no number is
@@ -42,7 +40,7 @@ module _ (file out : List ℕ) where
       by zero p = absurd (omega arith)
       by (suc k) p = ap (λ (x : Refusal). converting (Err x) out) p.1
 
-  pub taken_by : {edition : Edition} {size n : ℕ} {left : List ℕ} → n ≡ 0 → edition ≡ target_of (edition_of file) →
+  pub taken_by : {edition : Edition} {size n : ℕ} {left : List ℕ} → n ≡ 0 → edition ≡ target_edition file →
       size ≡ length (converted file) → left ≡ filled (converted file) out →
       converting (Ok (record { edition = edition; length = size })) left ≡ convert_by n file out
   taken_by z a b c =

@@ -7,9 +7,7 @@ use Rattle.terms.specs.Limits.{max_vertices}
 use Rattle.terms.specs.Numbers.{first_due}
 use Rattle.reader.specs.Reading as reader
 use Rattle.rim_file.specs.File.{edition_number}
-use Rattle.rim_file.specs.File as rim
-use Rattle.conversion.specs.Steps.{target_of}
-use Rattle.conversion.specs.Converted.{converted, other_edition, normal_lost}
+use Rattle.conversion.specs.Converted.{converted, other_edition, target_edition, normal_lost}
 use Rattle.converter.specs.declared.Converted.{Converted}
 
 -- what the converter answers (rules 4.30, 5.7): what a file was converted to, or a refusal
@@ -63,7 +61,7 @@ converting r left = record { answer = r; left = left }
 
 -- what a file is converted to (rules 1.15, 5.2): the edition that is not its own, and its length there
 abbrev pub converted_to : List ℕ → Converted
-converted_to file = record { edition = target_of (rim.edition_of file); length = length (converted file) }
+converted_to file = record { edition = target_edition file; length = length (converted file) }
 
 -- the converted file in the first places, every further place as it was (rule 3.9); a number changes no place (rule 4.30)
 abbrev pub convert_by : ℕ → List ℕ → List ℕ → Converting

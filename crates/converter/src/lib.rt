@@ -9,7 +9,7 @@ ghost use Rattle.converter.specs.Call.{converting, convert_by, convert_call, par
 
 use codes::Refusal;
 use conversion::{normals, writing};
-use rim_file::edition::Edition;
+use rim_file::edition::{self, Edition};
 use rim_file::file::RimFile;
 
 // What a file was converted to.
@@ -39,12 +39,15 @@ fn carry(file: &RimFile<'_>, out: &mut [u8]) -> Result<Converted, Refusal>
     ensures { converting result out.new
         ≡ convert_by (conversion_number file.now.bytes.now out.old) file.now.bytes.now out.old }
 {
-    let edition = conversion::target_of(file.edition);
-    let length = edition.record_start(file.record_count() + 1);
+    let target = conversion::target_of(file.layout());
+    let length = edition::record_start(target.layout, file.record_count() + 1);
     let lost = normals::has_normal(file);
     check(out.len() < length, lost)?;
-    writing::write_file(file, edition, out);
-    Ok(Converted { edition, length })
+    writing::write_file(file, target.layout, out);
+    Ok(Converted {
+        edition: target.edition,
+        length,
+    })
 }
 
 // The file in the other edition, in the first places of the output table. Numbers 1 to 11 and 18, then 13, then 19.

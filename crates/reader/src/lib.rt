@@ -6,7 +6,7 @@ mod walk;
 ghost use Rattle.std.specs.Prelude.{◌≡◌, true};
 ghost use Rattle.codes.specs.Refusals.{number_of};
 ghost use Rattle.terms.specs.Limits.{count_fits};
-ghost use Rattle.reader.specs.Reading.{reading_of, number_due};
+ghost use Rattle.reader.specs.Reading.{reading_of, number_due, polygon_in};
 
 use codes::Refusal;
 use grid::GridPoint;
@@ -81,4 +81,11 @@ pub fn read_polygon(limit: usize, file: &[u8]) -> Result<Polygon, Refusal>
         return Err(Refusal::VERTEX_COUNT);
     }
     read_within(limit, &RimFile::new(file))
+}
+
+// The polygon of an answer: with a refusal the empty one, without vertices (rule 5.2).
+pub fn polygon_in(answer: Result<Polygon, Refusal>) -> Polygon
+    ensures { result ≡ polygon_in answer }
+{
+    answer.unwrap_or(Polygon::empty())
 }

@@ -80,7 +80,7 @@ pub(crate) fn compare(
         Ok(_) => print!(rt; " ok")?,
         Err(refusal) => print!(rt; " {}", refusal.number)?,
     }
-    let polygon = came.unwrap_or(Polygon::empty());
+    let polygon = reader::polygon_in(came);
     if codes::number_of(&came) != number || !same_polygon(polygon, n, numbers) {
         print!(rt; " is wrong")?;
     }

@@ -1,6 +1,6 @@
 // The editions of the rim file: which one a file is of, and where each has its numbers.
 ghost use Rattle.std.specs.Prelude.{◌≡◌, ◌+◌, ◌-◌, ◌*◌, ◌^◌, ◌≤◌, ◌<◌};
-ghost use Rattle.rim_file.specs.File.{is_edition2, header_size, edition_of, edition_number, layout_in};
+ghost use Rattle.rim_file.specs.File.{is_edition2, marker_size, header_size, record_size2, edition_of, edition_number, layout_in};
 
 use crate::{Layout, bytes};
 
@@ -67,7 +67,14 @@ impl Edition {
         requires { (0 < k) × (k ≤ 2 ^ 16) }
         ensures { result ≡ (layout_in self).header + header_size + (layout_in self).record_size * (k - 1) }
     {
-        let layout = self.layout();
-        layout.header + HEADER_SIZE + layout.record_size * (k - 1)
+        record_start(self.layout(), k)
     }
+}
+
+// Where record k starts in a layout. With one more than the last record it is where the file ends.
+pub fn record_start(layout: Layout, k: usize) -> usize
+    requires { (layout.header ≤ marker_size) × (layout.record_size ≤ record_size2) × (0 < k) × (k ≤ 2 ^ 16) }
+    ensures { result ≡ layout.header + header_size + layout.record_size * (k - 1) }
+{
+    layout.header + HEADER_SIZE + layout.record_size * (k - 1)
 }

@@ -17,16 +17,19 @@ pub bounds-met-link : goal.bounds-met-link
 bounds-met-link c = omega (arith, (whole _ c.requires.0).few, c.record_count.ensures.0, c.if-record_count-link.false)
 
 pub vertex_at-requires : goal.vertex_at-requires
-vertex_at-requires c = ((held _ c.requires.0 c.requires.2 c.record_count.ensures.0 c.if-record_count-link.false c.record_start-at.ensures).start, c.requires.1.on_grid)
+vertex_at-requires c = (
+  (held _ c.requires.0 c.requires.2 c.record_count.ensures.0 (omega (arith, c.if-record_count-link.false)) c.record_start-at.ensures).start,
+  c.requires.1.on_grid,
+)
 
 pub normal_at-requires : goal.normal_at-requires
-normal_at-requires c = (held _ c.requires.0 c.requires.2 c.record_count.ensures.0 c.if-record_count-link.false c.record_start-at.ensures).whole
+normal_at-requires c = (held _ c.requires.0 c.requires.2 c.record_count.ensures.0 (omega (arith, c.if-record_count-link.false)) c.record_start-at.ensures).whole
 
 pub bounds-met-link-2 : goal.bounds-met-link-2
 bounds-met-link-2 c = omega (arith, (whole _ c.requires.0).few, c.record_count.ensures.0, c.if-record_count-link.false)
 
 pub next_record-requires : goal.next_record-requires
-next_record-requires c = (held _ c.requires.0 c.requires.2 c.record_count.ensures.0 c.if-record_count-link.false c.record_start-at.ensures).start
+next_record-requires c = (held _ c.requires.0 c.requires.2 c.record_count.ensures.0 (omega (arith, c.if-record_count-link.false)) c.record_start-at.ensures).start
 
 pub returns-then-record_count-link : goal.returns-then-record_count-link
 returns-then-record_count-link c =
