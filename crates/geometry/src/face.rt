@@ -52,7 +52,7 @@ pub fn bend(d: i64, m: u32, k: u32) -> u32
 {
     let n = DIVIDEND_SCALE * d;
     let w = i64::from(m) * i64::from(k);
-    let q = integers::floor_div(n, w).clamp(LEAST_RATIO, RATIO_SCALE);
+    let q = integers::clamp(integers::floor_div(n, w), LEAST_RATIO, RATIO_SCALE);
     (RATIO_SCALE - q) as u32
 }
 

@@ -1,9 +1,9 @@
-// Roots and quotients cut to whole numbers (rules 2.7 and 2.10).
+// Roots and quotients cut to whole numbers, and the clamp to a range (rules 2.7 and 2.10).
 #![tactic(auto)]
 
 ghost use Rattle.std.specs.Prelude.{◌≡◌, ◌<◌, ◌^◌, pos, nat_abs, ◌<ℤ◌};
 ghost use Rattle.integers.specs.Bounds.{AtMost, max_dividend};
-ghost use Rattle.integers.specs.Rounding.{floor_root, floor_div};
+ghost use Rattle.integers.specs.Rounding.{floor_root, floor_div, clamped};
 
 // The square root, cut down to a whole number, by Newton's iteration: (r + x / r) / 2 is at least the root, and it is below r where
 // r is above the root. The first step is from 2 ^ k, which is above the root, and divides by a shift. Below 2 ^ 52 every sum and square fits.
@@ -26,4 +26,17 @@ pub fn floor_div(n: i64, k: i64) -> i64
 {
     let q = n / k;
     if n % k < 0 { q - 1 } else { q }
+}
+
+// x, or the nearer end of low to high where x is outside.
+pub fn clamp(x: i64, low: i64, high: i64) -> i64
+    ensures { result ≡ clamped low high x }
+{
+    if x < low {
+        return low;
+    }
+    if high < x {
+        return high;
+    }
+    x
 }

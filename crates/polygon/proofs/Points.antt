@@ -7,12 +7,14 @@ use native.Mathlib.Omega.{arith}
 use lib.IntN.{ℤ}
 use lib.ListN.{length, get_or, take}
 use Rattle.std.specs.List.{list_any}
+use Rattle.std.proofs.lemmas.List.{length-take, get_or-take}
 use Rattle.std.specs.Ordering.{int_eq}
 use Rattle.std.specs.Cmp.{signed_Decides}
 use Rattle.grid.specs.declared.GridPoint.{GridPoint}
 use Rattle.grid.specs.contracts.GridPointPartialEq.TheImpl.{ghosts}
 use Rattle.lists.specs.Lists.{both, either, some, some_from}
 use Rattle.lists.proofs.Choice.{both_left, both_right, both_true}
+use Rattle.lists.proofs.Ranges.{some_on, some_stop}
 use Rattle.integers.specs.Order.{equal}
 use Rattle.integers.proofs.Order.{equal_yes, equal_is, true≢false}
 use Rattle.polygon.specs.Polygon.{origin, vertex_at, same_point}
@@ -74,3 +76,28 @@ contained vertices q j h =
     some_of_first (λ i. same_point (vertex_at vertices i) q) (λ (p : GridPoint). ghosts.eq p q) vertices 0 j h
     (λ i m. point_test (vertex_at vertices i) q ∙ ap (λ (n : ℕ). same_point (vertex_at vertices n) q) (omega arith))
     ∙ sym (ap (some_from (λ i. same_point (vertex_at vertices i) q) 0) all)
+
+-- ---- vertex j among the first n: what its test says of all that is left
+again_test : (vertices : List GridPoint) (n j : ℕ) → j < length (take n vertices) →
+    list_any (λ (p : GridPoint). ghosts.eq p (get_or (take n vertices) j origin)) (take j vertices)
+    ≡ some 0 j (λ i. same_point (vertex_at vertices i) (vertex_at vertices j))
+again_test vertices n j h =
+    let within : j ≤ length vertices = omega (arith, h, length-take n vertices) in
+    let below : j < n = omega (arith, h, length-take n vertices) in
+    contained vertices (get_or (take n vertices) j origin) j within
+    ∙ ap (λ (q : GridPoint). some 0 j (λ i. same_point (vertex_at vertices i) q)) (get_or-take n vertices j origin below)
+
+pub repeated_here : (vertices : List GridPoint) (n j : ℕ) → j < length (take n vertices) →
+    list_any (λ (p : GridPoint). ghosts.eq p (get_or (take n vertices) j origin)) (take j vertices) ≡ true →
+    some j n (λ j. some 0 j (λ i. same_point (vertex_at vertices i) (vertex_at vertices j))) ≡ true
+repeated_here vertices n j h t =
+    let below : j < n = omega (arith, h, length-take n vertices) in
+    some_stop j n (λ j. some 0 j (λ i. same_point (vertex_at vertices i) (vertex_at vertices j))) below (sym (again_test vertices n j h) ∙ t)
+
+pub repeated_later : (vertices : List GridPoint) (n j : ℕ) → j < length (take n vertices) →
+    list_any (λ (p : GridPoint). ghosts.eq p (get_or (take n vertices) j origin)) (take j vertices) ≡ false →
+    some j n (λ j. some 0 j (λ i. same_point (vertex_at vertices i) (vertex_at vertices j)))
+    ≡ some (j + 1) n (λ j. some 0 j (λ i. same_point (vertex_at vertices i) (vertex_at vertices j)))
+repeated_later vertices n j h t =
+    let below : j < n = omega (arith, h, length-take n vertices) in
+    some_on j n (λ j. some 0 j (λ i. same_point (vertex_at vertices i) (vertex_at vertices j))) below (sym (again_test vertices n j h) ∙ t)

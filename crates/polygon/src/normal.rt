@@ -20,6 +20,7 @@ impl Normal {
     }
 
     // Are all three numbers 0?
+    #[tactic(auto, using(crate::proofs::Normals::none_test))]
     pub fn is_none(self) -> bool
         ensures { result ≡ is_none self }
     {

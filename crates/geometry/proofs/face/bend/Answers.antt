@@ -1,16 +1,17 @@
 -- `geometry::face::bend` meets its contract.
 use mathlib.Core.Path.{◌≡◌, sym, ◌∙◌, ap, subst}
 use Prim.Native.Nat.{ℕ, ◌*◌, ◌≤◌}
-use lib.Dec.{lt→ltb}
+use native.Mathlib.Nat.{lt_of_le_of_lt}
+use lib.Dec.{T, lit<, lt→ltb}
 use lib.IntN.{ℤ, pos, negsuc, nat_abs, ◌-ℤ◌, ◌*ℤ◌}
-use lib.Signed.{◌<ℤ◌}
+use lib.Signed.{non_neg, ◌<ℤ◌}
 use mir.Syntax.{w64}
 use mir.ValLaws.{to_z-of_z}
 use Rattle.integers.specs.Bounds.{AtMost}
 use Rattle.integers.specs.Rounding.{floor_div, clamped}
 use Rattle.geometry.specs.Bounds.{max_dot, max_length, max_bend}
 use Rattle.geometry.specs.Faces.{dividend_scale, ratio_of, bend_of}
-use Rattle.integers.proofs.Rounding.{product_above_0, clamped_is}
+use Rattle.integers.proofs.Rounding.{product_above_0}
 use Rattle.integers.proofs.Bounds.{Holds, bits, literal, given, returned, stored, fits, at_most_held, at_most_le, ◌*!◌}
 use Rattle.geometry.proofs.Bends.{bend_is, bend_bound}
 use Rattle.geometry.proofs.face.bend.Goals.{After-clamp-q}
@@ -30,8 +31,7 @@ ratio! : (c : goal.After-clamp-q) → c.clamp-q.result ≡ ratio_of c.args.d c.a
 unfolding ratio_of
 ratio! c =
     let q = c.floor_div in
-    c.clamp-q.ensures.value
-    ∙ clamped_is (bits q.result)
+    c.clamp-q.ensures
     ∙ ap (clamped (negsuc 999) (pos 1000)) (to_z-of_z w64 q.result (record { sfits = q.type_inv }) ∙ q.ensures
     ∙ (λ i. floor_div ((stored tt (dividend c.requires.0 dividend_scale)).value i) (nat_abs ((stored tt (divisor c.from.ensures c.from-2.ensures c.requires.2 c.requires.4)).value i))))
 
@@ -56,6 +56,11 @@ floor_div-requires c = (
   subst (λ (z : ℤ). pos 0 <ℤ z) (sym (stored tt (divisor c.from.ensures c.from-2.ensures c.requires.2 c.requires.4)).value)
       (record { lt = lt→ltb 0 _ (product_above_0 c.args.m c.args.k c.requires.1 c.requires.3) }),
 )
+
+pub overflow_cast-result : goal.overflow_cast-result
+overflow_cast-result c =
+    let h = stored tt (bend! (goal.at.overflow_cast-result c).After-clamp-q) in
+    (subst (λ (z : ℤ). T (non_neg z)) (sym h.value) tt, record { fits = lt_of_le_of_lt (at_most_held h).size (lit< tt) })
 
 pub returns : goal.returns
 returns c = ap nat_abs (stored tt (bend! (goal.at.returns c).After-clamp-q)).value
