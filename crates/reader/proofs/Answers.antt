@@ -143,7 +143,7 @@ module _ (limit : ℕ) (s : List ℕ) where
         unfolding file_code rest
         chain_then = file_then ∙ no 1 _ right ∙ no 2 _ (le-ltb 16 (area_factor_of s) area)
 
-        chain_due : (k : ℕ) → 0 < k → chain_code limit s ≡ k → number_due limit s ≡ k
+        pub chain_due : (k : ℕ) → 0 < k → chain_code limit s ≡ k → number_due limit s ≡ k
         chain_due zero h e = absurd (omega arith)
         chain_due (suc k) h e = chain_then ∙ ap (λ (j : ℕ). first_due j rest) e
 
