@@ -16,7 +16,7 @@ pub struct Refusal {
 }
 
 impl Refusal {
-    // The one place where a refusal is made.
+    // The refusal with this number, for a caller that keeps numbers. The refusals here are the values below, by name.
     pub fn new(number: u32) -> Refusal
         ensures { result ≡ refusal number }
     {

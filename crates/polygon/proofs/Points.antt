@@ -14,7 +14,6 @@ use Rattle.grid.specs.declared.GridPoint.{GridPoint}
 use Rattle.grid.specs.contracts.GridPointPartialEq.TheImpl.{ghosts}
 use Rattle.lists.specs.Lists.{both, either, some, some_from}
 use Rattle.lists.proofs.Choice.{both_left, both_right, both_true}
-use Rattle.lists.proofs.Ranges.{some_on, some_stop}
 use Rattle.integers.specs.Order.{equal}
 use Rattle.integers.proofs.Order.{equal_yes, equal_is, true≢false}
 use Rattle.polygon.specs.Polygon.{origin, vertex_at, same_point}
@@ -77,8 +76,8 @@ contained vertices q j h =
     (λ i m. point_test (vertex_at vertices i) q ∙ ap (λ (n : ℕ). same_point (vertex_at vertices n) q) (omega arith))
     ∙ sym (ap (some_from (λ i. same_point (vertex_at vertices i) q) 0) all)
 
--- ---- vertex j among the first n: what its test says of all that is left
-again_test : (vertices : List GridPoint) (n j : ℕ) → j < length (take n vertices) →
+-- ---- vertex j of the first n, among those before it
+pub again_test : (vertices : List GridPoint) (n j : ℕ) → j < length (take n vertices) →
     list_any (λ (p : GridPoint). ghosts.eq p (get_or (take n vertices) j origin)) (take j vertices)
     ≡ some 0 j (λ i. same_point (vertex_at vertices i) (vertex_at vertices j))
 again_test vertices n j h =
@@ -86,18 +85,3 @@ again_test vertices n j h =
     let below : j < n = omega (arith, h, length-take n vertices) in
     contained vertices (get_or (take n vertices) j origin) j within
     ∙ ap (λ (q : GridPoint). some 0 j (λ i. same_point (vertex_at vertices i) q)) (get_or-take n vertices j origin below)
-
-pub repeated_here : (vertices : List GridPoint) (n j : ℕ) → j < length (take n vertices) →
-    list_any (λ (p : GridPoint). ghosts.eq p (get_or (take n vertices) j origin)) (take j vertices) ≡ true →
-    some j n (λ j. some 0 j (λ i. same_point (vertex_at vertices i) (vertex_at vertices j))) ≡ true
-repeated_here vertices n j h t =
-    let below : j < n = omega (arith, h, length-take n vertices) in
-    some_stop j n (λ j. some 0 j (λ i. same_point (vertex_at vertices i) (vertex_at vertices j))) below (sym (again_test vertices n j h) ∙ t)
-
-pub repeated_later : (vertices : List GridPoint) (n j : ℕ) → j < length (take n vertices) →
-    list_any (λ (p : GridPoint). ghosts.eq p (get_or (take n vertices) j origin)) (take j vertices) ≡ false →
-    some j n (λ j. some 0 j (λ i. same_point (vertex_at vertices i) (vertex_at vertices j)))
-    ≡ some (j + 1) n (λ j. some 0 j (λ i. same_point (vertex_at vertices i) (vertex_at vertices j)))
-repeated_later vertices n j h t =
-    let below : j < n = omega (arith, h, length-take n vertices) in
-    some_on j n (λ j. some 0 j (λ i. same_point (vertex_at vertices i) (vertex_at vertices j))) below (sym (again_test vertices n j h) ∙ t)

@@ -40,13 +40,12 @@ impl Polygon {
 }
 
 // Do two of the first n vertices share a grid point? (The table and n, not a slice: the polygon's definition is of them.)
-#[tactic(auto, using(crate::proofs::Points::repeated_here, crate::proofs::Points::repeated_later))]
 pub fn has_repeated_vertex(vertices: [GridPoint; terms::MAX_VERTICES], n: usize) -> bool
     requires { n ≤ max_vertices }
     ensures { result ≡ repeated_vertex vertices n }
 {
     for (j, vertex) in vertices[..n].iter().enumerate() {
-        if vertices[..j].contains(vertex) {
+        if vertices[..j].iter().any(|p| p == vertex) {
             return true;
         }
     }
