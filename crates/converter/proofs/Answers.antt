@@ -65,3 +65,7 @@ read_zero limit file e = (none_answered (reader.number_due limit file) e).0
 
 pub right_length : (limit : ℕ) (file : List ℕ) → reader.number_due limit file ≡ 0 → length_wrong file ≡ false
 right_length limit file e = (no_number_read limit file e).right
+
+-- the same with the converter's limit: the conclusion shows the one argument, so that `grind` finds it
+pub right_read : (file : List ℕ) → reader.number_due max_vertices file ≡ 0 → length_wrong file ≡ false
+right_read = right_length max_vertices

@@ -51,6 +51,7 @@ fn carry(file: &RimFile<'_>, out: &mut [u8]) -> Result<Converted, Refusal>
 }
 
 // The file in the other edition, in the first places of the output table. Numbers 1 to 11 and 18, then 13, then 19.
+#[tactic(auto, using(crate::proofs::Answers::right_read), unfolding(crate::specs::Call::convert_call))]
 pub fn convert(file: &[u8], out: &mut [u8]) -> Result<Converted, Refusal>
     ensures tables { converting result out.new ≡ convert_call file.now out.old }
     ensures values { values_of result ≡ due_values (number_due file.now out.old) file.now }

@@ -77,6 +77,7 @@ pub fn patch_polygon(
 }
 
 // The patch of a rim file of at most so many vertices.
+#[tactic(auto, unfolding(crate::specs::Patching::patch_file, crate::specs::Patching::patch_polygon))]
 pub fn patch_file(
     limit: usize,
     file: &[u8],
@@ -98,6 +99,7 @@ pub fn patch_file(
 }
 
 // The candidates, weights and rows of a rim file of at most so many vertices: the reader, then the finder.
+#[tactic(auto, unfolding(crate::specs::Finding::find_file))]
 pub fn find_file(
     limit: usize,
     file: &[u8],
