@@ -48,15 +48,9 @@ fn better(
     p
 }
 
-// The best candidate (i, x, j) under t, the first of equal ones: all of them stand in the block of i.
-pub fn best_in_block(
-    blocked: &Blocked<'_>,
-    work: &[u64],
-    rows: &Rows<'_>,
-    t: usize,
-    i: u8,
-    j: u8,
-) -> Pick
+// The best candidate (i, x, j) under t, the first of equal ones, in one pass over the block of i.
+#[inline(always)]
+fn scan_block(blocked: &Blocked<'_>, work: &[u64], rows: &Rows<'_>, t: usize, i: u8, j: u8) -> Pick
     requires { (length blocked.now.candidates.now ≤ length work.now) × (i < max_vertices) }
     ensures { result ≡ pick_under blocked.now.candidates.now work.now rows.now.rows.now t i j }
 {
@@ -69,6 +63,26 @@ pub fn best_in_block(
         p = better(p, candidates, work, rows, t, j, u);
     }
     p
+}
+
+// The best candidate (i, x, j) under t, the first of equal ones: all of them stand in the block of i. Where there are no rows, as in the run of a
+// candidate on which nothing hangs, the pass is compiled by itself, without the search in its loop.
+pub fn best_in_block(
+    blocked: &Blocked<'_>,
+    work: &[u64],
+    rows: &Rows<'_>,
+    t: usize,
+    i: u8,
+    j: u8,
+) -> Pick
+    requires { (length blocked.now.candidates.now ≤ length work.now) × (i < max_vertices) }
+    ensures { result ≡ pick_under blocked.now.candidates.now work.now rows.now.rows.now t i j }
+{
+    if rows.rows.is_empty() {
+        let none = Rows::new(&rows.rows[..0]);
+        return scan_block(blocked, work, &none, t, i, j);
+    }
+    scan_block(blocked, work, rows, t, i, j)
 }
 
 // The best beneath the edge (i, j) of t: nothing beneath a rim edge (i, i + 1).

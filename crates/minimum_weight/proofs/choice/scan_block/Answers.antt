@@ -1,10 +1,10 @@
--- `minimum_weight::choice::best_in_block` meets its contract. Assumes nothing.
+-- `minimum_weight::choice::scan_block` meets its contract. Assumes nothing.
 use Rattle.blocks.proofs.Starts.{starts_up}
 use Rattle.minimum_weight.proofs.Picks.{block_start, block_next, block_end, pick_bounded}
 use Prim.Native.Nat.{◌+◌}
 use native.Mathlib.Omega.{arith}
 use Rattle.minimum_weight.specs.Tables.{pick_under}
-use Rattle.minimum_weight.proofs.choice.best_in_block.Goals as goal
+use Rattle.minimum_weight.proofs.choice.scan_block.Goals as goal
 
 pub loop-u-init : goal.loop-u-init
 loop-u-init c =

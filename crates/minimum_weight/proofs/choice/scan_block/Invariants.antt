@@ -3,7 +3,7 @@ use mathlib.Core.Path.{◌≡◌}
 use lib.ListN.{get_or}
 use Rattle.triangulation.specs.Problems.{pair_weight}
 use Rattle.minimum_weight.specs.Tables.{pick_below, hung_on_edge}
-use Rattle.minimum_weight.proofs.choice.best_in_block.Given as goal
+use Rattle.minimum_weight.proofs.choice.scan_block.Given as goal
 
 abbrev pub invariant-loop-u : goal.invariant-loop-u
 invariant-loop-u l =
