@@ -28,12 +28,14 @@ pub returns-then-whole-lt-NONE : goal.returns-then-whole-lt-NONE
 returns-then-whole-lt-NONE c =
     let ok = c.args.instance.now.well_formed in
     let f = c.fill.ensures in
-    let e = whole_cost c.args.instance.now.job.n _ _ _ ok _ (filled_ready _ _ c.requires f) c.best_under-whole.result (rw (c.blocked.ensures.0, c.rows.ensures) at c.best_under-whole.ensures) in
+    let e = whole_cost c.args.instance.now.job.n _ _ _ ok _ (filled_ready _ _ c.requires f) c.best_under-whole.result
+    (rw (c.blocked.ensures.0, c.rows.ensures) at c.best_under-whole.ensures) in
     record { total = some_key _ e c.if-whole-lt-NONE.true; work = f }
 
 pub returns-else-whole-lt-NONE : goal.returns-else-whole-lt-NONE
 returns-else-whole-lt-NONE c =
     let ok = c.args.instance.now.well_formed in
     let f = c.fill.ensures in
-    let e = whole_cost c.args.instance.now.job.n _ _ _ ok _ (filled_ready _ _ c.requires f) c.best_under-whole.result (rw (c.blocked.ensures.0, c.rows.ensures) at c.best_under-whole.ensures) in
+    let e = whole_cost c.args.instance.now.job.n _ _ _ ok _ (filled_ready _ _ c.requires f) c.best_under-whole.result
+    (rw (c.blocked.ensures.0, c.rows.ensures) at c.best_under-whole.ensures) in
     record { total = ap key_total (sym (no_key c.args.instance.now.job.n _ _ _ ok (omega (arith, e, c.if-whole-lt-NONE.false)))); work = f }

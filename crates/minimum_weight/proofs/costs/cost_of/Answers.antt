@@ -33,7 +33,8 @@ join_cost-requires c =
           (found_in_run s.args.instance.now.job.n _ _ _ ok s.args.work.now s.args.t _ _ s.requires.well_formed.2 s.requires.ready_beneath.0
           c.best_under-left.result (rw c.blocked-blocked.ensures.0 at c.best_under-left.ensures)),
       found_cost _ v ok.bounded s.args.t _ _ _ (v.bc s.args.t h) (v.cn s.args.t h) (found_in_run s.args.instance.now.job.n _ _ _ ok
-          s.args.work.now s.args.t _ _ s.requires.well_formed.2 s.requires.ready_beneath.1 c.best_under-right.result (rw c.blocked-blocked.ensures.0 at c.best_under-right.ensures)),
+          s.args.work.now s.args.t _ _ s.requires.well_formed.2 s.requires.ready_beneath.1 c.best_under-right.result
+          (rw c.blocked-blocked.ensures.0 at c.best_under-right.ensures)),
     )
 
 pub returns : goal.returns
